@@ -1,0 +1,7 @@
+pub mod Words
+pub mod Tests
+pub mod Agreement
+pub mod Stars
+pub mod Grammar
+pub mod Tables
+pub mod Automaton

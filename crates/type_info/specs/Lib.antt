@@ -1,0 +1,9 @@
+pub mod Ascii
+pub mod Kind
+pub mod Affinity
+pub mod Names
+pub mod DeclaredType
+pub mod Agreement
+pub mod Stars
+pub mod Utf8
+pub mod ByteClass
