@@ -20,12 +20,12 @@ fn print(answer: DeclaredType) {
         DeclaredType::Is(kind, affinity) => {
             io::write_all(STDOUT_FILENO, b"type=");
             let name = kind.name();
-            let bytes = name.bytes;
-            print_name(bytes, name.len);
+            let bytes = name.0;
+            print_name(bytes, name.1);
             io::write_all(STDOUT_FILENO, b"affinity=");
             let name = affinity.name();
-            let bytes = name.bytes;
-            print_name(bytes, name.len);
+            let bytes = name.0;
+            print_name(bytes, name.1);
         }
     }
 }

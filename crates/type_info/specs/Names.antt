@@ -32,4 +32,4 @@ affinityName affinity.Blob = ascii "BLOB"
 
 -- a name in eight bytes, zeros behind it
 abbrev pub spelled : List ℕ → Name
-spelled name = record { bytes = take 8 (name ++ replicate 8 0); len = length name }
+spelled name = record { 0 = take 8 (name ++ replicate 8 0); 1 = length name }

@@ -37,11 +37,8 @@ pub enum Affinity {
     Blob,
 }
 
-// A name of at most eight letters: the first `len` of `bytes`.
-pub struct Name {
-    pub bytes: [u8; 8],
-    pub len: usize,
-}
+// A name of at most eight letters in eight bytes, zeros behind it, and its length.
+pub struct Name(pub [u8; 8], pub usize);
 
 // What the declared-type call answers.
 pub enum DeclaredType {
@@ -55,50 +52,17 @@ impl DataType {
         ensures { λ r. ⌜ r ≡ spelled (nameOf self) ⌝ }
     {
         match self {
-            DataType::Null => Name {
-                bytes: [b'N', b'u', b'l', b'l', 0, 0, 0, 0],
-                len: 4,
-            },
-            DataType::Integer => Name {
-                bytes: [b'I', b'n', b't', b'e', b'g', b'e', b'r', 0],
-                len: 7,
-            },
-            DataType::Float => Name {
-                bytes: [b'F', b'l', b'o', b'a', b't', 0, 0, 0],
-                len: 5,
-            },
-            DataType::Text => Name {
-                bytes: [b'T', b'e', b'x', b't', 0, 0, 0, 0],
-                len: 4,
-            },
-            DataType::Blob => Name {
-                bytes: [b'B', b'l', b'o', b'b', 0, 0, 0, 0],
-                len: 4,
-            },
-            DataType::Numeric => Name {
-                bytes: [b'N', b'u', b'm', b'e', b'r', b'i', b'c', 0],
-                len: 7,
-            },
-            DataType::Bool => Name {
-                bytes: [b'B', b'o', b'o', b'l', 0, 0, 0, 0],
-                len: 4,
-            },
-            DataType::Int4 => Name {
-                bytes: [b'I', b'n', b't', b'4', 0, 0, 0, 0],
-                len: 4,
-            },
-            DataType::Date => Name {
-                bytes: [b'D', b'a', b't', b'e', 0, 0, 0, 0],
-                len: 4,
-            },
-            DataType::Time => Name {
-                bytes: [b'T', b'i', b'm', b'e', 0, 0, 0, 0],
-                len: 4,
-            },
-            DataType::Datetime => Name {
-                bytes: [b'D', b'a', b't', b'e', b't', b'i', b'm', b'e'],
-                len: 8,
-            },
+            DataType::Null => Name([b'N', b'u', b'l', b'l', 0, 0, 0, 0], 4),
+            DataType::Integer => Name([b'I', b'n', b't', b'e', b'g', b'e', b'r', 0], 7),
+            DataType::Float => Name([b'F', b'l', b'o', b'a', b't', 0, 0, 0], 5),
+            DataType::Text => Name([b'T', b'e', b'x', b't', 0, 0, 0, 0], 4),
+            DataType::Blob => Name([b'B', b'l', b'o', b'b', 0, 0, 0, 0], 4),
+            DataType::Numeric => Name([b'N', b'u', b'm', b'e', b'r', b'i', b'c', 0], 7),
+            DataType::Bool => Name([b'B', b'o', b'o', b'l', 0, 0, 0, 0], 4),
+            DataType::Int4 => Name([b'I', b'n', b't', b'4', 0, 0, 0, 0], 4),
+            DataType::Date => Name([b'D', b'a', b't', b'e', 0, 0, 0, 0], 4),
+            DataType::Time => Name([b'T', b'i', b'm', b'e', 0, 0, 0, 0], 4),
+            DataType::Datetime => Name([b'D', b'a', b't', b'e', b't', b'i', b'm', b'e'], 8),
         }
     }
 
@@ -141,26 +105,11 @@ impl Affinity {
         ensures { λ r. ⌜ r ≡ spelled (affinityName self) ⌝ }
     {
         match self {
-            Affinity::Text => Name {
-                bytes: [b'T', b'E', b'X', b'T', 0, 0, 0, 0],
-                len: 4,
-            },
-            Affinity::Numeric => Name {
-                bytes: [b'N', b'U', b'M', b'E', b'R', b'I', b'C', 0],
-                len: 7,
-            },
-            Affinity::Integer => Name {
-                bytes: [b'I', b'N', b'T', b'E', b'G', b'E', b'R', 0],
-                len: 7,
-            },
-            Affinity::Real => Name {
-                bytes: [b'R', b'E', b'A', b'L', 0, 0, 0, 0],
-                len: 4,
-            },
-            Affinity::Blob => Name {
-                bytes: [b'B', b'L', b'O', b'B', 0, 0, 0, 0],
-                len: 4,
-            },
+            Affinity::Text => Name([b'T', b'E', b'X', b'T', 0, 0, 0, 0], 4),
+            Affinity::Numeric => Name([b'N', b'U', b'M', b'E', b'R', b'I', b'C', 0], 7),
+            Affinity::Integer => Name([b'I', b'N', b'T', b'E', b'G', b'E', b'R', 0], 7),
+            Affinity::Real => Name([b'R', b'E', b'A', b'L', 0, 0, 0, 0], 4),
+            Affinity::Blob => Name([b'B', b'L', b'O', b'B', 0, 0, 0, 0], 4),
         }
     }
 

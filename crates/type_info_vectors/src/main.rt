@@ -23,12 +23,12 @@ fn show_type(text: &[u8]) {
         }
         DeclaredType::Is(kind, affinity) => {
             let name = kind.name();
-            let bytes = name.bytes;
-            print_name(bytes, name.len);
+            let bytes = name.0;
+            print_name(bytes, name.1);
             print(b" ");
             let name = affinity.name();
-            let bytes = name.bytes;
-            print_name(bytes, name.len);
+            let bytes = name.0;
+            print_name(bytes, name.1);
         }
     }
 }
