@@ -1,16 +1,15 @@
 -- Kind and affinity of a declared type agree as specs/Agreement.antt says: the Rust's last arms are the page's rules. Assumes nothing.
-use mathlib.Core.Path.{_≡_, refl, sym, ap, subst, _∙_}
+use mathlib.Core.Path.{_≡_, refl, sym, ap, _∙_}
 use mathlib.Core.Bool.{Bool, true, false, _||_}
 use mathlib.Core.List.{List, [], _∷_, _++_}
-use Prim.Native.Nat.{ℕ, zero, suc, _<_}
+use Prim.Native.Nat.{ℕ}
 use Prim.Native.String.{String}
 use native.Mathlib.Omega.{arith}
-use lib.ListN.{length, getD, drop}
+use lib.ListN.{drop}
 use Rattle.type_info.specs.Ascii.{ascii, lowerByte, lowercase, equals, startsWith, contains}
-use Rattle.type_info.specs.Kind.{Arm, exactly, containing, takes, gives, arms, firstIf, firstArm, fromStr, orNull, kindOf}
+use Rattle.type_info.specs.Kind.{Arm, exactly, containing, takes, arms, firstIf, firstArm, fromStr, orNull, kindOf}
 use Rattle.type_info.specs.Affinity.{Rule, rules, containsAnyCase, affinityIf, firstRule, affinityOf}
 use Rattle.type_info.specs.Agreement.{kindOfAffinity, Word, words, isOneOf, Every, Says, Agreement}
-use Rattle.type_info.specs.declared.Affinity.{Affinity}
 use Rattle.type_info.specs.declared.DataType.{DataType}
 use Rattle.type_info.proofs.Tests.{arm-fails}
 

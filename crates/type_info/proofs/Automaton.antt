@@ -1,15 +1,15 @@
 -- The check's turns: a state and what is left to read say what the whole text says. Assumes nothing.
-use mathlib.Core.Path.{_≡_, refl, sym, ap, subst, _∙_}
+use mathlib.Core.Path.{_≡_, refl, sym, ap, _∙_}
 use mathlib.Core.Bool.{Bool, true, false}
 use mathlib.Core.Option.{Option, none, some}
-use mathlib.Core.List.{List, [], _∷_}
+use mathlib.Core.List.{List, _∷_}
 use Prim.Native.Nat.{ℕ, _+_, _<_, _≤_}
 use native.Mathlib.Numerals.{add-one}
 use native.Mathlib.Omega.{arith}
 use lib.Dec.{eqb}
 use lib.ListN.{length, getD, drop, drop-of-length-le}
 use lib.Seq.{drop-cons}
-use Rattle.type_info.specs.Utf8.{Range, Utf8-octets, afterByte, isEmpty, reads, isUtf8, Checked}
+use Rattle.type_info.specs.Utf8.{Range, isEmpty, reads, isUtf8, Checked}
 use Rattle.type_info.specs.ByteClass.{ClassOf, expectations, expectation, orNone, expected, StateAfter}
 use Rattle.type_info.proofs.Grammar.{sound, complete, reads-on, reads-stops}
 use Rattle.type_info.proofs.Tables.{passes, passes-at}

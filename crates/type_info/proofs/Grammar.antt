@@ -2,13 +2,12 @@
 use mathlib.Core.Path.{_≡_, refl, sym, ap, subst, _∙_}
 use mathlib.Core.Bool.{Bool, true, false, _&&_}
 use mathlib.Core.Option.{Option, none, some, Option·none-ne-some, Option·some-injective}
-use mathlib.Core.List.{List, [], _∷_, _++_, append-assoc}
-use Prim.Native.Nat.{ℕ, zero, suc, _≤_, _<_}
+use mathlib.Core.List.{List, [], _∷_, _++_}
+use Prim.Native.Nat.{ℕ, suc, _≤_, _<_}
 use native.Mathlib.Omega.{arith}
 use lib.Dec.{leb, lit≤}
-use borrow.Author.Tests.{le-leb, lt-leb, leb-true, leb-false}
-use Rattle.type_info.specs.Utf8.{Range, utf8-char, Sequence, empty, byte, OneOf, this, later, Utf8-octets, char, inRange, someIf, begun, afterByte, isEmpty, reads, isUtf8}
-use Rattle.type_info.specs.Ascii.{within}
+use borrow.Author.Tests.{le-leb, lt-leb, leb-true}
+use Rattle.type_info.specs.Utf8.{Range, utf8-char, Sequence, empty, byte, OneOf, this, later, Utf8-octets, char, inRange, someIf, begun, afterByte, reads, isUtf8}
 
 -- a byte in a range, as the test has it
 in-range : (r : Range) (b : ℕ) → r .first ≤ b → b ≤ r .last → inRange r b ≡ true

@@ -7,7 +7,7 @@ use Prim.Native.Nat.{ℕ}
 use Prim.Native.String.{String}
 use Rattle.type_info.specs.Ascii.{ascii, lowercase, equals, contains}
 use Rattle.type_info.specs.declared.DataType.{DataType}
-use Rattle.type_info.specs.declared.DataType.the-variants.{Null, Integer, Float, Text, Blob, Numeric, Bool as Boolean, Int4, Date, Time, Datetime}
+use Rattle.type_info.specs.declared.DataType.the-variants.{Null, Integer, Float, Text, Blob, Bool as Boolean, Int4, Date, Time, Datetime}
 
 -- a word of an arm: the whole text is the word, or the text contains it
 pub data Arm : Type 0 where

@@ -2,8 +2,7 @@
 // Translated from sqlx-sqlite 0.9.0, src/type_info.rs; affinity after SQLite's datatype page, section 3.1.
 ghost use mathlib.Core.Path.{_≡_};
 ghost use Prim.Native.Nat.{_≤_};
-ghost use lib.ListN.{length};
-ghost use lib.ListN.{take, drop};
+ghost use lib.ListN.{length, drop};
 ghost use Rattle.type_info.specs.Ascii.{lowercase, lowerByte, equals, startsWith, contains};
 ghost use Rattle.type_info.specs.Kind.{kindOf};
 ghost use Rattle.type_info.specs.Affinity.{affinityOf};
