@@ -6,10 +6,11 @@ use Prim.Native.Nat.{ℕ}
 use Prim.Native.String.{String}
 use native.Mathlib.Omega.{arith}
 use lib.ListN.{drop}
+use Rattle.type_info.specs.All.{All, all-nil, all-cons}
 use Rattle.type_info.specs.Ascii.{ascii, lowerByte, lowercase, equals, startsWith, contains}
 use Rattle.type_info.specs.Kind.{Arm, exactly, containing, takes, arms, firstIf, firstArm, fromStr, orNull, kindOf}
 use Rattle.type_info.specs.Affinity.{Rule, rules, containsAnyCase, affinityIf, firstRule, affinityOf}
-use Rattle.type_info.specs.Agreement.{kindOfAffinity, Word, words, isOneOf, Every, Says, Agreement}
+use Rattle.type_info.specs.Agreement.{kindOfAffinity, Word, words, isOneOf, Says, Agreement}
 use Rattle.type_info.specs.declared.DataType.{DataType}
 use Rattle.type_info.proofs.Tests.{arm-fails}
 
@@ -84,18 +85,25 @@ affinity-lower (r ∷ rs) s t e =
 abbrev Computes : Word → Type 0
 Computes w = (ascii (w .text) ≡ lowercase (ascii (w .text))) × (kindOf (ascii (w .text)) ≡ w .kind) × (affinityOf (ascii (w .text)) ≡ w .affinity)
 
-computed : Every Computes words
+computed : All Computes words
 unfolding words ascii lowercase lowerByte kindOf fromStr firstArm arms takes equals contains startsWith affinityOf firstRule rules containsAnyCase
 computed =
-    ((refl, refl, refl), ((refl, refl, refl), ((refl, refl, refl), ((refl, refl, refl), ((refl, refl, refl), ((refl, refl, refl), ((refl, refl, refl), ((refl, refl, refl), tt))))))))
+    all-cons (refl, refl, refl)
+    (all-cons (refl, refl, refl)
+    (all-cons (refl, refl, refl)
+    (all-cons (refl, refl, refl)
+    (all-cons (refl, refl, refl)
+    (all-cons (refl, refl, refl)
+    (all-cons (refl, refl, refl)
+    (all-cons (refl, refl, refl) all-nil)))))))
 
-of-words : (ws : List Word) → Every Computes ws → Every Says ws
+of-words : {ws : List Word} → All Computes ws → All Says ws
 unfolding affinityOf
-of-words [] h = tt
-of-words (w ∷ ws) h = (
-  λ s e. (kind-lower s (ascii (w .text)) (e ∙ h .0 .0) ∙ h .0 .1, affinity-lower rules s (ascii (w .text)) (e ∙ h .0 .0) ∙ h .0 .2),
-  of-words ws (h .1),
-)
+of-words all-nil = all-nil
+of-words (all-cons {x = w} h more) =
+    all-cons
+    (λ s e. (kind-lower s (ascii (w .text)) (e ∙ h .0) ∙ h .1, affinity-lower rules s (ascii (w .text)) (e ∙ h .0) ∙ h .2))
+    (of-words more)
 
 pub agreement : Agreement
-agreement = record { outside = outside; of-words = of-words words computed }
+agreement = record { outside = outside; of-words = of-words computed }

@@ -1,6 +1,6 @@
 -- The test of specs/Utf8.antt says what its grammar says, both ways. Assumes nothing.
 use mathlib.Core.Path.{_≡_, refl, sym, ap, subst, _∙_}
-use mathlib.Core.Bool.{Bool, true, false, _&&_}
+use mathlib.Core.Bool.{Bool, true, false, and-eq-true-iff}
 use mathlib.Core.Option.{Option, none, some, Option·none-ne-some, Option·some-injective}
 use mathlib.Core.List.{List, [], _∷_, _++_}
 use Prim.Native.Nat.{ℕ, suc, _≤_, _<_}
@@ -18,13 +18,9 @@ past-range : (r : Range) (b : ℕ) → r .first ≤ b → r .last < b → inRang
 unfolding inRange
 past-range r b lo hi = rw (le-leb (r .first) b lo, lt-leb b (r .last) hi)
 
-pub both-true : (x y : Bool) → (x && y) ≡ true → (x ≡ true) × (y ≡ true)
-both-true true y e = (refl, e)
-both-true false y e = let z : _≡_ {A = ℕ} 0 1 = cc in absurd (omega arith)
-
 pub range-in : (r : Range) (b : ℕ) → inRange r b ≡ true → (r .first ≤ b) × (b ≤ r .last)
 unfolding inRange
-range-in r b e = let h = both-true (leb (r .first) b) (leb b (r .last)) e in (leb-true (r .first) b (h .0), leb-true b (r .last) (h .1))
+range-in r b e = let h = and-eq-true-iff (leb (r .first) b) (leb b (r .last)) .0 e in (leb-true (r .first) b (h .0), leb-true b (r .last) (h .1))
 
 -- first bytes rise from one alternative to the next, so that a byte begins one of them only
 data Rising : ℕ → List (List Range) → Type 0 where

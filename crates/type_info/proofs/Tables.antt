@@ -1,6 +1,6 @@
 -- A rule of a table, shown at all of its entries by one test that is computed. Assumes nothing.
 use mathlib.Core.Path.{_≡_, refl, ap, ap₂, subst}
-use mathlib.Core.Bool.{Bool, true, false, _&&_, _||_}
+use mathlib.Core.Bool.{Bool, true, false, _&&_, _||_, and-eq-true-iff}
 use mathlib.Core.List.{List, [], _∷_}
 use mathlib.Core.Option.{Option, none, some}
 use lib.ListN.{getD}
@@ -10,7 +10,7 @@ use borrow.Author.Tests.{eqb-true, eqb-false, ltb-true, leb-true}
 use lib.Dec.{eqb, leb, ltb}
 use Rattle.type_info.specs.Utf8.{Range, _‥_, utf8-char, inRange, begun, afterByte}
 use Rattle.type_info.specs.ByteClass.{classes, inAny, inClass, ClassOf, expectations, expectation, expected, StateAfter}
-use Rattle.type_info.proofs.Grammar.{range-in, both-true}
+use Rattle.type_info.proofs.Grammar.{range-in}
 
 -- the test passes at each of n numbers from a on
 unfoldable pub passes : (ℕ → Bool) → ℕ → ℕ → Bool
@@ -20,7 +20,7 @@ passes f a (suc n) = f a && passes f (suc a) n
 pub passes-at : (f : ℕ → Bool) (a n : ℕ) → passes f a n ≡ true → (b : ℕ) → a ≤ b → b < a + n → f b ≡ true
 unfolding passes
 passes-at f a zero e b lo hi = absurd (omega arith)
-passes-at f a (suc n) e b lo hi = go (eqb a b) refl (both-true (f a) (passes f (suc a) n) e) (passes-at f (suc a) n)
+passes-at f a (suc n) e b lo hi = go (eqb a b) refl (and-eq-true-iff (f a) (passes f (suc a) n) .0 e) (passes-at f (suc a) n)
   where
     go : (x : Bool) → eqb a b ≡ x → (f a ≡ true) × (passes f (suc a) n ≡ true) → (passes f (suc a) n ≡ true → (c : ℕ) → suc a ≤ c → c < suc a + n → f c ≡ true) → f b ≡ true
     go true ex p rest = subst (λ k. f k ≡ true) (eqb-true a b ex) (p .0)
@@ -34,7 +34,7 @@ rangesPass f (r ∷ rs) = passes f (r .first) (suc (r .last) - r .first) && rang
 pub ranges-at : (f : ℕ → Bool) (rs : List Range) → rangesPass f rs ≡ true → (b : ℕ) → inAny rs b ≡ true → f b ≡ true
 unfolding rangesPass inAny
 ranges-at f [] e b h = let z : _≡_ {A = ℕ} 0 1 = cc in absurd (omega arith)
-ranges-at f (r ∷ rs) e b h = go (inRange r b) refl (both-true (passes f (r .first) (suc (r .last) - r .first)) (rangesPass f rs) e) h (ranges-at f rs)
+ranges-at f (r ∷ rs) e b h = go (inRange r b) refl (and-eq-true-iff (passes f (r .first) (suc (r .last) - r .first)) (rangesPass f rs) .0 e) h (ranges-at f rs)
   where
     go :
         (x : Bool) →
@@ -65,8 +65,8 @@ ranges-same [] [] e = refl
 ranges-same [] (r ∷ rs) e = let z : _≡_ {A = ℕ} 0 1 = cc in absurd (omega arith)
 ranges-same (q ∷ qs) [] e = let z : _≡_ {A = ℕ} 0 1 = cc in absurd (omega arith)
 ranges-same (q ∷ qs) (r ∷ rs) e =
-    let h = both-true (eqb (q .first) (r .first)) (eqb (q .last) (r .last) && sameRanges qs rs) e in
-    let k = both-true (eqb (q .last) (r .last)) (sameRanges qs rs) (h .1) in
+    let h = and-eq-true-iff (eqb (q .first) (r .first)) (eqb (q .last) (r .last) && sameRanges qs rs) .0 e in
+    let k = and-eq-true-iff (eqb (q .last) (r .last)) (sameRanges qs rs) .0 (h .1) in
     ap₂ (λ x xs. x ∷ xs) (ap₂ (λ x y. x ‥ y) (eqb-true (q .first) (r .first) (h .0)) (eqb-true (q .last) (r .last) (k .0))) (ranges-same qs rs (k .1))
 
 expected-same : (x y : Option (List Range)) → sameExpected x y ≡ true → x ≡ y
@@ -95,7 +95,7 @@ class-right table e = record { at = entry }
   where
     entry : (b : ℕ) → b < 256 → ClassOf b (getD table b 0)
     entry b h =
-        let k = both-true (ltb (getD table b 0) 12) (inClass (getD table b 0) b) (passes-at (classRight table) 0 256 e b (omega arith) (omega arith)) in
+        let k = and-eq-true-iff (ltb (getD table b 0) 12) (inClass (getD table b 0) b) .0 (passes-at (classRight table) 0 256 e b (omega arith) (omega arith)) in
         record { small = ltb-true (getD table b 0) 12 (k .0); has = k .1 }
 
 -- an entry of the table of states, as a test
@@ -119,7 +119,7 @@ state-right table e = record { at = λ q c hq hc. entry q c hq hc }
     entry : (q c : ℕ) → q < 8 → c < 12 → StateAfter q c (getD table (q * 12 + c) 0)
     entry q c hq hc =
         let r = getD table (q * 12 + c) 0 in
-        let k = both-true (leb r 8) _ (passes-at (stateRight table) 0 96 e (q * 12 + c) (omega arith) (omega arith)) in
+        let k = and-eq-true-iff (leb r 8) _ .0 (passes-at (stateRight table) 0 96 e (q * 12 + c) (omega arith) (omega arith)) in
         record {
           small = leb-true r 8 (k .0);
           is = λ b h.

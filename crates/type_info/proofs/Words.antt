@@ -10,6 +10,7 @@ use lib.Dec.{eqb, eqb·suc-zero}
 use lib.ListN.{length, getD, drop, drop-of-length-le, length-map}
 use lib.Seq.{drop-cons}
 use borrow.Author.Tests.{le-leb, lt-leb, eq-eqb, ne-eqb}
+use Rattle.type_info.specs.All.{allOf}
 use Rattle.type_info.specs.Ascii.{within, lowerByte, lowercase, equals, startsWith, contains}
 use Rattle.type_info.specs.DeclaredType.{allPrintable}
 
@@ -99,7 +100,7 @@ length-lowercase s = length-map s lowerByte
 -- every byte printable: the first, and the rest
 module _ (s : List ℕ) (i : ℕ) (inside : i < length s) where
   printable-byte : allPrintable (drop i s) ≡ (within 32 126 (getD s i 0) && allPrintable (drop (i + 1) s))
-  unfolding allPrintable
+  unfolding allPrintable allOf
   printable-byte = rw (add-one i, drop-cons s i 0 inside)
 
   pub printable-low : getD s i 0 < 32 → false ≡ allPrintable (drop i s)
@@ -112,5 +113,5 @@ module _ (s : List ℕ) (i : ℕ) (inside : i < length s) where
   printable-on h k = sym (printable-byte ∙ rw (le-leb 32 (getD s i 0) h, le-leb (getD s i 0) 126 k))
 
 pub printable-end : (s : List ℕ) (i : ℕ) → length s ≤ i → true ≡ allPrintable (drop i s)
-unfolding allPrintable
+unfolding allPrintable allOf
 printable-end s i h = rw (drop-of-length-le s h)

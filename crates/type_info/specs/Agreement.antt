@@ -5,6 +5,7 @@ use mathlib.Core.Bool.{Bool, false, _||_}
 use mathlib.Core.List.{List, [], _∷_}
 use Prim.Native.Nat.{ℕ}
 use Prim.Native.String.{String}
+use Rattle.type_info.specs.All.{All}
 use Rattle.type_info.specs.Ascii.{ascii, lowercase, equals}
 use Rattle.type_info.specs.Kind.{kindOf}
 use Rattle.type_info.specs.Affinity.{affinityOf}
@@ -51,10 +52,6 @@ isOneOf (w ∷ ws) s = equals (lowercase s) (ascii (w .text)) || isOneOf ws s
 abbrev pub Says : Word → Type 0
 Says w = (s : List ℕ) → lowercase s ≡ ascii (w .text) → (kindOf s ≡ w .kind) × (affinityOf s ≡ w .affinity)
 
-abbrev pub Every : {A : Type 0} → (A → Type 0) → List A → Type 0
-Every P [] = Unit {0}
-Every P (x ∷ xs) = P x × Every P xs
-
 pub record Agreement : Type 0 where
   pub outside : (s : List ℕ) → isOneOf words s ≡ false → kindOf s ≡ kindOfAffinity (affinityOf s)
-  pub of-words : Every Says words
+  pub of-words : All Says words

@@ -1,3 +1,4 @@
+pub mod All
 pub mod Ascii
 pub mod Kind
 pub mod Affinity
