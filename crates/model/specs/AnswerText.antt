@@ -12,7 +12,7 @@ use Rattle.type_info.specs.declared.DataType.{DataType}
 use Rattle.type_info.specs.declared.DataType.the-variants as kind
 use Rattle.model.specs.Results.{ResultColumn}
 use Rattle.model.specs.Answer.{Answer}
-use Rattle.model.specs.Reader.{Reader, give, readName, whole}
+use Rattle.model.specs.Reader.{Reader, _>>=_, _>>_, give, readName, whole}
 use Rattle.model.specs.Numbers.{printNatural, readUpTo, readIndex}
 use Rattle.model.specs.Fields.{takeField, printField, takeItems, printItems}
 

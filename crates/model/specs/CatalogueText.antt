@@ -11,7 +11,7 @@ use lib.ListN.{length}
 use Rattle.type_info.specs.Ascii.{ascii}
 use Rattle.type_info.specs.DeclaredType.{allPrintable}
 use Rattle.model.specs.Catalogue.{CatalogueRecord}
-use Rattle.model.specs.Reader.{Reader, give, readIf, readName}
+use Rattle.model.specs.Reader.{Reader, _>>=_, give, readIf, readName}
 use Rattle.model.specs.Numbers.{printNatural, readUpTo}
 use Rattle.model.specs.Fields.{takeField, printField, readItems, printItems}
 

@@ -1,7 +1,7 @@
 -- P4's texts: what Function's texts give, the prefixes that AggStep, AggValue and AggFinal know, and refusal 10.
 -- From explain.rs, the arms OP_FUNCTION, OP_AGG_STEP | OP_AGG_VALUE and OP_AGG_FINAL. Assumes nothing.
 use mathlib.Core.Bool.{Bool, true, false, not}
-use mathlib.Core.Option.{Option, none, some}
+use mathlib.Core.Option.{Option, some}
 use mathlib.Core.List.{List, [], _∷_}
 use Prim.Native.Nat.{ℕ}
 use lib.IntN.{ℤ}

@@ -3,7 +3,7 @@
 -- handling counts one repeat." Assumes nothing.
 use mathlib.Core.Bool.{Bool, true, false, not, _||_}
 use mathlib.Core.Option.{Option, none, some}
-use Prim.Native.Nat.{ℕ, zero, suc}
+use Prim.Native.Nat.{zero, suc}
 use lib.IntN.{ℤ, pos, negsuc, predℤ}
 use Rattle.type_info.specs.declared.DataType.the-variants.{Integer}
 use Rattle.model.specs.Walk.{done}

@@ -8,10 +8,10 @@ use Prim.Native.Nat.{ℕ, zero, suc, _-_, _%_}
 use lib.IntN.{ℤ, pos, negsuc, sucℤ, _-ℤ_}
 use Rattle.type_info.specs.declared.DataType.{DataType}
 use Rattle.type_info.specs.declared.DataType.the-variants.{Null, Integer, Float, Text, Blob, Numeric}
-use Rattle.model.specs.Walk.{Tried, refused, done}
+use Rattle.model.specs.Walk.{Tried, done}
 use Rattle.model.specs.Row.{Row}
 use Rattle.model.specs.IntMap.{Entry, _⇒_, get}
-use Rattle.model.specs.State.{ColumnType, Single, Record, RegDataType, Column, Int, MemoryState, fromDenseRecord, default, null, neverNull, mapToDatatype, mapToNullable, toNotNull, firstDatatype, eitherNullable}
+use Rattle.model.specs.State.{Single, Record, RegDataType, Column, Int, MemoryState, fromDenseRecord, default, null, neverNull, mapToDatatype, mapToNullable, toNotNull, firstDatatype, eitherNullable}
 use Rattle.model.specs.Access.{_>>=_, countOf, readRegister, readColumns, storeRegister, updateRegister}
 use Rattle.model.specs.Table.{orElse}
 use Rattle.model.specs.Functions.{FunctionValue, valueColumn, textOf, Aggregate, toInteger, toReal, toSum, toOtherRow, toOperand, aggregateOf, sumDatatype}

@@ -1,15 +1,15 @@
 -- The arm ResultRow of `explain`: the registers P1 to P1 + P2 − 1 make a result row, and the next row is a branch. 01, "Walk, refusals":
 -- "12 a result row wider than 2,000", "judged before its accesses". With P2 below 0 the row's width is 0. Assumes nothing.
 use mathlib.Core.Bool.{Bool, true, false}
-use mathlib.Core.Option.{Option, none, some}
-use mathlib.Core.List.{List, [], _∷_}
+use mathlib.Core.Option.{none, some}
+use mathlib.Core.List.{[], _∷_}
 use Prim.Native.Nat.{ℕ}
 use lib.Dec.{leb}
 use Rattle.model.specs.Walk.{refused, done}
 use Rattle.model.specs.Row.{Row}
 use Rattle.model.specs.State.{MemoryState}
 use Rattle.model.specs.Access.{_>>=_, next, readColumns}
-use Rattle.model.specs.Results.{ResultRow, resultColumns}
+use Rattle.model.specs.Results.{resultColumns}
 use Rattle.model.specs.Offer.{Offer, turns}
 
 abbrev pub resultIf : Bool → ℕ → Row → MemoryState → Offer

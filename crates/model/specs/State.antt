@@ -4,11 +4,11 @@ use mathlib.Core.Bool.{Bool, true, false, _||_}
 use mathlib.Core.Option.{Option, none, some}
 use mathlib.Core.List.{List, [], _∷_}
 use Prim.Native.Nat.{ℕ, zero, suc}
-use lib.IntN.{ℤ, pos, negsuc}
+use lib.IntN.{ℤ, pos}
 use lib.ListN.{replicate}
 use Rattle.type_info.specs.declared.DataType.{DataType}
 use Rattle.type_info.specs.declared.DataType.the-variants.{Null, Integer, Float, Text, Blob, Numeric, Bool as Boolean, Int4, Date, Time, Datetime}
-use Rattle.model.specs.IntMap.{Entry, _⇒_, insert, numbered}
+use Rattle.model.specs.IntMap.{Entry, _⇒_, numbered}
 
 mutual
   pub data ColumnType : Type 0 where
