@@ -1,5 +1,5 @@
 -- A row is refused with 6 to 10 or 12 and with no other number. Assumes nothing.
-use mathlib.Core.Path.{_≡_, refl, subst}
+use mathlib.Core.Path.{_≡_, refl}
 use mathlib.Core.Bool.{Bool, true, false}
 use mathlib.Core.Option.{Option, none, some}
 use mathlib.Core.List.{List}
@@ -7,7 +7,7 @@ use Prim.Native.Nat.{ℕ, zero, suc}
 use lib.Dec.{leb}
 use lib.IntN.{ℤ, pos, negsuc, sucℤ}
 use Rattle.type_info.specs.Utf8.{isUtf8}
-use Rattle.model.specs.Walk.{Tried, refused, done}
+use Rattle.model.specs.Walk.{Tried, refused}
 use Rattle.model.specs.Row.{Row}
 use Rattle.model.specs.IntMap.{get, insert}
 use Rattle.model.specs.State.{Single, Record, Columns, RegDataType, Column, Int, CursorDataType, Normal, Pseudo, TableDataType, MemoryState, isNullType, null}
@@ -26,24 +26,11 @@ use Rattle.model.specs.RegisterArms.{storeSome, copyTo, copyMany, moveSo
 use Rattle.model.specs.CursorArms.{columnOf, storeInto, insertRecord, insertNullIf, insertArm, storeSomeCursor, openTable, cursorArm}
 use Rattle.model.specs.Explain.{arm, atRow, ways}
 use Rattle.model.specs.Refusals.{ofRow}
+use Rattle.model.proofs.Refuses.{Refuses, refusal, value, _>>_, refused-by}
 
 -- what is tried is refused with a row's number, or is done
-data Numbered {A : Type 0} : Tried A → Type 0 where
-  refusal : {k : ℕ} → ofRow k ≡ true → Numbered (refused k)
-  value : {a : A} → Numbered (done a)
-
-infixl 20 _>>_
-_>>_ : {A B : Type 0} {t : Tried A} {f : A → Tried B} → Numbered t → ((a : A) → Numbered (f a)) → Numbered (t >>= f)
-refusal e >> g = refusal e
-value {a = a} >> g = g a
-
-abbrev NumberedAt : {A : Type 0} → Tried A → Type 0
-NumberedAt (refused k) = ofRow k ≡ true
-NumberedAt (done a) = Unit {0}
-
-at : {A : Type 0} {t : Tried A} → Numbered t → NumberedAt t
-at (refusal e) = e
-at value = tt
+abbrev Numbered : {A : Type 0} → Tried A → Type 0
+Numbered t = Refuses (λ k. ofRow k ≡ true) t
 
 -- accesses
 index-if : (b : Bool) (k : ℕ) → Numbered (indexIf b k)
@@ -349,4 +336,4 @@ module _ (meaning : Meaning) (rows : List Row) (again : Bool) (m : MemoryState) 
 
   pub row-refusals : (k : ℕ) → ways meaning rows again m ≡ refused k → ofRow k ≡ true
   unfolding ways
-  row-refusals k e = subst NumberedAt e (at (at-row (rowAt rows (m .programI))))
+  row-refusals k e = refused-by (at-row (rowAt rows (m .programI))) e

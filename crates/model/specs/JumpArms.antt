@@ -13,7 +13,7 @@ use Rattle.model.specs.State.{RegDataType, Column, Int, CursorDataType, 
 use Rattle.model.specs.Equality.{eqInt, isZeroInt}
 use Rattle.model.specs.Access.{_>>=_, goTo, next, readRegister, readCursor, storeRegister, updateRegister, removeRegister}
 use Rattle.model.specs.Cursor.{cursorIsEmpty, updateCursorTable, setEmpty}
-use Rattle.model.specs.Offer.{Offer, both, goesOn, ends, branchIf, stayIf, rowAt}
+use Rattle.model.specs.Offer.{Offer, offers, goesOn, ends, branchIf, stayIf, rowAt}
 use Rattle.model.specs.Operation.{JumpOperation, opGoto, opGosub, opBranch, opIsNull, opNotNull, opMustBeInt, opIf, opRewind, opInitCoroutine, opEndCoroutine, opReturn, opYield, opJump, opHalt}
 
 -- what IsNull and NotNull ask of a register, and the change to one that is null
@@ -33,14 +33,14 @@ isNullArm x m =
     readRegister (x .p1) m >>= λ v.
     updateRegister (x .p1) toDefault (goTo (x .p2) m) >>= λ branch.
     updateRegister (x .p1) toNotNull (next m) >>= λ stays.
-    both (branchIf (mayBeNull v) branch) (stayIf (mayBeNull v) stays)
+    offers (branchIf (mayBeNull v) branch) (stayIf (mayBeNull v) stays)
 
 unfoldable pub notNullArm : Row → MemoryState → Offer
 notNullArm x m =
     readRegister (x .p1) m >>= λ v.
     updateRegister (x .p1) toNotNull (goTo (x .p2) m) >>= λ branch.
     updateRegister (x .p1) toDefault (next m) >>= λ stays.
-    both (branchIf (hasKind v) branch) (stayIf (mayBeNull v) stays)
+    offers (branchIf (hasKind v) branch) (stayIf (mayBeNull v) stays)
 
 -- the number that a register is known to hold
 abbrev pub knownInt : Option RegDataType → Option ℤ
@@ -66,17 +66,17 @@ module _ (limit : ℕ) (x : Row) (m : MemoryState) where
 
   abbrev pub ifKnown : Bool → Offer
   ifKnown true = ifStay >>= λ stays. goesOn stays
-  ifKnown false = ifBranch >>= λ branch. both (branch ∷ []) none
+  ifKnown false = ifBranch >>= λ branch. offers (branch ∷ []) none
 
   unfoldable pub ifArm : Option ℤ → Offer
-  ifArm none = ifBranch >>= λ branch. ifStay >>= λ stays. both (branch ∷ []) (some stays)
+  ifArm none = ifBranch >>= λ branch. ifStay >>= λ stays. offers (branch ∷ []) (some stays)
   ifArm (some n) = ifKnown (isZeroInt n)
 
 -- Rewind, Last, Sort, SorterSort
 unfoldable pub rewindCursor : Row → MemoryState → Option CursorDataType → Offer
 rewindCursor x m none = ends
 rewindCursor x m (some c) =
-    both (branchIf (not (isFalse (cursorIsEmpty c m))) (updateCursorTable (setEmpty (some true)) (some c) (goTo (x .p2) m)))
+    offers (branchIf (not (isFalse (cursorIsEmpty c m))) (updateCursorTable (setEmpty (some true)) (some c) (goTo (x .p2) m)))
     (stayIf (not (isTrue (cursorIsEmpty c m))) (next m))
 
 abbrev pub rewindIf : Bool → Row → MemoryState → Offer
@@ -125,15 +125,15 @@ module _ (limit : ℕ) (rows : List Row) (x : Row) (m : MemoryState) where
   unfoldable pub jumpArm : JumpOperation → Offer
   jumpArm opGoto = goesOn (goTo (x .p2) m)
   jumpArm opGosub = storeRegister limit (x .p1) (Int (m .programI)) m >>= λ s. goesOn (goTo (x .p2) s)
-  jumpArm opBranch = both (goTo (x .p2) m ∷ []) (some (next m))
+  jumpArm opBranch = offers (goTo (x .p2) m ∷ []) (some (next m))
   jumpArm opIsNull = isNullArm x m
   jumpArm opNotNull = notNullArm x m
-  jumpArm opMustBeInt = both (branchIf (not (isZeroInt (x .p2))) (goTo (x .p2) m)) (some (next m))
+  jumpArm opMustBeInt = offers (branchIf (not (isZeroInt (x .p2))) (goTo (x .p2) m)) (some (next m))
   jumpArm opIf = readRegister (x .p1) m >>= λ v. ifArm limit x m (knownInt v)
   jumpArm opRewind = rewindIf (isZeroInt (x .p2)) x m
   jumpArm opInitCoroutine = storeRegister limit (x .p1) (Int (x .p3)) m >>= λ s. goesOn (initCoroutineTo (isZeroInt (x .p2)) x s)
   jumpArm opEndCoroutine = readRegister (x .p1) m >>= λ v. endCoroutineArm rows x m (knownInt v)
   jumpArm opReturn = readRegister (x .p1) m >>= λ v. returnArm rows x m (knownInt v)
   jumpArm opYield = readRegister (x .p1) m >>= λ v. yieldArm rows x m (knownInt v)
-  jumpArm opJump = both (goTo (x .p1) m ∷ goTo (x .p2) m ∷ goTo (x .p3) m ∷ []) (some (next m))
+  jumpArm opJump = offers (goTo (x .p1) m ∷ goTo (x .p2) m ∷ goTo (x .p3) m ∷ []) (some (next m))
   jumpArm opHalt = ends

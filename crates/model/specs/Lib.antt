@@ -23,6 +23,10 @@ pub mod CursorArms
 pub mod Explain
 pub mod Run
 pub mod Refusals
+pub mod Good
+pub mod Columns
+pub mod CallClaims
+pub mod Stars
 pub mod Answer
 pub mod Reader
 pub mod Numbers

@@ -15,16 +15,16 @@ abbrev pub Offer : Type 0
 Offer = Tried (Ways MemoryState ResultRow)
 
 -- branches, and the state that goes on
-abbrev pub both : List MemoryState → Option MemoryState → Offer
-both branches stays = done (record { branches = branches; stays = stays; result = none; repeat = false })
+abbrev pub offers : List MemoryState → Option MemoryState → Offer
+offers branches stays = done (record { branches = branches; stays = stays; result = none; repeat = false })
 
 -- `continue`
 abbrev pub goesOn : MemoryState → Offer
-goesOn m = both [] (some m)
+goesOn m = offers [] (some m)
 
 -- `break`
 abbrev pub ends : Offer
-ends = both [] none
+ends = offers [] none
 
 abbrev pub branchIf : Bool → MemoryState → List MemoryState
 branchIf true m = m ∷ []

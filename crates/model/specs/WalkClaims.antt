@@ -66,3 +66,9 @@ pub record Coverage
     pub offers : (m : M) → Reach rowOf ways fresh m → (row : ℕ) → rowOf m ≡ some row → (w : Ways M R) × Offering rowOf ways m w
     -- the result rows reached are exactly those counted
     pub exact : (r : R) → (r ∈ n .counted) ↔ Result rowOf ways fresh r
+
+-- a fact of states holds of every one that the walk handled, remembered or took up
+pub record Everywhere {M R : Type 0} (S : M → Type 0) (n : Notes M R) : Type 0 where
+  pub handled : (m : M) → m ∈ mems (n .handled) → S m
+  pub remembered : (m : M) → m ∈ n .remembered → S m
+  pub taken : (m : M) → m ∈ n .taken → S m
