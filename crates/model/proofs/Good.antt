@@ -1,15 +1,15 @@
 -- Every state that the walk makes is good: the fresh start is, and so are every branch and the state that goes on, at every row, if the state
 -- before is. It is asked that the listing has at most 65,536 rows, the limit is at most 65,536 cells, and the catalogue's columns are sorted; those
 -- of 01's catalogue are. Assumes nothing.
-use mathlib.Core.Path.{_≡_, refl}
+use mathlib.Core.Path.{_≡_, refl, subst}
+use mathlib.Core.Logic.{inl, inr}
 use mathlib.Core.Bool.{Bool}
-use mathlib.Core.Option.{Option, none, some, Option·none-ne-some}
+use mathlib.Core.Option.{Option, none, some}
 use mathlib.Core.List.{List, [], _∷_}
-use Prim.Native.Nat.{ℕ, zero, suc, _≤_, _<_}
+use Prim.Native.Nat.{ℕ, _≤_}
 use native.Mathlib.Omega.{arith}
-use lib.IntN.{ℤ, pos, negsuc}
-use lib.ListN.{length, getElem?}
-use Rattle.model.specs.Walk.{done, Ways}
+use lib.ListN.{length}
+use Rattle.model.specs.Walk.{done, Ways, _∈_}
 use Rattle.model.specs.Row.{Row}
 use Rattle.model.specs.IntMap.{total}
 use Rattle.model.specs.State.{MemoryState, fresh}
@@ -19,8 +19,9 @@ use Rattle.model.specs.Meaning.{Meaning}
 use Rattle.model.specs.Operation.{Operation, jumps, opIfPos, registers, cursors, opResultRow, noArm, operationOf}
 use Rattle.model.specs.Offer.{turns, rowAt}
 use Rattle.model.specs.Explain.{arm, atRow, ways}
-use Rattle.model.specs.Good.{Good, GoodWays, GoodMeaning}
+use Rattle.model.specs.Good.{Good, GoodWays, GoodMeaning, Each, OnSome}
 use Rattle.model.proofs.Tried.{Kept, _>>_, kept}
+use Rattle.model.proofs.Rows.{rowAt-within}
 use Rattle.model.proofs.Access.{next-good}
 use Rattle.model.proofs.GoodJumps.{ends-good, goesOn-good, jump-good, ifPos-good, resultRow-good}
 use Rattle.model.proofs.GoodRegisters.{register-good}
@@ -29,17 +30,6 @@ use Rattle.model.proofs.GoodCursors.{cursor-good}
 pub fresh-good : (limit : ℕ) → Good limit fresh
 unfolding cells total
 fresh-good limit = record { registers = tt; cursors = tt; tables = tt; fits = omega arith }
-
--- a row that is there is one of the listing's
-getElem?-within : {A : Type 0} (xs : List A) (k : ℕ) (a : A) → getElem? xs k ≡ some a → k < length xs
-getElem?-within [] k a e = absurd (Option·none-ne-some a e)
-getElem?-within (x ∷ xs) zero a e = omega arith
-getElem?-within (x ∷ xs) (suc k) a e = omega (arith, getElem?-within xs k a e)
-
-pub rowAt-within : (rows : List Row) (i : ℤ) (x : Row) → rowAt rows i ≡ some x → turns i < length rows
-unfolding rowAt
-rowAt-within rows (pos k) x e = getElem?-within rows k x e
-rowAt-within rows (negsuc k) x e = absurd (Option·none-ne-some x e)
 
 module _ (meaning : Meaning) (q : GoodMeaning meaning) (rows : List Row) (few : length rows ≤ 65536) (again : Bool) (m : MemoryState) (g : Good (meaning .cellLimit) m) where
   arm-good : turns (m .programI) ≤ 65535 → (x : Row) (o : Operation) → Kept (GoodWays (meaning .cellLimit)) (arm meaning rows again m x o)
@@ -58,3 +48,16 @@ module _ (meaning : Meaning) (q : GoodMeaning meaning) (rows : List Row) (few : 
   pub ways-good : (w : Ways MemoryState ResultRow) → ways meaning rows again m ≡ done w → GoodWays (meaning .cellLimit) w
   unfolding ways
   ways-good w e = kept (row-good (rowAt rows (m .programI)) refl) e
+
+-- the same, branch by branch
+each-member : {A : Type 0} (P : A → Type 0) (xs : List A) → Each P xs → (a : A) → a ∈ xs → P a
+each-member P [] h a e = absurd e
+each-member P (x ∷ xs) h a (inl e) = subst P e (h .0)
+each-member P (x ∷ xs) h a (inr e) = each-member P xs (h .1) a e
+
+module _ {limit : ℕ} {w : Ways MemoryState ResultRow} (g : GoodWays limit w) where
+  pub branch-is-good : (b : MemoryState) → b ∈ (w .branches) → Good limit b
+  branch-is-good b e = each-member (Good limit) (w .branches) (g .branches) b e
+
+  pub stays-is-good : (s : MemoryState) → w .stays ≡ some s → Good limit s
+  stays-is-good s e = subst (OnSome (Good limit)) e (g .stays)

@@ -12,7 +12,7 @@ use Rattle.model.specs.Equality.{eqInt, isZeroInt}
 use Rattle.model.specs.Cells.{tableCells}
 use Rattle.model.specs.Access.{countOf}
 use Rattle.model.specs.Cursor.{recordOf, tableColumns, cursorColumns, setEmpty, nullTable, nullRecord, nullColumns}
-use Rattle.model.specs.Table.{orElse}
+use Rattle.model.specs.TextTable.{orElse}
 use Rattle.model.specs.Meaning.{Meaning}
 use Rattle.model.specs.Operation.{CursorOperation, opColumn, opRowData, opInsert, opDelete, opOpenPseudo, opOpenDup, opOpenRead, opOpenEphemeral, opNullRow}
 use Rattle.model.specs.CursorArms.{columnOf, afterDelete, emptyAfterDelete, columnsIf, openedColumns, storeInto, insertRecord, insertNullIf, insertArm, storeSomeCursor, openTable, cursorArm}
@@ -91,7 +91,7 @@ module _ {limit : ℕ} {m : MemoryState} (g : Good limit m) where
   insert-good x none p = value g
   insert-good x (some (Column (Single d n))) p = by (isNullType d)
     where
-      by : (b : Bool) → Kept (Good limit) (insertNullIf limit b x m)
+      by : (b : Bool) → Kept (Good limit) (insertNullIf b x m)
       by true = readCursor-good g (x .p1) >> λ c _. value (updateCursorTable-good g (setEmpty (some false)) (setEmpty-noLarger (λ t. some false)) c)
       by false = value g
   insert-good x (some (Column (Record cs))) p = readCursor-good g (x .p1) >> λ c _. insertRecord-good cs (p .sorted) c

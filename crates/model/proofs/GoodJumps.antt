@@ -99,11 +99,11 @@ module _ (limit : ℕ) (rows : List Row) (x : Row) (m : MemoryState) (g : Good l
   endCoroutine-good none = ends-good
   endCoroutine-good (some i) = by (yieldTarget (rowAt rows i))
     where
-      by : (target : Option ℤ) → Kept (GoodWays limit) (endCoroutineTo rows x m target)
+      by : (target : Option ℤ) → Kept (GoodWays limit) (endCoroutineTo x m target)
       by none = ends-good
       by (some target) = removeRegister-good (goTo-good g target) (x .p1) >> λ s h. goesOn-good h
 
-  return-good : (n : Option ℤ) → Kept (GoodWays limit) (returnArm rows x m n)
+  return-good : (n : Option ℤ) → Kept (GoodWays limit) (returnArm x m n)
   unfolding returnArm
   return-good none = by (eqInt (x .p3) (pos 1))
     where

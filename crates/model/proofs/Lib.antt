@@ -40,3 +40,6 @@ pub mod States
 pub mod Columns
 pub mod CallTheorems
 pub mod Stars
+pub mod Operation
+pub mod Rows
+pub mod StoreInPlace

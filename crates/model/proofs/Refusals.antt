@@ -164,7 +164,7 @@ module _ (limit : ℕ) where
   record-inserted cs (some (Normal row)) m = stored-into row cs (get row (m .t)) m
   record-inserted cs (some (Pseudo i)) m = value
 
-  null-inserted : (b : Bool) (x : Row) (m : MemoryState) → Numbered (insertNullIf limit b x m)
+  null-inserted : (b : Bool) (x : Row) (m : MemoryState) → Numbered (insertNullIf b x m)
   null-inserted true x m = cursor-read (x .p1) m >> λ c. value
   null-inserted false x m = value
 
@@ -263,7 +263,7 @@ module _ (limit : ℕ) (rows : List Row) (x : Row) (m : MemoryState) where
   rewind-if true = value
   rewind-if false = cursor-read (x .p1) m >> rewound
 
-  ended-to : (target : Option ℤ) → Numbered (endCoroutineTo rows x m target)
+  ended-to : (target : Option ℤ) → Numbered (endCoroutineTo x m target)
   ended-to none = value
   ended-to (some target) = register-removed (x .p1) (goTo target m) >> λ s. value
 
@@ -276,7 +276,7 @@ module _ (limit : ℕ) (rows : List Row) (x : Row) (m : MemoryState) where
   return-else true = value
   return-else false = value
 
-  returned : (n : Option ℤ) → Numbered (returnArm rows x m n)
+  returned : (n : Option ℤ) → Numbered (returnArm x m n)
   unfolding returnArm
   returned none = return-else (eqInt (x .p3) (pos 1))
   returned (some i) = register-removed (x .p1) (goTo (sucℤ i) m) >> λ s. value

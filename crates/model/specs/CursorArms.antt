@@ -11,7 +11,7 @@ use Rattle.model.specs.State.{ColumnType, Single, Record, Columns, end, 
 use Rattle.model.specs.Equality.{eqInt, isZeroInt}
 use Rattle.model.specs.Access.{_>>=_, index, countOf, readRegister, readCursor, storeRegister, storeCursor, storeTable}
 use Rattle.model.specs.Cursor.{cursorColumns, updateCursorTable, setEmpty, nullColumns}
-use Rattle.model.specs.Table.{orElse}
+use Rattle.model.specs.TextTable.{orElse}
 use Rattle.model.specs.Meaning.{Meaning}
 use Rattle.model.specs.Operation.{CursorOperation, opColumn, opRowData, opInsert, opDelete, opOpenPseudo, opOpenDup, opOpenRead, opOpenEphemeral, opNullRow}
 
@@ -37,6 +37,11 @@ columnsIf false cs = end
 unfoldable pub openedColumns : Meaning → Row → Columns
 openedColumns meaning x = columnsIf (isZeroInt (x .p3) || eqInt (x .p3) (pos 1)) (meaning .columnsFor (x .p3) (x .p2))
 
+-- Insert of a plain Null
+abbrev pub insertNullIf : Bool → Row → MemoryState → Tried MemoryState
+insertNullIf true x m = readCursor (x .p1) m >>= λ c. done (updateCursorTable (setEmpty (some false)) c m)
+insertNullIf false x m = done m
+
 module _ (limit : ℕ) where
   -- a record replaces what the cursor's table holds, if there is a table
   abbrev pub storeInto : ℕ → Columns → Option TableDataType → MemoryState → Tried MemoryState
@@ -47,10 +52,6 @@ module _ (limit : ℕ) where
   insertRecord cs none m = done m
   insertRecord cs (some (Normal row)) m = storeInto row cs (get row (m .t)) m
   insertRecord cs (some (Pseudo i)) m = done m
-
-  abbrev pub insertNullIf : Bool → Row → MemoryState → Tried MemoryState
-  insertNullIf true x m = readCursor (x .p1) m >>= λ c. done (updateCursorTable (setEmpty (some false)) c m)
-  insertNullIf false x m = done m
 
   -- P1 is looked at only where P2 holds a record or a plain Null
   unfoldable pub insertArm : Row → MemoryState → Option RegDataType → Tried MemoryState

@@ -12,7 +12,7 @@ use Rattle.type_info.specs.Utf8.{isUtf8}
 use Rattle.model.specs.Walk.{Tried, refused, done}
 use Rattle.model.specs.State.{ColumnType, Single}
 use Rattle.model.specs.Equality.{isZeroInt}
-use Rattle.model.specs.Table.{Named, _is_, firstFor, orElse}
+use Rattle.model.specs.TextTable.{Named, _is_, firstFor, orElse}
 
 abbrev pub textIf : Bool → List ℕ → Tried (List ℕ)
 textIf true p4 = done p4

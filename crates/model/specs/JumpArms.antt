@@ -48,6 +48,7 @@ knownInt none = none
 knownInt (some (Column c)) = none
 knownInt (some (Int i)) = some i
 
+-- a number goes into a register, where a test says so
 abbrev pub storeIf : Bool → ℕ → ℤ → ℤ → MemoryState → Tried MemoryState
 storeIf true limit i n m = storeRegister limit i (Int n) m
 storeIf false limit i n m = done m
@@ -76,13 +77,15 @@ module _ (limit : ℕ) (x : Row) (m : MemoryState) where
 unfoldable pub rewindCursor : Row → MemoryState → Option CursorDataType → Offer
 rewindCursor x m none = ends
 rewindCursor x m (some c) =
-    offers (branchIf (not (isFalse (cursorIsEmpty c m))) (updateCursorTable (setEmpty (some true)) (some c) (goTo (x .p2) m)))
+    offers
+    (branchIf (not (isFalse (cursorIsEmpty c m))) (updateCursorTable (setEmpty (some true)) (some c) (goTo (x .p2) m)))
     (stayIf (not (isTrue (cursorIsEmpty c m))) (next m))
 
 abbrev pub rewindIf : Bool → Row → MemoryState → Offer
 rewindIf true x m = goesOn (next m)
 rewindIf false x m = readCursor (x .p1) m >>= rewindCursor x m
 
+-- EndCoroutine, Return, Yield
 unfoldable pub isYield : Row → Bool
 isYield x = equals (x .op) (ascii "Yield")
 
@@ -103,18 +106,19 @@ abbrev pub returnElse : Bool → MemoryState → Offer
 returnElse true m = goesOn (next m)
 returnElse false m = ends
 
-module _ (rows : List Row) (x : Row) (m : MemoryState) where
+module _ (x : Row) (m : MemoryState) where
+  unfoldable pub returnArm : Option ℤ → Offer
+  returnArm none = returnElse (eqInt (x .p3) (pos 1)) m
+  returnArm (some i) = removeRegister (x .p1) (goTo (sucℤ i) m) >>= λ s. goesOn s
+
   abbrev pub endCoroutineTo : Option ℤ → Offer
   endCoroutineTo none = ends
   endCoroutineTo (some target) = removeRegister (x .p1) (goTo target m) >>= λ s. goesOn s
 
+module _ (rows : List Row) (x : Row) (m : MemoryState) where
   unfoldable pub endCoroutineArm : Option ℤ → Offer
   endCoroutineArm none = ends
-  endCoroutineArm (some i) = endCoroutineTo (yieldTarget (rowAt rows i))
-
-  unfoldable pub returnArm : Option ℤ → Offer
-  returnArm none = returnElse (eqInt (x .p3) (pos 1)) m
-  returnArm (some i) = removeRegister (x .p1) (goTo (sucℤ i) m) >>= λ s. goesOn s
+  endCoroutineArm (some i) = endCoroutineTo x m (yieldTarget (rowAt rows i))
 
   unfoldable pub yieldArm : Option ℤ → Offer
   yieldArm none = ends
@@ -133,7 +137,7 @@ module _ (limit : ℕ) (rows : List Row) (x : Row) (m : MemoryState) where
   jumpArm opRewind = rewindIf (isZeroInt (x .p2)) x m
   jumpArm opInitCoroutine = storeRegister limit (x .p1) (Int (x .p3)) m >>= λ s. goesOn (initCoroutineTo (isZeroInt (x .p2)) x s)
   jumpArm opEndCoroutine = readRegister (x .p1) m >>= λ v. endCoroutineArm rows x m (knownInt v)
-  jumpArm opReturn = readRegister (x .p1) m >>= λ v. returnArm rows x m (knownInt v)
+  jumpArm opReturn = readRegister (x .p1) m >>= λ v. returnArm x m (knownInt v)
   jumpArm opYield = readRegister (x .p1) m >>= λ v. yieldArm rows x m (knownInt v)
   jumpArm opJump = offers (goTo (x .p1) m ∷ goTo (x .p2) m ∷ goTo (x .p3) m ∷ []) (some (next m))
   jumpArm opHalt = ends

@@ -7,7 +7,7 @@ pub mod State
 pub mod Equality
 pub mod Cells
 pub mod Access
-pub mod Table
+pub mod TextTable
 pub mod Operation
 pub mod Functions
 pub mod Catalogue

@@ -9,7 +9,7 @@ use Rattle.model.specs.State.{entries, asColumns, setAllNullable}
 use Rattle.model.specs.Equality.{eqColumn, eqRegister, eqCursor, eqTable, eqMap, eqState}
 use Rattle.model.specs.Cells.{columnCells, registerCells, tableCells, cells, columnDepth, registerDepth}
 use Rattle.model.specs.Access.{index, countOf, judgeDepth, judgeCells, readRegister, readCursor, readColumns, storeRegister, storeCursor, storeTable, updateRegister, updateTable, removeRegister}
-use Rattle.model.specs.Table.{firstFor}
+use Rattle.model.specs.TextTable.{firstFor}
 use Rattle.model.specs.Operation.{operations, operationOf}
 use Rattle.model.specs.Functions.{textOf, builtIn, functionIn, prefixes, aggregateOf}
 use Rattle.model.specs.Catalogue.{recordColumn, isFor, columnsAfter, columnsAt}

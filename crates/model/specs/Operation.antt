@@ -5,7 +5,7 @@ use Prim.Native.Nat.{ℕ}
 use Rattle.type_info.specs.declared.DataType.{DataType}
 use Rattle.type_info.specs.declared.DataType.the-variants.{Integer, Float, Text, Blob}
 use Rattle.type_info.specs.Ascii.{equals}
-use Rattle.model.specs.Table.{Named, _is_, firstFor, orElse}
+use Rattle.model.specs.TextTable.{Named, _is_, firstFor, orElse}
 
 -- arms that name the next row themselves, or end the branch
 pub data JumpOperation : Type 0 where

@@ -13,7 +13,7 @@ use Rattle.model.specs.Row.{Row}
 use Rattle.model.specs.IntMap.{Entry, _⇒_, get}
 use Rattle.model.specs.State.{Single, Record, RegDataType, Column, Int, MemoryState, fromDenseRecord, default, null, neverNull, mapToDatatype, mapToNullable, toNotNull, firstDatatype, eitherNullable}
 use Rattle.model.specs.Access.{_>>=_, countOf, readRegister, readColumns, storeRegister, updateRegister}
-use Rattle.model.specs.Table.{orElse}
+use Rattle.model.specs.TextTable.{orElse}
 use Rattle.model.specs.Functions.{FunctionValue, valueColumn, textOf, Aggregate, toInteger, toReal, toSum, toOtherRow, toOperand, aggregateOf, sumDatatype}
 use Rattle.model.specs.Meaning.{Meaning}
 use Rattle.model.specs.Offer.{turns}
