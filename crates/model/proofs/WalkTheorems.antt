@@ -4,11 +4,12 @@ use mathlib.Core.Bool.{Bool}
 use mathlib.Core.Option.{Option}
 use Prim.Native.Nat.{ℕ}
 use Rattle.model.specs.Walk.{Tried, Ways, Notes, answered, notesOf, walk}
-use Rattle.model.specs.WalkClaims.{Sound, RepeatsCounted, Quiet, Limits, TakenUp, Coverage}
+use Rattle.model.specs.WalkClaims.{Sound, RepeatsCounted, Quiet, Limits, TakenUp, Coverage, RunClaims}
 use Rattle.model.proofs.Limits.{paid, thrice}
 use Rattle.model.proofs.Chains.{chained}
 use Rattle.model.proofs.TakenUp.{all-taken}
 use Rattle.model.proofs.Cover.{covers}
+use Rattle.model.proofs.Runs.{run-add, run-all, paused-walk, ended-walk, paused-spent, ended-spent}
 
 module _
     {M R : Type 0}
@@ -44,3 +45,20 @@ module _
         Quiet n →
         Coverage rowOf ways fresh n
     coverage sound repeats = covers eq rowOf ways units sound fresh repeats gas space
+
+module _
+    {M R : Type 0}
+    (eq : M → M → Bool)
+    (rowOf : M → Option ℕ)
+    (ways : Bool → M → Tried (Ways M R))
+    (units : M → ℕ)
+  where
+    -- a walk can be paused and gone on with
+    pub runs : RunClaims eq rowOf ways units
+    runs =
+        record {
+          add = run-add eq rowOf ways units;
+          whole = run-all eq rowOf ways units;
+          pauses = λ budget gas gas′ f f′ e. (paused-spent eq rowOf ways units budget gas f e .0, paused-walk eq rowOf ways units budget gas f e);
+          ends = λ budget gas f w e. (ended-spent eq rowOf ways units budget gas f e, ended-walk eq rowOf ways units budget gas f e);
+        }

@@ -6,7 +6,7 @@ use mathlib.Core.Bool.{Bool, true, false}
 use mathlib.Core.Option.{Option, some}
 use mathlib.Core.List.{[], _∷_}
 use Prim.Native.Nat.{ℕ, _+_, _≤_, _<_}
-use Rattle.model.specs.Walk.{_∈_, times, count, Tried, done, Ways, Lineage, mems, Notes}
+use Rattle.model.specs.Walk.{_∈_, times, count, Tried, done, Ways, Lineage, mems, Notes, Walked, notesOf, Front, notesAt, paused, ended, walkOn, run, resume}
 use Rattle.model.specs.Steps.{Reach, Offering, Result, Chain}
 
 -- an equality test that says true only of equal states
@@ -72,3 +72,27 @@ pub record Everywhere {M R : Type 0} (S : M → Type 0) (n : Notes M R) : Type 0
   pub handled : (m : M) → m ∈ mems (n .handled) → S m
   pub remembered : (m : M) → m ∈ n .remembered → S m
   pub taken : (m : M) → m ∈ n .taken → S m
+
+-- runs with a budget, from any place of a walk
+pub record RunClaims
+    {M R : Type 0}
+    (eq : M → M → Bool)
+    (rowOf : M → Option ℕ)
+    (ways : Bool → M → Tried (Ways M R))
+    (units : M → ℕ)
+    : Type 0
+  where
+    -- a run of a + b is a run of a and, if that paused, one of b from there
+    pub add : (a b gas : ℕ) (f : Front M R) → run eq rowOf ways units (a + b) gas f ≡ resume eq rowOf ways units b (run eq rowOf ways units a gas f)
+    -- a run with all the gas as its budget is the whole walk
+    pub whole : (budget gas : ℕ) (f : Front M R) → gas ≤ budget → run eq rowOf ways units budget gas f ≡ ended (walkOn eq rowOf ways units gas f)
+    -- a run that paused has charged its budget, and the walk goes on from there as if it had not
+    pub pauses :
+        (budget gas gas′ : ℕ) (f f′ : Front M R) →
+        run eq rowOf ways units budget gas f ≡ paused gas′ f′ →
+        (notesAt f′ .charged ≡ notesAt f .charged + budget) × (walkOn eq rowOf ways units gas′ f′ ≡ walkOn eq rowOf ways units gas f)
+    -- a run that ended has charged no more than its budget, and gave what the walk gives
+    pub ends :
+        (budget gas : ℕ) (f : Front M R) (w : Walked M R) →
+        run eq rowOf ways units budget gas f ≡ ended w →
+        (notesOf w .charged ≤ notesAt f .charged + budget) × (w ≡ walkOn eq rowOf ways units gas f)
