@@ -1,0 +1,4 @@
+pub mod WordLaws
+pub mod CellLaws
+pub mod MoveLaws
+pub mod CountLaws

@@ -1,0 +1,4 @@
+pub mod Words
+pub mod Cells
+pub mod Moves
+pub mod Counts
