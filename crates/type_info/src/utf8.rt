@@ -381,7 +381,8 @@ pub fn is_utf8(s: &[u8]) -> bool
     state == 0
 }
 
-fn wide(b: u8) -> usize
+// A byte as an index or a length.
+pub fn wide(b: u8) -> usize
     ensures { λ r. ⌜ r ≡ b ⌝ }
 {
     b as usize

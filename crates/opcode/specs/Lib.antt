@@ -1,0 +1,3 @@
+pub mod Lookup
+pub mod Opcode
+pub mod P4
