@@ -1,0 +1,14 @@
+pub mod Packing
+pub mod MapRuns
+pub mod StateRuns
+pub mod Lengths
+pub mod Standing
+pub mod Nesting
+pub mod Dense
+pub mod Heads
+pub mod InPlace
+pub mod Injective
+pub mod Reading
+pub mod Numbers
+pub mod Held
+pub mod Samples

@@ -1,0 +1,4 @@
+pub mod Encode
+pub mod Decode
+pub mod Heads
+pub mod Holds

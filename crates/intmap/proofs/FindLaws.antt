@@ -1,0 +1,72 @@
+-- The laws of a search: what each turn of its loop leaves, and where what it finds lies. Assumes nothing.
+use mathlib.Core.Path.{_≡_, refl}
+use mathlib.Core.List.{List}
+use mathlib.Core.Bool.{Bool, true, false, false≢true}
+use Prim.Native.Nat.{ℕ, zero, suc, _+_, _-_, _<_, _≤_}
+use native.Mathlib.Omega.{arith}
+use lib.ListN.{getD}
+use lib.Dec.{eqb, ltb}
+use borrow.Author.Tests.{lt-ltb, le-ltb}
+use Rattle.area.specs.Cells.{blank}
+use Rattle.area.specs.declared.Cell.{Cell}
+use Rattle.intmap.specs.Pack.{keyOf}
+use Rattle.intmap.specs.Pick.{pick}
+use Rattle.intmap.specs.Runs.{size, sizes}
+use Rattle.intmap.specs.Find.{place, seek}
+use Rattle.intmap.specs.declared.Found.{Found}
+
+module _ (cs : List Cell) (d key : ℕ) where
+  pub seek-end : (n at : ℕ) → n ≤ 0 → place at 0 false ≡ seek cs d key n at
+  unfolding seek
+  seek-end zero at h = refl
+  seek-end (suc n) at h = absurd (omega arith)
+
+  pub seek-here : (n at : ℕ) (x : Cell) → 0 < n → x ≡ getD cs at blank → key ≤ keyOf x → place at n (eqb (keyOf x) key) ≡ seek cs d key n at
+  unfolding seek
+  seek-here zero at x lt e h = absurd (omega arith)
+  seek-here (suc n) at x lt e h = rw (← e, le-ltb (keyOf x) key h)
+
+  pub seek-on : (n at r : ℕ) (x : Cell) → 0 < n → x ≡ getD cs at blank → keyOf x < key → r ≡ size cs d at → seek cs d key (n - 1) (at + r) ≡ seek cs d key n at
+  unfolding seek
+  seek-on zero at r x lt e h g = absurd (omega arith)
+  seek-on (suc n) at r x lt e h g = let z : suc n - 1 ≡ n = omega arith in rw (z, g, ← e, lt-ltb (keyOf x) key h)
+
+module _ (cs : List Cell) (d key : ℕ) where
+  pub seek-from : (n p : ℕ) → p ≤ seek cs d key n p .at
+  unfolding seek
+  seek-from zero p = omega arith
+  seek-from (suc n) p = go (ltb (keyOf (getD cs p blank)) key) (seek-from n (p + size cs d p))
+    where
+      go : (t : Bool) → p + size cs d p ≤ seek cs d key n (p + size cs d p) .at → p ≤ pick t (seek cs d key n (p + size cs d p)) (place p (suc n) (eqb (keyOf (getD cs p blank)) key)) .at
+      go true ih = omega arith
+      go false ih = omega arith
+
+  pub seek-upto : (n p : ℕ) → seek cs d key n p .at ≤ p + sizes (size cs d) n p
+  unfolding seek sizes
+  seek-upto zero p = omega arith
+  seek-upto (suc n) p = go (ltb (keyOf (getD cs p blank)) key) (seek-upto n (p + size cs d p))
+    where
+      go : (t : Bool) → seek cs d key n (p + size cs d p) .at ≤ p + size cs d p + sizes (size cs d) n (p + size cs d p) → pick t (seek cs d key n (p + size cs d p)) (place p (suc n) (eqb (keyOf (getD cs p blank)) key)) .at ≤ p + (size cs d p + sizes (size cs d) n (p + size cs d p))
+      go true ih = omega arith
+      go false ih = omega arith
+
+  pub seek-whole : (n p : ℕ) → seek cs d key n p .present ≡ true → seek cs d key n p .at + size cs d (seek cs d key n p .at) ≤ p + sizes (size cs d) n p
+  unfolding seek sizes
+  seek-whole zero p h = absurd (false≢true h)
+  seek-whole (suc n) p h = go (ltb (keyOf (getD cs p blank)) key) h (seek-whole n (p + size cs d p))
+    where
+      go : (t : Bool) → pick t (seek cs d key n (p + size cs d p)) (place p (suc n) (eqb (keyOf (getD cs p blank)) key)) .present ≡ true → (seek cs d key n (p + size cs d p) .present ≡ true → seek cs d key n (p + size cs d p) .at + size cs d (seek cs d key n (p + size cs d p) .at) ≤ p + size cs d p + sizes (size cs d) n (p + size cs d p)) → pick t (seek cs d key n (p + size cs d p)) (place p (suc n) (eqb (keyOf (getD cs p blank)) key)) .at + size cs d (pick t (seek cs d key n (p + size cs d p)) (place p (suc n) (eqb (keyOf (getD cs p blank)) key)) .at) ≤ p + (size cs d p + sizes (size cs d) n (p + size cs d p))
+      go true h ih = omega (arith, ih h)
+      go false h ih = omega arith
+
+pub seek-pos : (cs : List Cell) (d key n p : ℕ) → seek cs d key n p .present ≡ true → 0 < n
+unfolding seek
+seek-pos cs d key zero p h = absurd (false≢true h)
+seek-pos cs d key (suc n) p h = omega arith
+
+-- where what was found lies
+pub found-within : (cs : List Cell) (d key n p : ℕ) (w : Found) → w ≡ seek cs d key n p → (p ≤ w .at) × (w .at ≤ p + sizes (size cs d) n p)
+found-within cs d key n p w e = rw e (seek-from cs d key n p, seek-upto cs d key n p)
+
+pub found-whole : (cs : List Cell) (d key n p : ℕ) (w : Found) → w ≡ seek cs d key n p → w .present ≡ true → w .at + size cs d (w .at) ≤ p + sizes (size cs d) n p
+found-whole cs d key n p w e h = rw e (seek-whole cs d key n p (rw e at h))

@@ -1,0 +1,14 @@
+pub mod RunLaws
+pub mod DepthLaws
+pub mod SameCells
+pub mod FindLaws
+pub mod EntryLaws
+pub mod SwapLaws
+pub mod Swapped
+pub mod StoreLaws
+pub mod MapLaws
+pub mod SignedLaws
+pub mod GetLaws
+pub mod EqualLaws
+pub mod PackLaws
+pub mod ChangeLaws

@@ -1,0 +1,12 @@
+pub mod Pick
+pub mod Pack
+pub mod Runs
+pub mod Depth
+pub mod Find
+pub mod Entries
+pub mod Swap
+pub mod Map
+pub mod Store
+pub mod Signed
+pub mod Get
+pub mod Change

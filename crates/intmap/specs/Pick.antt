@@ -1,0 +1,6 @@
+-- One of two values, by a test. Assumes nothing.
+use mathlib.Core.Bool.{Bool, true, false}
+
+abbrev pub pick : {A : Type 0} → Bool → A → A → A
+pick true a b = a
+pick false a b = b

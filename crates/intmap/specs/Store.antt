@@ -1,0 +1,97 @@
+-- An entry stored under its key, within a limit of cells, and one taken out. 01, "Walk, refusals in order": 8 is for "a store that makes a
+-- state of more than 512 cells"; here the limit is a number that is given. Assumes nothing.
+use mathlib.Core.Path.{_≡_}
+use mathlib.Core.List.{List, [], _∷_}
+use Prim.Native.Nat.{ℕ, _+_, _-_, _<_, _≤_}
+use lib.ListN.{length}
+use lib.Dec.{leb}
+use Rattle.model.specs.Walk.{Tried, refused, done}
+use Rattle.area.specs.Moves.{moved}
+use Rattle.area.specs.declared.Cell.{Cell}
+use Rattle.intmap.specs.Pick.{pick}
+use Rattle.intmap.specs.Runs.{size}
+use Rattle.intmap.specs.Entries.{Runs, keyRun, total}
+use Rattle.intmap.specs.Swap.{swap}
+use Rattle.intmap.specs.Map.{levels, runsAt, HasRoom, Frame}
+use Rattle.intmap.specs.declared.Found.{Found}
+use Rattle.intmap.specs.declared.IntMap.{IntMap}
+use Rattle.intmap.specs.declared.Place.{Place}
+use Rattle.intmap.specs.declared.Place.the-variants as place
+use Rattle.intmap.specs.declared.Insertion.{Insertion}
+use Rattle.intmap.specs.declared.Insertion.the-variants as insertion
+
+-- ---- room for n cells in the place of `old` at `at`, with k entries then
+
+-- there is none, and nothing has changed
+pub record NoRoom (cs ds : List Cell) (limit : ℕ) (m : IntMap) (old n : ℕ) : Type 0 where
+  pub over : limit < m .used - old + n
+  pub same : ds ≡ cs
+
+-- the room is at p: what comes after has moved
+pub record Opened (cs ds : List Cell) (limit : ℕ) (m : IntMap) (at old n k p : ℕ) (r : IntMap) : Type 0 where
+  pub here : p ≡ at
+  pub base : r .base ≡ m .base
+  pub len : r .len ≡ k
+  pub used : r .used ≡ m .used - old + n
+  pub most : r .used ≤ limit
+  pub cells : ds ≡ moved cs (at + old) (at + n) (m .base + m .used - at - old)
+  pub long : length ds ≡ length cs
+
+abbrev pub RoomMade : List Cell → List Cell → ℕ → IntMap → ℕ → ℕ → ℕ → ℕ → Place → Type 0
+RoomMade cs ds limit m at old n k place.Full = NoRoom cs ds limit m old n
+RoomMade cs ds limit m at old n k (place.At p r) = Opened cs ds limit m at old n k p r
+
+-- the cells of the entry that a search found, and the entries with one in its place
+abbrev pub oldCells : List Cell → Found → ℕ
+oldCells cs w = pick (w .present) (size cs levels (w .at)) 0
+
+abbrev pub newLen : ℕ → Found → ℕ
+newLen n w = pick (w .present) n (n + 1)
+
+-- room for n cells where a search led
+abbrev pub Opens : List Cell → List Cell → ℕ → IntMap → Found → ℕ → Place → Type 0
+Opens cs ds limit m w n p = RoomMade cs ds limit m (w .at) (oldCells cs w) n (newLen (m .len) w) p
+
+-- ---- an entry stored
+
+-- the entries with a run under its own key
+abbrev pub put : List Cell → Runs → Runs
+put run es = swap (keyRun run) (run ∷ []) es
+
+-- at most `limit` cells, or refusal 8
+abbrev pub judgeRuns : ℕ → Runs → Tried Runs
+judgeRuns limit es = pick (leb (total es) limit) (done es) (refused 8)
+
+-- the answer: 01's number, or the entries that the area then has
+abbrev pub answerOf : List Cell → Insertion → Tried Runs
+answerOf ds insertion.Full = refused 8
+answerOf ds (insertion.Done r) = done (runsAt ds r)
+
+-- a refused store changes nothing, and one that is done leaves a map at the same place
+pub record Next (ds : List Cell) (limit : ℕ) (m r : IntMap) : Type 0 where
+  pub base : r .base ≡ m .base
+  pub room : HasRoom ds limit r
+
+abbrev pub Leaves : List Cell → List Cell → ℕ → IntMap → Insertion → Type 0
+Leaves cs ds limit m insertion.Full = ds ≡ cs
+Leaves cs ds limit m (insertion.Done r) = Next ds limit m r
+
+pub record Inserts (cs ds : List Cell) (limit : ℕ) (m : IntMap) (run : List Cell) (r : Insertion) : Type 0 where
+  pub answer : answerOf ds r ≡ judgeRuns limit (put run (runsAt cs m))
+  pub leaves : Leaves cs ds limit m r
+  pub frame : Frame cs ds (m .base) limit
+
+-- a run of n cells above the map's room
+pub record RunAbove (cs : List Cell) (limit : ℕ) (m : IntMap) (from n : ℕ) : Type 0 where
+  pub whole : n ≡ size cs levels from
+  pub above : m .base + limit ≤ from
+  pub fits : from + n ≤ length cs
+
+-- ---- an entry taken out
+
+pub record Removes (cs ds : List Cell) (m : IntMap) (key : ℕ) (r : IntMap) : Type 0 where
+  pub runs : runsAt ds r ≡ swap key [] (runsAt cs m)
+  pub base : r .base ≡ m .base
+  pub used : r .used ≡ total (swap key [] (runsAt cs m))
+  pub fewer : r .used ≤ m .used
+  pub frame : Frame cs ds (m .base) (m .used)
