@@ -11,4 +11,9 @@ pub mod Injective
 pub mod Reading
 pub mod Numbers
 pub mod Held
+pub mod Accesses
+pub mod HeldAfter
+pub mod HeldRead
+pub mod Replaced
+pub mod HeldInPlace
 pub mod Samples

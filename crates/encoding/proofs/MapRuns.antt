@@ -2,13 +2,14 @@
 -- type with a run under each key, and for any class. Assumes nothing.
 use mathlib.Core.Path.{_≡_, refl, sym, ap, ap₂, _∙_}
 use mathlib.Core.Bool.{Bool, true, false}
-use mathlib.Core.Option.{none, some, Option·map, Option·none-ne-some, Option·some-injective}
+use mathlib.Core.Option.{Option, none, some, Option·map, Option·none-ne-some, Option·some-injective}
 use mathlib.Core.List.{List, [], _∷_}
 use Prim.Native.Nat.{ℕ, suc, _<_, _≤_, compare, Ordering, Ordering·lt, Ordering·eq, Ordering·gt}
 use native.Mathlib.Omega.{arith}
 use lib.Dec.{eqb, isLe, isEq}
 use borrow.Author.Tests.{leb-true, leb-false, eqb-true, eqb-false, eq-eqb, ne-eqb}
 use Rattle.model.specs.IntMap.{Entry, _⇒_, getIf, get, insertBy, insert, removeIf, remove, updateIf, update, Rising}
+use Rattle.model.specs.Good.{OnSome}
 use Rattle.area.specs.declared.Cell.{Cell}
 use Rattle.intmap.specs.Pack.{classKey}
 use Rattle.intmap.specs.Entries.{keyRun}
@@ -90,6 +91,23 @@ module _ {A : Type 0} (P : ℕ → A → Type 0) (k : ℕ) where
       by Ordering·gt c rest =
           let n : e .key ≡ k → ⊥ = omega (arith, compare-more k (e .key) c) in
           update-other k e es n f ∙ ap (λ l. e ∷ l) (rest (sym (get-other k e es n) ∙ g))
+
+  -- a change that leaves what is there as it is
+  update-none : (es : List (Entry A)) → update k (λ v. v) es ≡ es
+  unfolding update
+  update-none [] = refl
+  update-none (e ∷ es) = ap₂ (λ v l. e .key ⇒ v ∷ l) (by (eqb (e .key) k)) (update-none es)
+    where
+      by : (b : Bool) → updateIf b (λ v. v) (e .value) ≡ e .value
+      by true = refl
+      by false = refl
+
+  pub update-fixed : (f : A → A) (low : ℕ) (es : List (Entry A)) → Rising P low es → OnSome (λ v. f v ≡ v) (get k es) → update k f es ≡ es
+  update-fixed f low es s h = by (get k es) refl h
+    where
+      by : (o : Option A) → get k es ≡ o → OnSome (λ v. f v ≡ v) o → update k f es ≡ es
+      by none g h = update-absent f es g
+      by (some v) g h = update-present f v low es s g ∙ ap (λ x. insert k x es) h ∙ sym (update-present (λ v. v) v low es s g) ∙ update-none es
 
 module _ {A : Type 0} (run : ℕ → A → List Cell) (keyed : (key : ℕ) (v : A) → keyRun (run key v) ≡ key) (class : ℕ) where
   -- an entry's run, and its key

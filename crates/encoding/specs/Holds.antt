@@ -4,6 +4,7 @@ use mathlib.Core.Path.{_≡_}
 use mathlib.Core.List.{List}
 use Prim.Native.Nat.{ℕ, _≤_}
 use lib.ListN.{length}
+use Rattle.model.specs.Walk.{Tried, done}
 use Rattle.model.specs.IntMap.{Rising}
 use Rattle.model.specs.State.{RegDataType, Column, Int, CursorDataType, Normal, Pseudo, MemoryState}
 use Rattle.model.specs.Good.{Good}
@@ -39,3 +40,9 @@ pub record Holds (limit bound : ℕ) (cs : List Cell) (base len used : ℕ) (m :
   pub takes : used ≡ sizes (size cs 9) len base
   pub good : Good limit m
   pub small : SmallNumbers bound m
+
+-- these cells hold the state that was answered
+pub record HeldNext (limit bound : ℕ) (ds : List Cell) (base len used : ℕ) (t : Tried MemoryState) : Type 0 where
+  pub state : MemoryState
+  pub answer : t ≡ done state
+  pub holds : Holds limit bound ds base len used state

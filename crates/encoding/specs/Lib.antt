@@ -2,3 +2,4 @@ pub mod Encode
 pub mod Decode
 pub mod Heads
 pub mod Holds
+pub mod Access

@@ -12,13 +12,13 @@ use Rattle.area.specs.Cells.{blank}
 use Rattle.area.specs.declared.Cell.{Cell}
 use Rattle.intmap.specs.Pack.{tagOf, withKey}
 use Rattle.intmap.specs.Runs.{size, sizes, whole, Agree}
-use Rattle.intmap.specs.Entries.{Runs, span, entries, total}
+use Rattle.intmap.specs.Entries.{Runs, span, entries, keyRun, total}
 use Rattle.intmap.specs.Map.{Frame}
 use Rattle.intmap.specs.Change.{elems, rekey, rekeyed, FromElem, FromDense}
 use Rattle.intmap.proofs.RunLaws.{size-pos, size-single, sizes-step}
 use Rattle.intmap.proofs.SameCells.{size-same, sizes-same}
 use Rattle.intmap.proofs.EntryLaws.{span-same, entries-same, total-sizes}
-use Rattle.intmap.proofs.PackLaws.{keyed-tag}
+use Rattle.intmap.proofs.PackLaws.{keyed-tag, keyed-key}
 
 -- ---- n times a cell
 
@@ -102,10 +102,10 @@ module _ (cs ds : List Cell) (p : ℕ) (f : (j : ℕ) → p < j → getD ds j bl
 
 -- one column under another key
 module _ (cs : List Cell) (d k p : ℕ) where
-  abbrev with : List Cell
+  abbrev pub with : List Cell
   with = set cs p (withKey k (getD cs p blank))
 
-  with-other : (j : ℕ) → (j ≡ p → ⊥) → getD with j blank ≡ getD cs j blank
+  pub with-other : (j : ℕ) → (j ≡ p → ⊥) → getD with j blank ≡ getD cs j blank
   with-other j ne = getD-set-other cs p j (withKey k (getD cs p blank)) blank ne
 
   -- what comes after it is as it was
@@ -122,10 +122,10 @@ module _ (cs : List Cell) (d k p : ℕ) where
     with-here : getD with p blank ≡ withKey k (getD cs p blank)
     with-here = getD-set-same cs p (withKey k (getD cs p blank)) blank fits
 
-    with-size : size with d p ≡ size cs d p
+    pub with-size : size with d p ≡ size cs d p
     with-size = size-head cs with p (λ j lt. with-other j (omega arith)) d (ap tagOf with-here ∙ keyed-tag k (getD cs p blank)) (ap (λ (c : Cell). c .payload) with-here)
 
-    with-span : (n : ℕ) → 0 < n → span with p n ≡ rekey k (span cs p n)
+    pub with-span : (n : ℕ) → 0 < n → span with p n ≡ rekey k (span cs p n)
     unfolding span
     with-span zero lt = absurd (omega arith)
     with-span (suc n) lt = ap₂ (λ (c : Cell) (l : List Cell). c ∷ l) with-here (span-same cs with n (p + 1) (p + 1) (λ j h. with-other (p + 1 + j) (omega arith)))
@@ -194,9 +194,14 @@ renumber-done cs ds d n at zero p k fits le e =
 renumber-done cs ds d n at (suc left) p k fits le e = absurd (omega arith)
 
 -- runs under other keys have as many cells
-rekey-long : (k : ℕ) (r : List Cell) → length (rekey k r) ≡ length r
+pub rekey-long : (k : ℕ) (r : List Cell) → length (rekey k r) ≡ length r
 rekey-long k [] = refl
 rekey-long k (c ∷ r) = refl
+
+pub key-rekey : (k : ℕ) (r : List Cell) → 0 < length r → keyRun (rekey k r) ≡ k
+unfolding keyRun
+key-rekey k [] lt = absurd (omega arith)
+key-rekey k (c ∷ r) lt = keyed-key k c
 
 pub total-rekeyed : (k : ℕ) (rs : Runs) → total (rekeyed k rs) ≡ total rs
 unfolding total rekeyed

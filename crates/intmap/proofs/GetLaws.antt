@@ -11,7 +11,7 @@ use Rattle.intmap.specs.Swap.{lookup}
 use Rattle.intmap.specs.Find.{seek}
 use Rattle.intmap.specs.Map.{levels, runsAt, IsMap}
 use Rattle.intmap.specs.Signed.{intOf}
-use Rattle.intmap.specs.Get.{indexOf, Gets}
+use Rattle.intmap.specs.Get.{indexOf, readRuns, Gets}
 use Rattle.intmap.specs.declared.Found.{Found}
 use Rattle.intmap.specs.declared.IntMap.{IntMap}
 use Rattle.intmap.specs.declared.Index.{Index}
@@ -22,7 +22,8 @@ use Rattle.intmap.proofs.StoreLaws.{found-in, found-all}
 
 module _ (cs : List Cell) (m : IntMap) (class i : ℕ) (x : Index) (ix : indexOf x ≡ index (intOf i)) where
   -- what is looked up, once the index is known
-  looked : (t : Tried ℕ) → indexOf x ≡ t → (t >>= λ k. done (lookup (classKey class k) (runsAt cs m))) ≡ (index (intOf i) >>= λ k. done (lookup (classKey class k) (runsAt cs m)))
+  looked : (t : Tried ℕ) → indexOf x ≡ t → (t >>= λ k. done (lookup (classKey class k) (runsAt cs m))) ≡ readRuns class (intOf i) (runsAt cs m)
+  unfolding readRuns
   looked t e = ap (λ (y : Tried ℕ). y >>= λ k. done (lookup (classKey class k) (runsAt cs m))) (sym e ∙ ix)
 
   pub get-bad : (n : ℕ) → x ≡ index-is.Bad n → Gets cs m class i (slot.Bad n)

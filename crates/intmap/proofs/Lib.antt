@@ -9,6 +9,7 @@ pub mod StoreLaws
 pub mod MapLaws
 pub mod SignedLaws
 pub mod GetLaws
+pub mod JudgedLaws
 pub mod EqualLaws
 pub mod PackLaws
 pub mod ChangeLaws

@@ -1,6 +1,6 @@
 -- The laws of a store and a removal, from the cells that they leave behind: what `swap` makes of the map's entries is what the area then has.
 -- Below, m is the map, w what a search for the key found, and n the number of new cells. Assumes nothing.
-use mathlib.Core.Path.{_≡_, refl, sym, ap, subst, _∙_}
+use mathlib.Core.Path.{_≡_, refl, sym, ap, ap₂, subst, _∙_}
 use mathlib.Core.List.{List, [], _∷_, _++_}
 use mathlib.Core.Bool.{Bool, true, false}
 use Prim.Native.Nat.{ℕ, suc, _+_, _-_, _<_, _≤_}
@@ -13,13 +13,14 @@ use Rattle.area.specs.Cells.{blank}
 use Rattle.area.specs.Moves.{moved}
 use Rattle.area.specs.declared.Cell.{Cell}
 use Rattle.area.proofs.MoveLaws.{moved-below, moved-above, moved-in, length-moved}
-use Rattle.intmap.specs.Pack.{tagOf, keyOf}
+use Rattle.intmap.specs.Pack.{tagOf, withKey}
 use Rattle.intmap.specs.Pick.{pick}
 use Rattle.intmap.specs.Runs.{size, sizes, Agree}
 use Rattle.intmap.specs.Find.{seek}
 use Rattle.intmap.specs.Entries.{Runs, span, entries, keyRun, total}
 use Rattle.intmap.specs.Swap.{swap, lookup}
 use Rattle.intmap.specs.Map.{levels, runsAt, IsMap, HasRoom, Frame}
+use Rattle.intmap.specs.Change.{rekey}
 use Rattle.intmap.specs.Store.{RoomMade, oldCells, newLen, Opens, put, Inserts, RunAbove, Removes}
 use Rattle.intmap.specs.declared.Found.{Found}
 use Rattle.intmap.specs.declared.IntMap.{IntMap}
@@ -29,8 +30,9 @@ use Rattle.intmap.specs.declared.Insertion.the-variants as insertion
 use Rattle.intmap.proofs.RunLaws.{size-pos, size-single}
 use Rattle.intmap.proofs.SameCells.{size-same}
 use Rattle.intmap.proofs.FindLaws.{seek-pos, found-within, found-whole}
-use Rattle.intmap.proofs.EntryLaws.{key-span, span-same, length-span, total-sizes, entries-few}
+use Rattle.intmap.proofs.EntryLaws.{span-same, length-span, total-sizes, entries-few}
 use Rattle.intmap.proofs.SwapLaws.{cellsOf, total-swap}
+use Rattle.intmap.proofs.ChangeLaws.{with, with-other, with-size, with-span, rekey-long, key-rekey}
 use Rattle.intmap.proofs.Swapped.{seek-some, seek-none, swapped-new, swapped-old}
 
 pub room-map : {cs : List Cell} {limit : ℕ} {m : IntMap} → HasRoom cs limit m → IsMap cs m
@@ -114,7 +116,7 @@ module _ (cs ds : List Cell) (limit : ℕ) (m : IntMap) (w v : Found) (n : ℕ) 
       subst (λ (x : Found). Opens cs ds limit m x n r) we
       (subst (λ (x : ℕ). RoomMade cs ds limit m (w .at) x n (newLen (m .len) w) r) o (subst (λ (x : ℕ). RoomMade cs ds limit m (w .at) 0 n x r) k t))
 
-frame-same : (cs ds : List Cell) (base n : ℕ) → ds ≡ cs → Frame cs ds base n
+pub frame-same : (cs ds : List Cell) (base n : ℕ) → ds ≡ cs → Frame cs ds base n
 frame-same cs ds base n e = record { long = ap length e; below = λ j lt. ap (λ (l : List Cell). getD l j blank) e; above = λ j le. ap (λ (l : List Cell). getD l j blank) e }
 
 -- ---- a run stored: p is the answer of `open`, ds the cells that it leaves
@@ -211,19 +213,22 @@ module _ (cs ds : List Cell) (limit : ℕ) (m : IntMap) (c : Cell) (key : ℕ) (
         (λ j le. other j (omega arith))
         (rw w (length-set ds at c))
 
--- a run has its head, whose key it has
+-- a run has its head, and under a key it is as long and has that key
 module _ (cs : List Cell) (limit : ℕ) (m : IntMap) (from n : ℕ) (run : RunAbove cs limit m from n) where
   pub run-pos : 0 < n
   run-pos = omega (arith, run .whole, size-pos cs levels from)
 
-  pub run-key : (c : Cell) (key : ℕ) → c ≡ getD cs from blank → key ≡ keyOf c → keyRun (span cs from n) ≡ key
-  run-key c key e k = key-span cs from n run-pos ∙ ap keyOf (sym e) ∙ sym k
+  run-key : (key : ℕ) → keyRun (rekey key (span cs from n)) ≡ key
+  run-key key = key-rekey key (span cs from n) (omega (arith, length-span cs from n, run-pos))
 
-module _ (cs ds : List Cell) (limit : ℕ) (m : IntMap) (from n key : ℕ) (p : Place) (has : HasRoom cs limit m) (run : RunAbove cs limit m from n) (k : keyRun (span cs from n) ≡ key)
+  run-long : (key : ℕ) → length (rekey key (span cs from n)) ≡ n
+  run-long key = rekey-long key (span cs from n) ∙ length-span cs from n
+
+module _ (cs ds : List Cell) (limit : ℕ) (m : IntMap) (key from n : ℕ) (p : Place) (has : HasRoom cs limit m) (run : RunAbove cs limit m from n)
     (o : Opens cs ds limit m (seek cs levels key (m .len) (m .base)) n p)
   where
-    pub run-full : p ≡ place.Full → Inserts cs ds limit m (span cs from n) insertion.Full
-    run-full e = stored-full cs ds limit m key n p has o (span cs from n) k (length-span cs from n) e
+    pub run-full : p ≡ place.Full → Inserts cs ds limit m (rekey key (span cs from n)) insertion.Full
+    run-full e = stored-full cs ds limit m key n p has o (rekey key (span cs from n)) (run-key cs limit m from n run key) (run-long cs limit m from n run key) e
 
     module _ (at : ℕ) (r : IntMap) (e : p ≡ place.At at r) where
       pub run-fits : (from + n ≤ length ds) × (at + n ≤ length ds) × (length ds ≤ 1048576)
@@ -241,16 +246,38 @@ module _ (cs ds : List Cell) (limit : ℕ) (m : IntMap) (from n key : ℕ) (p : 
           ap (λ (l : List Cell). getD l (from + j) blank) (t .cells)
           ∙ moved-above cs (W .at + oldCells cs W) (W .at + n) (m .base + m .used - W .at - oldCells cs W) (from + j) (omega (arith, f .0, f .1, t .most, t .used, old, run .above, has .most))
 
-      pub run-done : (es : List Cell) → es ≡ moved ds from at n → Inserts cs es limit m (span cs from n) (insertion.Done r)
+      -- the copy, before its head is written again
+      abbrev copy : List Cell
+      copy = moved ds from at n
+
+      copied : Agree cs from copy at n
+      copied j lt = moved-in ds from at n j (run-fits .1) lt ∙ kept-run j lt
+
+      copied-size : size copy levels at ≡ n
+      copied-size = size-same cs copy levels from at (λ j lt. copied j (omega (arith, run .whole))) ∙ sym (run .whole)
+
+      copied-fits : at < length copy
+      copied-fits = omega (arith, length-moved ds from at n, run-fits .1, run-pos cs limit m from n run)
+
+      copied-head : getD copy at blank ≡ getD cs from blank
+      copied-head =
+          let x : at + 0 ≡ at = omega arith in
+          let y : from + 0 ≡ from = omega arith in
+          rw (x, y) at (copied 0 (run-pos cs limit m from n run))
+
+      pub run-done : (mid es : List Cell) (c h : Cell) → c ≡ getD cs from blank → mid ≡ copy → h ≡ withKey key c → es ≡ set mid at h → Inserts cs es limit m (rekey key (span cs from n)) (insertion.Done r)
       unfolding entries
-      run-done es w =
-          let a : Agree cs from es at n = λ j lt. rw w (moved-in ds from at n j (run-fits .1) lt) ∙ kept-run j lt in
-          let sz : size es levels at ≡ n = size-same cs es levels from at (λ j lt. a j (omega (arith, run .whole))) ∙ sym (run .whole) in
-          stored-done cs ds limit m key n p has o es (span cs from n) at r k (length-span cs from n) e
-          (λ j lt. rw w (moved-below ds from at n j lt))
-          (λ j. let x : 1 + j ≡ suc j = omega arith in rw (x, sz) (ap (λ (l : List Cell). l ∷ entries es levels j (at + n)) (span-same cs es n from at a)))
-          (λ j le. rw w (moved-above ds from at n j le))
-          (rw w (length-moved ds from at n))
+      run-done mid es c h ce me he w =
+          let pos = run-pos cs limit m from n run in
+          let is : es ≡ with copy levels key at = w ∙ ap₂ (λ (l : List Cell) (x : Cell). set l at x) me (he ∙ ap (withKey key) (ce ∙ sym copied-head)) in
+          let sz : size es levels at ≡ n = ap (λ (l : List Cell). size l levels at) is ∙ with-size copy levels key at copied-fits ∙ copied-size in
+          let same : span es at n ≡ rekey key (span cs from n) = ap (λ (l : List Cell). span l at n) is ∙ with-span copy levels key at copied-fits n pos ∙ ap (rekey key) (span-same cs copy n from at copied) in
+          let other : (j : ℕ) → (j ≡ at → ⊥) → getD es j blank ≡ getD copy j blank = λ j ne. ap (λ (l : List Cell). getD l j blank) is ∙ with-other copy levels key at j ne in
+          stored-done cs ds limit m key n p has o es (rekey key (span cs from n)) at r (run-key cs limit m from n run key) (run-long cs limit m from n run key) e
+          (λ j lt. other j (omega arith) ∙ moved-below ds from at n j lt)
+          (λ j. let x : 1 + j ≡ suc j = omega arith in rw (x, sz) (ap (λ (l : List Cell). l ∷ entries es levels j (at + n)) same))
+          (λ j le. other j (omega (arith, pos)) ∙ moved-above ds from at n j le)
+          (ap length is ∙ length-set copy at (withKey key (getD copy at blank)) ∙ length-moved ds from at n)
 
 -- ---- an entry taken out
 module _ (cs : List Cell) (m : IntMap) (key : ℕ) (w : Found) (is : IsMap cs m) (we : w ≡ seek cs levels key (m .len) (m .base)) where

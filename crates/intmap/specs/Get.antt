@@ -4,12 +4,13 @@ use mathlib.Core.Path.{_≡_}
 use mathlib.Core.List.{List}
 use mathlib.Core.Option.{Option, none, some}
 use Prim.Native.Nat.{ℕ, _+_, _≤_}
+use lib.IntN.{ℤ}
 use Rattle.model.specs.Walk.{Tried, refused, done}
 use Rattle.model.specs.Access.{index, _>>=_}
 use Rattle.area.specs.declared.Cell.{Cell}
 use Rattle.intmap.specs.Pack.{classKey}
 use Rattle.intmap.specs.Runs.{size}
-use Rattle.intmap.specs.Entries.{span}
+use Rattle.intmap.specs.Entries.{Runs, span}
 use Rattle.intmap.specs.Swap.{lookup}
 use Rattle.intmap.specs.Map.{levels, runsAt}
 use Rattle.intmap.specs.Signed.{intOf}
@@ -32,6 +33,10 @@ pub record Judges (i : ℕ) (r : Index) : Type 0 where
   pub answer : indexOf r ≡ index (intOf i)
   pub small : Within r
 
+-- the entry of an index in a class, which is judged first
+unfoldable pub readRuns : ℕ → ℤ → Runs → Tried (Option (List Cell))
+readRuns class i es = index i >>= λ k. done (lookup (classKey class k) es)
+
 -- the answer as 01 has it: a number, no entry, or the entry
 abbrev pub slotOf : List Cell → Slot → Tried (Option (List Cell))
 slotOf cs (slot.Bad n) = refused n
@@ -45,5 +50,5 @@ Inside cs m slot.Absent = Unit {0}
 Inside cs m (slot.At p) = (m .base ≤ p) × (p + size cs levels p ≤ m .base + m .used)
 
 pub record Gets (cs : List Cell) (m : IntMap) (class i : ℕ) (r : Slot) : Type 0 where
-  pub answer : slotOf cs r ≡ index (intOf i) >>= λ k. done (lookup (classKey class k) (runsAt cs m))
+  pub answer : slotOf cs r ≡ readRuns class (intOf i) (runsAt cs m)
   pub place : Inside cs m r

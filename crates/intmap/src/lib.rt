@@ -9,9 +9,9 @@ ghost use Rattle.intmap.specs.Runs.{size, sizes, IsColumn, AreColumns, e
 ghost use Rattle.intmap.specs.Depth.{nesting};
 ghost use Rattle.intmap.specs.Find.{seek};
 ghost use Rattle.intmap.specs.Map.{levels, empty, IsMap, HasRoom, Compares, CopiedMap};
-ghost use Rattle.intmap.specs.Store.{RoomMade, Opens, Inserts, RunAbove, Removes};
+ghost use Rattle.intmap.specs.Store.{RoomMade, Opens, Inserts, RunAbove, Removes, asStored, Stores, RemovesAt};
 ghost use Rattle.intmap.specs.Get.{Judges, Gets};
-ghost use Rattle.intmap.specs.Change.{Writable, FromElem, FromDense};
+ghost use Rattle.intmap.specs.Change.{rekey, Writable, FromElem, FromDense};
 ghost use Rattle.intmap.specs.Entries.{span};
 ghost use mathlib.Core.List.{[], _∷_};
 
@@ -267,6 +267,12 @@ pub enum Insertion {
     Done(IntMap),
 }
 
+// What a store or a removal by an index gives: 01's number, or the map.
+pub enum Stored {
+    Refused(u64),
+    Done(IntMap),
+}
+
 // A map index, judged: 01's number, or the place in its class.
 pub enum Index {
     Bad(u64),
@@ -300,6 +306,16 @@ pub fn class_key(class: u64, index: u64) -> u64
     ensures { λ r. ⌜ r ≡ classKey class index ⌝ }
 {
     class * 65536 + index
+}
+
+// An insertion's answer with 01's number.
+fn as_stored(x: Insertion) -> Stored
+    ensures { λ r. ⌜ r ≡ asStored x ⌝ }
+{
+    match x {
+        Insertion::Full => Stored::Refused(8),
+        Insertion::Done(m) => Stored::Done(m),
+    }
 }
 
 impl IntMap {
@@ -394,17 +410,25 @@ impl IntMap {
         }
     }
 
-    // Puts the run of n cells at `from`, above the map's room, under its key.
-    pub fn insert_run(self, area: &mut [u8], from: usize, n: usize, limit: usize) -> Insertion
-        requires { ⌜ HasRoom (cells (now area)) limit self × RunAbove (cells (now area)) limit self from n ⌝ }
-        ensures { λ r. ⌜ Inserts (cells (now (area .entry))) (cells (now (area .exit))) limit self (span (cells (now (area .entry))) from n) r ⌝ }
+    // Puts the run of n cells at `from`, above the map's room, under a key. The run there keeps its own key.
+    pub fn insert_run(
+        self,
+        area: &mut [u8],
+        key: u64,
+        from: usize,
+        n: usize,
+        limit: usize,
+    ) -> Insertion
+        requires { ⌜ HasRoom (cells (now area)) limit self × RunAbove (cells (now area)) limit self from n × (key < 1099511627776) ⌝ }
+        ensures { λ r. ⌜ Inserts (cells (now (area .entry))) (cells (now (area .exit))) limit self (rekey key (span (cells (now (area .entry))) from n)) r ⌝ }
     {
         let c = area::cell_at(area, from);
-        let p = self.room_for(area, key_of(c), n, limit);
+        let p = self.room_for(area, key, n, limit);
         match p {
             Place::Full => Insertion::Full,
             Place::At(at, r) => {
                 area::move_cells(area, from, at, n);
+                area::put_cell(area, at, with_key(c, key));
                 Insertion::Done(r)
             }
         }
@@ -431,6 +455,51 @@ impl IntMap {
             };
         }
         self
+    }
+
+    // Stores a cell that is no record under index i of a class.
+    pub fn store_cell(self, area: &mut [u8], class: u64, i: u64, c: Cell, limit: usize) -> Stored
+        requires { ⌜ HasRoom (cells (now area)) limit self × (class < 3) × (tagOf c ≡ 2 → ⊥) ⌝ }
+        ensures { λ r. ⌜ Stores (cells (now (area .entry))) (cells (now (area .exit))) limit self class i 0 (c ∷ []) r ⌝ }
+    {
+        let x = judge_index(i);
+        match x {
+            Index::Bad(n) => Stored::Refused(n),
+            Index::At(k) => {
+                let keyed = with_key(c, class_key(class, k));
+                as_stored(self.insert_cell(area, keyed, limit))
+            }
+        }
+    }
+
+    // Stores the run at `from`, above the map's room, under index i of a class. Its depth is judged before its cells.
+    pub fn store_run(self, area: &mut [u8], class: u64, i: u64, from: usize, limit: usize) -> Stored
+        requires { ⌜ HasRoom (cells (now area)) limit self × (class < 3) × RunAbove (cells (now area)) limit self from (size (cells (now area)) levels from) ⌝ }
+        ensures { λ r. ⌜ Stores (cells (now (area .entry))) (cells (now (area .exit))) limit self class i (nesting (cells (now (area .entry))) levels from) (span (cells (now (area .entry))) from (size (cells (now (area .entry))) levels from)) r ⌝ }
+    {
+        let x = judge_index(i);
+        match x {
+            Index::Bad(n) => Stored::Refused(n),
+            Index::At(k) => {
+                if 8 < depth_of(area, from, LEVELS) {
+                    return Stored::Refused(9);
+                }
+                let n = count(area, from, LEVELS);
+                as_stored(self.insert_run(area, class_key(class, k), from, n, limit))
+            }
+        }
+    }
+
+    // Takes the entry of index i in a class out.
+    pub fn remove_at(self, area: &mut [u8], class: u64, i: u64) -> Stored
+        requires { ⌜ IsMap (cells (now area)) self × (class < 3) ⌝ }
+        ensures { λ r. ⌜ RemovesAt (cells (now (area .entry))) (cells (now (area .exit))) self class i r ⌝ }
+    {
+        let x = judge_index(i);
+        match x {
+            Index::Bad(n) => Stored::Refused(n),
+            Index::At(k) => Stored::Done(self.remove(area, class_key(class, k))),
+        }
     }
 
     // Whether two maps have the same entries.

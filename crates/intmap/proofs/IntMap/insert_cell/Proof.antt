@@ -21,22 +21,34 @@ enum-known-p : tie.Need-enum-known-p
 enum-known-p c = search needs
 
 put-cell-requires : tie.Need-put-cell-requires
-put-cell-requires c κs = let t = opened-in (cells (c .before .before .before .before .before .before .before .before .before .before .args .area .now)) (cells (c .before .before .before .before .before .before .room-for .last .1 .0)) (c .before .before .before .before .before .before .before .before .before .before .args .limit) (c .before .before .before .before .before .before .before .before .before .before .args .self) _ 1 (c .before .before .before .before .before .before .room-for .result) (c .before .before .before .before .before .before .before .before .before .before .pre .0) (c .before .before .before .before .before .before .room-for .ensures) _ _ (c .before .before .p .given .1) in
-    omega (arith, t .0, t .1, c .before .before .before .before .before .before .before .before .before .before .pre .0 .room)
+put-cell-requires c κs = let told = c .before .before in
+    let made = told .before .before .before .before in
+    let start = made .before .before .before .before in
+    let a = start .args in
+    let t = opened-in (cells (a .area .now)) (cells (made .room-for .last .1 .0)) (a .limit) (a .self) _ 1 (made .room-for .result) (start .pre .0) (made .room-for .ensures) _ _ (told .p .given .1) in
+    omega (arith, t .0, t .1, start .pre .0 .room)
 
 same-length : tie.Need-same-length
 same-length c = search needs
 
 returns : tie.Need-returns
 unfolding keyRun
-returns c = cell-full (cells (c .before .before .before .before .before .before .before .before .args .area .now)) (cells (c .before .before .before .before .room-for .last .1 .0)) (c .before .before .before .before .before .before .before .before .args .limit) (c .before .before .before .before .before .before .before .before .args .self) (c .before .before .before .before .before .before .before .before .args .c) _ (c .before .before .before .before .room-for .result) (c .before .before .before .before .before .before .before .before .pre .0) (c .before .before .before .before .before .before .before .before .pre .1) (sym (c .before .before .before .before .before .key-of .ensures)) (c .before .before .before .before .room-for .ensures) (c .enum-told .given .1)
+returns c = let made = c .before .before .before .before in
+    let start = made .before .before .before .before in
+    let a = start .args in
+    cell-full (cells (a .area .now)) (cells (made .room-for .last .1 .0)) (a .limit) (a .self) (a .c) _ (made .room-for .result) (start .pre .0) (start .pre .1) (sym (made .before .key-of .ensures)) (made .room-for .ensures) (c .enum-told .given .1)
 
 same-length-2 : tie.Need-same-length-2
 same-length-2 c = search needs
 
 returns-2 : tie.Need-returns-2
 unfolding keyRun
-returns-2 c = cell-done (cells (c .before .before .before .before .before .before .before .before .before .before .before .before .before .args .area .now)) (cells (c .before .before .before .before .before .before .before .before .before .room-for .last .1 .0)) (c .before .before .before .before .before .before .before .before .before .before .before .before .before .args .limit) (c .before .before .before .before .before .before .before .before .before .before .before .before .before .args .self) (c .before .before .before .before .before .before .before .before .before .before .before .before .before .args .c) _ (c .before .before .before .before .before .before .before .before .before .room-for .result) (c .before .before .before .before .before .before .before .before .before .before .before .before .before .pre .0) (c .before .before .before .before .before .before .before .before .before .before .before .before .before .pre .1) (sym (c .before .before .before .before .before .before .before .before .before .before .key-of .ensures)) (c .before .before .before .before .before .before .before .before .before .room-for .ensures) _ _ _ (c .before .before .before .before .before .p .given .1) (c .before .before .put-cell .ensures .cells)
+returns-2 c = let written = c .before .before in
+    let told = written .before .before .before in
+    let made = told .before .before .before .before in
+    let start = made .before .before .before .before in
+    let a = start .args in
+    cell-done (cells (a .area .now)) (cells (made .room-for .last .1 .0)) (a .limit) (a .self) (a .c) _ (made .room-for .result) (start .pre .0) (start .pre .1) (sym (made .before .key-of .ensures)) (made .room-for .ensures) _ _ _ (told .p .given .1) (written .put-cell .ensures .cells)
 
 pub insert-cell-spec : {M : Type 1} → statement M
 insert-cell-spec =
