@@ -1,0 +1,2 @@
+pub mod StoreLeads
+pub mod ReadLaws
