@@ -1,2 +1,4 @@
 pub mod Leads
 pub mod Reads
+pub mod Arms
+pub mod Steps

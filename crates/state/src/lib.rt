@@ -19,15 +19,33 @@ use intmap::Slot;
 use intmap::Stored;
 use type_info::DataType;
 
+// A state: the next row, where 2^63 stands for row 0, and the map of its registers, cursors and tables.
+pub struct MemoryState {
+    pub row: u64,
+    pub map: IntMap,
+}
+
+// A way that a row offers.
+pub enum Way {
+    Nowhere,
+    To(MemoryState),
+}
+
+// What handling a row gives: a refusal, or a branch and the state that goes on.
+pub enum Step {
+    Refused(u64),
+    Ways(Way, Way),
+}
+
 // The class of registers in the map.
-const REGISTERS: u64 = 0;
+pub const REGISTERS: u64 = 0;
 
 // The codes of `nullable`.
-const UNKNOWN: u64 = 0;
+pub const UNKNOWN: u64 = 0;
 
-const NEVER: u64 = 1;
+pub const NEVER: u64 = 1;
 
-const NULLABLE: u64 = 2;
+pub const NULLABLE: u64 = 2;
 
 // The place of a kind among the Rust's variants.
 pub fn datatype_code(d: DataType) -> u64

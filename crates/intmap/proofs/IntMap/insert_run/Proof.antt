@@ -1,5 +1,4 @@
--- `IntMap::insert_run` makes room for the run, copies it there and writes its head again under the key: the run lies above the room, so it is as
--- it was. Assumes nothing.
+-- `IntMap::insert_run` makes room, copies the run there, which lies above the room, and writes its head again under the key. Assumes nothing.
 use native.Mathlib.Omega.{arith}
 use borrow.Author.Needs.{needs}
 use Rattle.area.specs.Cells.{cells}

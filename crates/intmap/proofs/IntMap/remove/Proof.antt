@@ -9,42 +9,54 @@ find-requires : tie.Need-find-requires
 find-requires c κs = search needs
 
 count-requires : tie.Need-count-requires
-count-requires c κs = let a = found-all _ _ _ _ (c .before .before .before .before .before .pre) (c .before .before .find .ensures) (c .before .if1 .taken) in
-    record { fits = omega (arith, a, c .before .before .before .before .before .pre .inside); small = c .before .before .before .before .before .pre .small }
+count-requires c κs = let found = c .before .before in
+    let is = found .before .before .before .pre in
+    let a = found-all _ _ _ _ is (found .find .ensures) (c .before .if1 .taken) in
+    record { fits = omega (arith, a, is .inside); small = is .small }
 
 add-move-cells : tie.Need-add-move-cells
-add-move-cells c = let a = found-all _ _ _ _ (c .before .before .before .before .before .before .before .pre) (c .before .before .before .before .find .ensures) (c .before .before .before .if1 .taken) in
-    omega (arith, a, c .before .count .ensures, c .before .before .before .before .before .before .before .pre .inside, c .before .before .before .before .before .before .before .pre .small)
+add-move-cells c = let found = c .before .before .before .before in
+    let is = found .before .before .before .pre in
+    let a = found-all _ _ _ _ is (found .find .ensures) (c .before .before .before .if1 .taken) in
+    omega (arith, a, c .before .count .ensures, is .inside, is .small)
 
 add-move-cells-2 : tie.Need-add-move-cells-2
 add-move-cells-2 c = search needs
 
 sub-move-cells : tie.Need-sub-move-cells
-sub-move-cells c = let a = found-all _ _ _ _ (c .before .before .before .before .before .before .before .pre) (c .before .before .before .before .find .ensures) (c .before .before .before .if1 .taken) in
+sub-move-cells c = let found = c .before .before .before .before in
+    let a = found-all _ _ _ _ (found .before .before .before .pre) (found .find .ensures) (c .before .before .before .if1 .taken) in
     omega (arith, a)
 
 sub-move-cells-2 : tie.Need-sub-move-cells-2
-sub-move-cells-2 c = let a = found-all _ _ _ _ (c .before .before .before .before .before .before .before .pre) (c .before .before .before .before .find .ensures) (c .before .before .before .if1 .taken) in
+sub-move-cells-2 c = let found = c .before .before .before .before in
+    let a = found-all _ _ _ _ (found .before .before .before .pre) (found .find .ensures) (c .before .before .before .if1 .taken) in
     omega (arith, a, c .before .count .ensures)
 
 move-cells-requires : tie.Need-move-cells-requires
-move-cells-requires c κs = let f = found-in _ _ _ _ (c .before .before .before .before .before .before .before .pre) (c .before .before .before .before .find .ensures) in
-    let a = found-all _ _ _ _ (c .before .before .before .before .before .before .before .pre) (c .before .before .before .before .find .ensures) (c .before .before .before .if1 .taken) in
-    (omega (arith, f .0, a, c .before .count .ensures, c .before .before .before .before .before .before .before .pre .inside), omega (arith, f .0, a, c .before .count .ensures, c .before .before .before .before .before .before .before .pre .inside))
+move-cells-requires c κs = let found = c .before .before .before .before in
+    let is = found .before .before .before .pre in
+    let f = found-in _ _ _ _ is (found .find .ensures) in
+    let a = found-all _ _ _ _ is (found .find .ensures) (c .before .before .before .if1 .taken) in
+    let n = c .before .count .ensures in
+    (omega (arith, f .0, a, n, is .inside), omega (arith, f .0, a, n, is .inside))
 
 sub-t23 : tie.Need-sub-t23
-sub-t23 c = omega (arith, found-pos _ _ _ _ (c .before .before .before .before .before .before .before .before .before .before .pre) (c .before .before .before .before .before .before .before .find .ensures) (c .before .before .before .before .before .before .if1 .taken))
+sub-t23 c = let found = c .before .before .before .before .before .before .before in omega (arith, found-pos _ _ _ _ (found .before .before .before .pre) (found .find .ensures) (c .before .before .before .before .before .before .if1 .taken))
 
 sub-t19 : tie.Need-sub-t19
-sub-t19 c = let f = found-in _ _ _ _ (c .before .before .before .before .before .before .before .before .before .before .pre) (c .before .before .before .before .before .before .before .find .ensures) in
-    let a = found-all _ _ _ _ (c .before .before .before .before .before .before .before .before .before .before .pre) (c .before .before .before .before .before .before .before .find .ensures) (c .before .before .before .before .before .before .if1 .taken) in
+sub-t19 c = let found = c .before .before .before .before .before .before .before in
+    let is = found .before .before .before .pre in
+    let f = found-in _ _ _ _ is (found .find .ensures) in
+    let a = found-all _ _ _ _ is (found .find .ensures) (c .before .before .before .before .before .before .if1 .taken) in
     omega (arith, f .0, a, c .before .before .before .before .count .ensures)
 
 same-length : tie.Need-same-length
 same-length c = search needs
 
 returns : tie.Need-returns
-returns c = removed-old _ _ _ _ (c .before .before .before .before .before .before .before .before .before .before .pre) (c .before .before .before .before .before .before .before .find .ensures) _ _ (c .before .before .before .before .before .before .if1 .taken) (c .before .before .before .before .count .ensures) (c .before .before .move-cells .ensures .cells)
+returns c = let found = c .before .before .before .before .before .before .before in
+    removed-old _ _ _ _ (found .before .before .before .pre) (found .find .ensures) _ _ (c .before .before .before .before .before .before .if1 .taken) (c .before .before .before .before .count .ensures) (c .before .before .move-cells .ensures .cells)
 
 same-length-2 : tie.Need-same-length-2
 same-length-2 c = search needs

@@ -10,32 +10,47 @@ find-requires : tie.Need-find-requires
 find-requires c κs = room-map (c .before .before .pre .0)
 
 count-requires : tie.Need-count-requires
-count-requires c κs = let a = found-all _ _ _ _ (room-map (c .before .before .before .before .before .pre .0)) (c .before .before .find .ensures) (c .before .if1 .taken) in
-    record { fits = omega (arith, a, c .before .before .before .before .before .pre .0); small = c .before .before .before .before .before .pre .0 .small }
+count-requires c κs = let found = c .before .before in
+    let has = found .before .before .before .pre .0 in
+    let a = found-all _ _ _ _ (room-map has) (found .find .ensures) (c .before .if1 .taken) in
+    record { fits = omega (arith, a, has); small = has .small }
 
 make-room-requires : tie.Need-make-room-requires
-make-room-requires c κs = let is = room-map (c .before .before .before .before .before .before .before .pre .0) in
-    let a = found-all _ _ _ _ is (c .before .before .before .before .find .ensures) (c .before .before .before .if1 .taken) in
-    (c .before .before .before .before .before .before .before .pre .0, found-in _ _ _ _ is (c .before .before .before .before .find .ensures) .0, omega (arith, a, c .before .count .ensures), c .before .before .before .before .before .before .before .pre .1)
+make-room-requires c κs = let found = c .before .before .before .before in
+    let pre = found .before .before .before .pre in
+    let is = room-map (pre .0) in
+    let a = found-all _ _ _ _ is (found .find .ensures) (c .before .before .before .if1 .taken) in
+    (pre .0, found-in _ _ _ _ is (found .find .ensures) .0, omega (arith, a, c .before .count .ensures), pre .1)
 
 same-length : tie.Need-same-length
 same-length c = search needs
 
 returns : tie.Need-returns
-returns c = opened-old (cells (c .before .before .before .before .before .before .before .before .before .before .args .area .now)) (cells (c .before .before .make-room .last .1 .0)) (c .before .before .before .before .before .before .before .before .before .before .args .limit) (c .before .before .before .before .before .before .before .before .before .before .args .self) _ _ (c .before .before .before .before .before .before .before .before .before .before .args .n) (c .before .before .make-room .result) (c .before .before .before .before .before .before .before .find .ensures) _ (c .before .before .before .before .before .before .if1 .taken) (c .before .before .before .before .count .ensures) (c .before .before .make-room .ensures)
+returns c = let made = c .before .before in
+    let counted = made .before .before in
+    let tested = counted .before .before in
+    let found = tested .before in
+    let a = found .before .before .before .args in
+    opened-old (cells (a .area .now)) (cells (made .make-room .last .1 .0)) (a .limit) (a .self) _ _ (a .n) (made .make-room .result) (found .find .ensures) _ (tested .if1 .taken) (counted .count .ensures) (made .make-room .ensures)
 
 add-make-room : tie.Need-add-make-room
 add-make-room c = let is = room-map (c .before .before .before .before .before .before .pre .0) in omega (arith, few-entries _ _ is, is .inside, is .small)
 
 make-room-requires-2 : tie.Need-make-room-requires-2
-make-room-requires-2 c κs = let f = found-in _ _ _ _ (room-map (c .before .before .before .before .before .before .pre .0)) (c .before .before .before .find .ensures) in
-    (c .before .before .before .before .before .before .pre .0, f .0, omega (arith, f .1), c .before .before .before .before .before .before .pre .1)
+make-room-requires-2 c κs = let found = c .before .before .before in
+    let pre = found .before .before .before .pre in
+    let f = found-in _ _ _ _ (room-map (pre .0)) (found .find .ensures) in
+    (pre .0, f .0, omega (arith, f .1), pre .1)
 
 same-length-2 : tie.Need-same-length-2
 same-length-2 c = search needs
 
 returns-2 : tie.Need-returns-2
-returns-2 c = opened-new (cells (c .before .before .before .before .before .before .before .before .before .args .area .now)) (cells (c .before .before .make-room2 .last .1 .0)) (c .before .before .before .before .before .before .before .before .before .args .limit) (c .before .before .before .before .before .before .before .before .before .args .self) _ _ (c .before .before .before .before .before .before .before .before .before .args .n) (c .before .before .make-room2 .result) (c .before .before .before .before .before .before .find .ensures) (c .before .before .before .before .before .if1 .left) (c .before .before .make-room2 .ensures)
+returns-2 c = let made = c .before .before in
+    let tested = made .before .before .before in
+    let found = tested .before in
+    let a = found .before .before .before .args in
+    opened-new (cells (a .area .now)) (cells (made .make-room2 .last .1 .0)) (a .limit) (a .self) _ _ (a .n) (made .make-room2 .result) (found .find .ensures) (tested .if1 .left) (made .make-room2 .ensures)
 
 pub room-for-spec : {M : Type 1} → statement M
 room-for-spec =
