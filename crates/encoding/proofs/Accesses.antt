@@ -27,7 +27,8 @@ use Rattle.intmap.specs.Change.{onHead, rekey}
 use Rattle.intmap.specs.Store.{put, judgeRuns, storeAt, storeRuns, removeRuns}
 use Rattle.encoding.specs.Encode.{nullableCode, runRegister, runCursor, runTable, runsOf}
 use Rattle.encoding.specs.Heads.{singleNullable}
-use Rattle.encoding.specs.Access.{mapTried, changeIf, changeAt, changeRuns}
+use Rattle.encoding.specs.Answers.{mapTried}
+use Rattle.encoding.specs.Changes.{changeIf, changeAt, changeRuns}
 use Rattle.encoding.proofs.Packing.{register-key, cursor-key, table-key}
 use Rattle.encoding.proofs.Lengths.{total-runs}
 use Rattle.encoding.proofs.Dense.{register-rekey, cursor-rekey, table-rekey}

@@ -1,5 +1,6 @@
--- What is held: the cells in use are the state's; the same cells elsewhere hold the same state; two held states have equal entries exactly
--- when their maps are equal; and the test of equality on states is the test by row, number of entries and place. Assumes nothing.
+-- What is held: the cells in use are the state's; the same cells elsewhere, as a copy, hold the same state, also with another row or under a
+-- larger bound; two held states have equal entries exactly when their maps are equal; and the test of equality on states is the test by row,
+-- number of entries and place. Assumes nothing.
 use mathlib.Core.Path.{_≡_, refl, sym, ap, _∙_}
 use mathlib.Core.Logic.{_↔_}
 use mathlib.Core.Bool.{Bool, true, _&&_}
@@ -8,13 +9,16 @@ use Prim.Native.Nat.{ℕ, zero, suc, _+_, _≤_}
 use native.Mathlib.Omega.{arith}
 use lib.ListN.{length}
 use lib.Dec.{eqb}
+use lib.IntN.{ℤ}
 use borrow.Author.Tests.{eq-eqb, eqb-true}
 use Rattle.model.specs.State.{MemoryState, fresh}
 use Rattle.model.specs.Cells.{cells}
 use Rattle.model.specs.Good.{Good}
 use Rattle.model.specs.Equality.{eqInt, eqState}
 use Rattle.model.proofs.Same.{int-decides, state-decides}
+use Rattle.model.specs.Access.{goTo}
 use Rattle.model.proofs.Good.{fresh-good}
+use Rattle.model.proofs.Access.{goTo-good}
 use Rattle.area.specs.declared.Cell.{Cell}
 use Rattle.intmap.specs.Runs.{size, sizes, eqColumns, Agree}
 use Rattle.intmap.proofs.RunLaws.{and-left, and-right}
@@ -23,13 +27,15 @@ use Rattle.intmap.specs.Entries.{entries, total, Runs}
 use Rattle.intmap.proofs.EntryLaws.{total-sizes, entries-same, entries-few}
 use Rattle.encoding.specs.Encode.{runMap, runsOf}
 use Rattle.intmap.specs.Swap.{swap, lookup}
+use Rattle.intmap.specs.Map.{CopiedMap}
+use Rattle.intmap.specs.declared.IntMap.{IntMap}
 use Rattle.encoding.specs.Holds.{Stands, largest, SmallNumbers, Holds}
 use Rattle.intmap.proofs.SignedLaws.{iff}
 use Rattle.intmap.proofs.SwapLaws.{cellsOf, total-swap}
 use Rattle.encoding.proofs.Lengths.{total-runs}
 use Rattle.encoding.proofs.Standing.{stand-entries}
 use Rattle.encoding.proofs.Injective.{SameMaps, state-told, maps-runs, same-state}
-use Rattle.encoding.proofs.Numbers.{numbers-fresh}
+use Rattle.encoding.proofs.Numbers.{numbers-fresh, numbers-goTo, numbers-more}
 use Rattle.intmap.proofs.EqualLaws.{eqs-entries, entries-eqs}
 
 module _ (limit bound : ℕ) (cs : List Cell) (base len used : ℕ) (m : MemoryState) (holds : Holds limit bound cs base len used m) where
@@ -55,9 +61,21 @@ module _ (limit bound : ℕ) (cs : List Cell) (base len used : ℕ) (m : MemoryS
         small = holds .small;
       }
 
+  -- with another row, and under a larger bound
+  pub held-goTo : (i : ℤ) → Holds limit bound cs base len used (goTo i m)
+  unfolding runsOf
+  held-goTo i = record { runs = holds .runs; takes = holds .takes; good = goTo-good (holds .good) i; small = numbers-goTo bound m (holds .small) i }
+
+  pub held-more : (more : ℕ) → bound ≤ more → more ≤ largest → Holds limit more cs base len used m
+  held-more more le top = record { runs = holds .runs; takes = holds .takes; good = holds .good; small = numbers-more bound more le top m (holds .small) }
+
   -- another state, by a change of the entries
   pub held-swapped : (ds : List Cell) (at count kept key : ℕ) (new : Runs) (n : MemoryState) → swap key new (runsOf m) ≡ runsOf n → entries ds 9 count at ≡ swap key new (entries cs 9 len base) → kept ≡ sizes (size ds 9) count at → Good limit n → SmallNumbers bound n → Holds limit bound ds at count kept n
   held-swapped ds at count kept key new n e f s good small = record { runs = f ∙ ap (swap key new) (holds .runs) ∙ e; takes = s; good = good; small = small }
+
+-- a copy holds the same state
+pub held-copied : (limit bound : ℕ) (cs ds : List Cell) (to : ℕ) (a b : IntMap) (m : MemoryState) → CopiedMap cs ds a to b → Holds limit bound cs (a .base) (a .len) (a .used) m → Holds limit bound ds (b .base) (b .len) (b .used) m
+held-copied limit bound cs ds to a b m copied holds = record { runs = copied .runs ∙ holds .runs; takes = copied .is .used; good = holds .good; small = holds .small }
 
 -- the fresh start, anywhere
 pub held-fresh : (limit bound : ℕ) (cs : List Cell) (base : ℕ) → bound ≤ largest → Holds limit bound cs base 0 0 fresh

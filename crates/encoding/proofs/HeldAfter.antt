@@ -1,8 +1,9 @@
 -- What is held after an access: if an access to runs is one of the definition, then cells with the runs that it answers hold the state that the
 -- definition answers, and what is refused is refused there, with the same number. From `Accesses`, with the laws of the definition for good
 -- states and `Numbers`. Assumes nothing.
-use mathlib.Core.Path.{_≡_, refl, sym, ap, _∙_}
+use mathlib.Core.Path.{_≡_, refl, sym, ap, subst, _∙_}
 use mathlib.Core.Bool.{Bool, true, false}
+use mathlib.Core.Option.{some}
 use mathlib.Core.List.{List}
 use Prim.Native.Nat.{ℕ, _≤_}
 use lib.Dec.{leb}
@@ -10,20 +11,22 @@ use lib.IntN.{ℤ}
 use Rattle.model.specs.Walk.{Tried, refused, done}
 use Rattle.model.specs.State.{RegDataType, CursorDataType, TableDataType, MemoryState, mapToColumntype}
 use Rattle.model.specs.Cells.{registerCells, tableCells, cells, columnsDepth, registerDepth}
-use Rattle.model.specs.Access.{depthIf, judgeDepth, cellsIf, judgeCells, storeRegister, storeCursor, storeTable, updateRegister, updateTable, removeRegister}
+use Rattle.model.specs.Access.{depthIf, judgeDepth, cellsIf, judgeCells, readRegister, storeRegister, storeCursor, storeTable, updateRegister, updateTable, removeRegister}
 use Rattle.model.specs.Good.{SortedColumn, SortedColumns, GoodRegister, GoodTable, GoodCursor, Good}
-use Rattle.model.proofs.Tried.{Kept, refusal, value, _>>_}
+use Rattle.model.proofs.Tried.{Kept, refusal, value, _>>_, kept}
 use Rattle.model.proofs.InPlace.{NeverLarger}
-use Rattle.model.proofs.Access.{index-small, storeRegister-good, storeCursor-good, storeTable-good, updateRegister-good, updateTable-good, removeRegister-good}
+use Rattle.model.proofs.Access.{index-small, readRegister-good, storeRegister-good, storeCursor-good, storeTable-good, updateRegister-good, updateTable-good, removeRegister-good}
 use Rattle.area.specs.declared.Cell.{Cell}
 use Rattle.intmap.specs.Pack.{classKey}
 use Rattle.intmap.specs.Runs.{size, sizes}
 use Rattle.intmap.specs.Store.{storeAt, storeRuns, removeRuns}
 use Rattle.intmap.specs.Entries.{Runs, entries}
 use Rattle.encoding.specs.Encode.{runRegister, runCursor, runTable, runsOf}
-use Rattle.encoding.specs.Access.{mapTried, changeAt, changeRuns}
+use Rattle.encoding.specs.Answers.{mapTried}
+use Rattle.encoding.specs.Changes.{changeAt, changeRuns}
 use Rattle.encoding.specs.Holds.{largest, SmallRegister, SmallCursor, SmallNumbers, Holds, HeldNext}
 use Rattle.encoding.proofs.Numbers.{numbers-insert, numbers-insert-cursor, numbers-remove, numbers-tables, numbers-update}
+use Rattle.encoding.proofs.Updates.{update-stored}
 use Rattle.encoding.proofs.Accesses.{apart, store-register, store-cursor, store-table, remove-register, update-register, update-table}
 
 -- an access to the runs of m is the definition's t, whose state, if there is one, is good and has small numbers
@@ -36,6 +39,13 @@ pub record Follows (limit bound : ℕ) (access : Runs → Tried Runs) (m : Memor
 pub record Carried (limit bound : ℕ) (answer : Tried Runs) (t : Tried MemoryState) : Type 0 where
   pub next : (ds : List Cell) (base len used : ℕ) (es : Runs) → answer ≡ done es → entries ds 9 len base ≡ es → used ≡ sizes (size ds 9) len base → HeldNext limit bound ds base len used t
   pub refuses : (n : ℕ) → answer ≡ refused n → t ≡ refused n
+
+-- a change of a register that makes it no larger, and its number no larger than `more`
+pub record SmallChange (bound more : ℕ) (f : RegDataType → RegDataType) : Type 0 where
+  pub rises : bound ≤ more
+  pub most : more ≤ largest
+  pub noLarger : NeverLarger registerCells GoodRegister f
+  pub keeps : (v : RegDataType) → SmallRegister bound v → SmallRegister more (f v)
 
 -- ---- any access
 
@@ -104,14 +114,13 @@ module _ (limit bound : ℕ) (m : MemoryState) (good : Good limit m) (small : Sm
           small = index-small i >> λ k _. value (numbers-remove bound m small k);
         }
 
-    -- a register changed, whose number may grow
-    pub change-follows : (more : ℕ) (f : RegDataType → RegDataType) (h : List Cell → List Cell) → bound ≤ more → more ≤ largest → ((v : RegDataType) (key : ℕ) → h (runRegister key v) ≡ runRegister key (f v)) → NeverLarger registerCells GoodRegister f → ((v : RegDataType) → SmallRegister bound v → SmallRegister more (f v)) → Follows limit more (changeRuns 0 i h) m (updateRegister i f m)
+    pub change-follows : (more : ℕ) (f : RegDataType → RegDataType) (h : List Cell → List Cell) → SmallChange bound more f → ((v : RegDataType) (key : ℕ) → h (runRegister key v) ≡ runRegister key (f v)) → Follows limit more (changeRuns 0 i h) m (updateRegister i f m)
     unfolding updateRegister
-    change-follows more f h le top heads noLarger change =
+    change-follows more f h change heads =
         record {
           same = update-register limit m good i f h heads;
-          good = updateRegister-good good i f noLarger;
-          small = index-small i >> λ k _. value (numbers-update bound more le top m small k f change);
+          good = updateRegister-good good i f (change .noLarger);
+          small = index-small i >> λ k _. value (numbers-update bound more (change .rises) (change .most) m small k f (change .keeps));
         }
 
   module _ (row : ℕ) where
@@ -148,3 +157,9 @@ module _ {limit bound : ℕ} {cs : List Cell} {base len used : ℕ} {m : MemoryS
 
   pub held-table : (row : ℕ) → row ≤ 65535 → (key : ℕ) (t : TableDataType) → (tableCells t ≤ limit → SortedColumns (t .cols) 0) → Carried limit bound (storeAt limit (classKey 2 row) (columnsDepth (t .cols)) (runTable key t) (entries cs 9 len base)) (storeTable limit row t m)
   held-table row h key t sorted = carried (table-follows limit bound m (holds .good) (holds .small) row h key t sorted) holds
+
+  -- a value that is there, changed by a store
+  pub held-update : (i : ℤ) (key : ℕ) (f : RegDataType → RegDataType) (v : RegDataType) → readRegister i m ≡ done (some v) → NeverLarger registerCells GoodRegister f → SmallRegister bound (f v) → Carried limit bound (storeRuns limit 0 i (registerDepth (f v)) (runRegister key (f v)) (entries cs 9 len base)) (updateRegister i f m)
+  held-update i key f v present noLarger s =
+      subst (Carried limit bound _) (sym (update-stored (holds .good) i f v present noLarger))
+      (held-register i key (f v) (λ _. noLarger v .good (kept (readRegister-good (holds .good) i) present) .sorted) s)

@@ -12,7 +12,7 @@ use Rattle.model.specs.Walk.{done}
 use Rattle.model.specs.IntMap.{get, update}
 use Rattle.model.specs.State.{Single, Record, Columns, RegDataType, Column, Int, TableDataType, MemoryState, toNotNull}
 use Rattle.model.specs.Cells.{columnCells, registerCells, tableCells, columnDepth, columnsDepth, registerDepth}
-use Rattle.model.specs.Access.{_>>=_, index, withRegisters, withTables, updateRegister, updateTable}
+use Rattle.model.specs.Access.{_>>=_, index, withRegisters, updateRegister, updateTable}
 use Rattle.model.specs.Cursor.{setEmpty, nullTable, nullRecord}
 use Rattle.model.specs.Good.{GoodRegister, GoodTable, Good, OnSome}
 use Rattle.model.proofs.Tried.{kept}
@@ -36,10 +36,10 @@ use Rattle.encoding.specs.Heads.{singleNullable, onHeads}
 use Rattle.encoding.specs.Holds.{Stands, largest, SmallRegister, SmallNumbers, Holds, HeldNext}
 use Rattle.encoding.proofs.Standing.{Whole, register-whole, table-whole}
 use Rattle.encoding.proofs.Lengths.{register-length, table-length}
-use Rattle.encoding.proofs.MapRuns.{update-fixed}
 use Rattle.encoding.proofs.Numbers.{numbers-update, numbers-tables}
 use Rattle.encoding.proofs.InPlace.{register-notNull, table-empty, table-null, record-null}
 use Rattle.encoding.proofs.Replaced.{Replaced, replaced-entries, replaced-sizes, head-replaced, heads-replaced}
+use Rattle.encoding.proofs.HeldAfter.{SmallChange}
 use Rattle.encoding.proofs.StateRuns.{get-register, get-table, update-register, update-table}
 
 -- ---- an entry of a held state, where it stands, and replaced
@@ -91,7 +91,7 @@ module _ {limit bound : ℕ} {cs : List Cell} {base len used : ℕ} {m : MemoryS
         subst (λ l. Replaced cs l place new) (sym e)
         (heads-replaced g cs place h x tag (subst (Stands cs place) is found-stands) new (long ∙ sym found-long) (subst (λ l. Stands l place new) e stands))
 
--- ---- as many cells, and numbers as small
+-- ---- as many cells
 
 record-cells : (x : Columns) → registerCells (nullRecord (Column (Record x))) ≡ registerCells (Column (Record x))
 unfolding registerCells columnCells
@@ -103,14 +103,21 @@ table-cells t = ap (λ n. 1 + n) (all-nullable-cells (some true) (t .cols))
 
 -- ---- a register changed
 
-notNull-small : (bound : ℕ) (v : RegDataType) → SmallRegister bound v → SmallRegister bound (toNotNull v)
-notNull-small bound (Column c) s = tt
-notNull-small bound (Int i) s = s
+module _ (bound : ℕ) (most : bound ≤ largest) where
+  pub notNull-change : SmallChange bound bound toNotNull
+  notNull-change = record { rises = omega arith; most = most; noLarger = toNotNull-noLarger; keeps = keeps }
+    where
+      keeps : (v : RegDataType) → SmallRegister bound v → SmallRegister bound (toNotNull v)
+      keeps (Column c) s = tt
+      keeps (Int i) s = s
 
-null-small : (bound : ℕ) (v : RegDataType) → SmallRegister bound v → SmallRegister bound (nullRecord v)
-null-small bound (Column (Single d n)) s = tt
-null-small bound (Column (Record x)) s = tt
-null-small bound (Int i) s = s
+  pub null-change : SmallChange bound bound nullRecord
+  null-change = record { rises = omega arith; most = most; noLarger = nullRecord-noLarger; keeps = keeps }
+    where
+      keeps : (v : RegDataType) → SmallRegister bound v → SmallRegister bound (nullRecord v)
+      keeps (Column (Single d n)) s = tt
+      keeps (Column (Record x)) s = tt
+      keeps (Int i) s = s
 
 module _ {limit bound : ℕ} {cs : List Cell} {base len used : ℕ} {m : MemoryState} (holds : Holds limit bound cs base len used m) (i : ℤ) (k : ℕ) (at : index i ≡ done k) where
   abbrev its : ℕ
@@ -123,10 +130,6 @@ module _ {limit bound : ℕ} {cs : List Cell} {base len used : ℕ} {m : MemoryS
   unfolding updateRegister
   updated f = ap (λ t. t >>= λ k. done (withRegisters (update k f (m .r)) m)) at
 
-  -- one that the change leaves as it is, or none
-  pub register-fixed : (f : RegDataType → RegDataType) → OnSome (λ v. f v ≡ v) (get k (m .r)) → updateRegister i f m ≡ done m
-  register-fixed f h = updated f ∙ ap (λ r. done (withRegisters r m)) (update-fixed _ k f 0 (m .r) (holds .good .registers) h)
-
   module _ (v : RegDataType) (there : get k (m .r) ≡ some v) where
     pub register-found : lookup (classKey 0 k) (runsOf m) ≡ some (runRegister (classKey 0 k) v)
     register-found = get-register limit m (holds .good) k within ∙ ap (Option·map (runRegister its)) there
@@ -134,27 +137,26 @@ module _ {limit bound : ℕ} {cs : List Cell} {base len used : ℕ} {m : MemoryS
     good-there : GoodRegister v
     good-there = subst (OnSome (λ v. (k ≤ 65535) × GoodRegister v)) there (rising-get (λ j v. (j ≤ 65535) × GoodRegister v) k 0 (m .r) (holds .good .registers)) .1
 
-    -- its number may grow
-    pub held-register-changed : (f : RegDataType → RegDataType) (more : ℕ) → bound ≤ more → more ≤ largest → NeverLarger registerCells GoodRegister f → ((v : RegDataType) → SmallRegister bound v → SmallRegister more (f v)) → (ds : List Cell) → Replaced cs ds (seek cs 9 (classKey 0 k) len base .at) (runRegister (classKey 0 k) (f v)) → HeldNext limit more ds base len used (updateRegister i f m)
-    held-register-changed f more le top noLarger change ds r =
+    pub held-register-changed : (more : ℕ) (f : RegDataType → RegDataType) → SmallChange bound more f → (ds : List Cell) → Replaced cs ds (seek cs 9 (classKey 0 k) len base .at) (runRegister (classKey 0 k) (f v)) → HeldNext limit more ds base len used (updateRegister i f m)
+    held-register-changed more f change ds r =
         record {
           state = withRegisters (update k f (m .r)) m;
           answer = updated f;
           holds =
               held-replaced holds its (runRegister its v) register-found more ds (runRegister its (f v)) _
-              (register-whole (f v) its (noLarger v .good good-there .depth))
+              (register-whole (f v) its (change .noLarger v .good good-there .depth))
               r
               (update-register limit m (holds .good) k within f v there)
-              (kept (updateRegister-good (holds .good) i f noLarger) (updated f))
-              (numbers-update bound more le top m (holds .small) k f change);
+              (kept (updateRegister-good (holds .good) i f (change .noLarger)) (updated f))
+              (numbers-update bound more (change .rises) (change .most) m (holds .small) k f (change .keeps));
         }
 
-    pub held-register-head : (f : RegDataType → RegDataType) (g : Cell → Cell) (more : ℕ) → bound ≤ more → more ≤ largest → NeverLarger registerCells GoodRegister f → ((v : RegDataType) → SmallRegister bound v → SmallRegister more (f v)) → ((v : RegDataType) (key : ℕ) → onHead g (runRegister key v) ≡ runRegister key (f v)) → (ds : List Cell) → base + used ≤ length cs → ds ≡ set cs (seek cs 9 (classKey 0 k) len base .at) (g (getD cs (seek cs 9 (classKey 0 k) len base .at) blank)) → HeldNext limit more ds base len used (updateRegister i f m)
-    held-register-head f g more le top noLarger change heads ds room e = held-register-changed f more le top noLarger change ds (found-head holds its (runRegister its v) register-found g ds _ room e (heads v its))
+    pub held-register-head : (more : ℕ) (f : RegDataType → RegDataType) (g : Cell → Cell) → SmallChange bound more f → ((v : RegDataType) (key : ℕ) → onHead g (runRegister key v) ≡ runRegister key (f v)) → (ds : List Cell) → base + used ≤ length cs → ds ≡ set cs (seek cs 9 (classKey 0 k) len base .at) (g (getD cs (seek cs 9 (classKey 0 k) len base .at) blank)) → HeldNext limit more ds base len used (updateRegister i f m)
+    held-register-head more f g change heads ds room e = held-register-changed more f change ds (found-head holds its (runRegister its v) register-found g ds _ room e (heads v its))
 
     -- made not null
     pub held-notNull : (ds : List Cell) → base + used ≤ length cs → ds ≡ set cs (seek cs 9 (classKey 0 k) len base .at) (singleNullable 1 (getD cs (seek cs 9 (classKey 0 k) len base .at) blank)) → HeldNext limit bound ds base len used (updateRegister i toNotNull m)
-    held-notNull ds room e = held-register-head toNotNull (singleNullable 1) bound (omega arith) (holds .small .bounded) toNotNull-noLarger (notNull-small bound) register-notNull ds room e
+    held-notNull ds room e = held-register-head bound toNotNull (singleNullable 1) (notNull-change bound (holds .small .bounded)) register-notNull ds room e
 
   -- NullRow, on a register that holds a record
   pub held-record-null : (x : Columns) → get k (m .r) ≡ some (Column (Record x)) → (ds : List Cell) → base + used ≤ length cs → ds ≡ onHeads (singleNullable 2) 8 cs (count x) (seek cs 9 (classKey 0 k) len base .at + 1) → HeldNext limit bound ds base len used (updateRegister i nullRecord m)
@@ -165,7 +167,7 @@ module _ {limit bound : ℕ} {cs : List Cell} {base len used : ℕ} {m : MemoryS
       let found = register-found v there in
       let deep : columnsDepth x ≤ 8 = omega (arith, good-there v there .depth) in
       let stands = record-null cs p its x deep (omega (arith, found-inside holds its (runRegister its v) found .1)) (found-stands holds its (runRegister its v) found) in
-      held-register-changed v there nullRecord bound (omega arith) (holds .small .bounded) nullRecord-noLarger (null-small bound) ds
+      held-register-changed v there bound nullRecord (null-change bound (holds .small .bounded)) ds
       (found-heads holds its (runRegister its v) found (singleNullable 2) (head 2 0 0 its) x ds (runRegister its (nullRecord v)) refl (omega arith)
       (register-length (nullRecord v) its ∙ record-cells x ∙ sym (register-length v its))
       e
@@ -176,10 +178,6 @@ module _ {limit bound : ℕ} {cs : List Cell} {base len used : ℕ} {m : MemoryS
 module _ {limit bound : ℕ} {cs : List Cell} {base len used : ℕ} {m : MemoryState} (holds : Holds limit bound cs base len used m) (row : ℕ) where
   abbrev own : ℕ
   own = classKey 2 row
-
-  pub table-fixed : (f : TableDataType → TableDataType) → OnSome (λ t. f t ≡ t) (get row (m .t)) → updateTable row f m ≡ m
-  unfolding updateTable
-  table-fixed f h = ap (λ t. withTables t m) (update-fixed _ row f 0 (m .t) (holds .good .tables) h)
 
   module _ (t : TableDataType) (there : get row (m .t) ≡ some t) where
     pub table-found : lookup (classKey 2 row) (runsOf m) ≡ some (runTable (classKey 2 row) t)
@@ -198,10 +196,10 @@ module _ {limit bound : ℕ} {cs : List Cell} {base len used : ℕ} {m : MemoryS
         (updateTable-good (holds .good) row f noLarger)
         (numbers-tables bound m (holds .small) _)
 
-    -- its emptiness set
-    pub held-empty : (n : Option Bool) (ds : List Cell) → base + used ≤ length cs → ds ≡ set cs (seek cs 9 (classKey 2 row) len base .at) (withNullable (nullableCode n) (getD cs (seek cs 9 (classKey 2 row) len base .at) blank)) → Holds limit bound ds base len used (updateTable row (setEmpty n) m)
-    held-empty n ds room e =
-        held-table-changed (setEmpty n) (setEmpty-noLarger (λ _. n)) ds (found-head holds own (runTable own t) table-found (withNullable (nullableCode n)) ds _ room e (table-empty n t own))
+    -- its emptiness set, to what depends on the table
+    pub held-empty : (e : TableDataType → Option Bool) (ds : List Cell) → base + used ≤ length cs → ds ≡ set cs (seek cs 9 (classKey 2 row) len base .at) (withNullable (nullableCode (e t)) (getD cs (seek cs 9 (classKey 2 row) len base .at) blank)) → Holds limit bound ds base len used (updateTable row (λ t. setEmpty (e t) t) m)
+    held-empty e ds room is =
+        held-table-changed (λ t. setEmpty (e t) t) (setEmpty-noLarger e) ds (found-head holds own (runTable own t) table-found (withNullable (nullableCode (e t))) ds _ room is (table-empty (e t) t own))
 
     -- NullRow
     pub held-table-null : (ds : List Cell) → base + used ≤ length cs → ds ≡ onHeads (singleNullable 2) 8 cs (count (t .cols)) (seek cs 9 (classKey 2 row) len base .at + 1) → Holds limit bound ds base len used (updateTable row nullTable m)

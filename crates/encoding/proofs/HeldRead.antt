@@ -11,16 +11,18 @@ use Rattle.model.specs.State.{MemoryState}
 use Rattle.model.specs.Offer.{turns}
 use Rattle.model.specs.Access.{readRegister, readCursor}
 use Rattle.model.specs.Good.{GoodRegister, GoodCursor, GoodTable, OnSome}
-use Rattle.model.proofs.Tried.{Kept, refusal, value, _>>_}
-use Rattle.model.proofs.Access.{index-small, readRegister-good, readCursor-good, table-good}
+use Rattle.model.proofs.Tried.{Kept, value, _>>_}
+use Rattle.model.proofs.IntMap.{rising-get}
+use Rattle.model.proofs.Access.{index-small, table-good}
 use Rattle.area.specs.declared.Cell.{Cell}
 use Rattle.intmap.specs.Pack.{classKey}
 use Rattle.intmap.specs.Get.{readRuns}
 use Rattle.intmap.specs.Entries.{entries}
 use Rattle.intmap.specs.Swap.{lookup}
 use Rattle.encoding.specs.Encode.{runRegister, runCursor, runTable}
-use Rattle.encoding.specs.Access.{mapTried}
+use Rattle.encoding.specs.Answers.{mapTried}
 use Rattle.encoding.specs.Holds.{SmallRegister, SmallCursor, Holds}
+use Rattle.encoding.proofs.StateRuns.{get-register}
 use Rattle.encoding.proofs.Numbers.{numbers-register, numbers-cursor}
 use Rattle.encoding.proofs.Accesses.{apart, register-read, cursor-read, read-table}
 
@@ -55,30 +57,29 @@ module _ {A : Type 0} {P : A → Type 0} {run : A → List Cell} where
       stops n (refused k) e = cc
       stops n (done o) e = absurd (apart n (Option·map run o) (sym e))
 
--- two properties of what was read
-module _ {A : Type 0} (P Q : A → Type 0) where
-  both : (o : Option A) → OnSome P o → OnSome Q o → OnSome (λ v. P v × Q v) o
-  both none p q = tt
-  both (some v) p q = (p, q)
-
-  both-kept : (t : Tried (Option A)) → Kept (OnSome P) t → Kept (OnSome Q) t → Kept (OnSome (λ v. P v × Q v)) t
-  both-kept (refused k) p q = refusal
-  both-kept (done o) (value p) (value q) = value (both o p q)
+-- two properties of what was found
+both : {A : Type 0} (k : ℕ) (P Q : A → Type 0) (o : Option A) → OnSome (λ v. (k ≤ 65535) × P v) o → OnSome Q o → OnSome (λ v. P v × Q v) o
+both k P Q none p q = tt
+both k P Q (some v) p q = (p .1, q)
 
 module _ {limit bound : ℕ} {cs : List Cell} {base len used : ℕ} {m : MemoryState} (holds : Holds limit bound cs base len used m) where
+  -- a register, by a judged index and by any
+  register-has : (k : ℕ) → OnSome (λ v. GoodRegister v × SmallRegister bound v) (get k (m .r))
+  register-has k = both k GoodRegister (SmallRegister bound) (get k (m .r)) (rising-get (λ j v. (j ≤ 65535) × GoodRegister v) k 0 (m .r) (holds .good .registers)) (numbers-register bound m (holds .small) k)
+
+  pub told-register-at : (k : ℕ) → k ≤ 65535 → Told (λ v. GoodRegister v × SmallRegister bound v) (runRegister (classKey 0 k)) (done (lookup (classKey 0 k) (entries cs 9 len base))) (done (get k (m .r)))
+  told-register-at k h = told (ap (λ es. done (lookup (classKey 0 k) es)) (holds .runs) ∙ ap done (get-register limit m (holds .good) k h)) (value (register-has k))
+
   pub told-register : (i : ℤ) → Told (λ v. GoodRegister v × SmallRegister bound v) (runRegister (classKey 0 (turns i))) (readRuns 0 i (entries cs 9 len base)) (readRegister i m)
-  told-register i =
-      told (ap (readRuns 0 i) (holds .runs) ∙ register-read limit m (holds .good) i) (both-kept GoodRegister (SmallRegister bound) (readRegister i m) (readRegister-good (holds .good) i) small)
-    where
-      small : Kept (OnSome (SmallRegister bound)) (readRegister i m)
-      small = unfold readRegister in (index-small i >> λ k _. value (numbers-register bound m (holds .small) k))
+  told-register i = told (ap (readRuns 0 i) (holds .runs) ∙ register-read limit m (holds .good) i) (unfold readRegister in (index-small i >> λ k _. value (register-has k)))
 
+  -- a cursor
   pub told-cursor : (i : ℤ) → Told (λ v. GoodCursor v × SmallCursor bound v) (runCursor (classKey 1 (turns i))) (readRuns 1 i (entries cs 9 len base)) (readCursor i m)
-  told-cursor i =
-      told (ap (readRuns 1 i) (holds .runs) ∙ cursor-read limit m (holds .good) i) (both-kept GoodCursor (SmallCursor bound) (readCursor i m) (readCursor-good (holds .good) i) small)
+  told-cursor i = told (ap (readRuns 1 i) (holds .runs) ∙ cursor-read limit m (holds .good) i) (unfold readCursor in (index-small i >> λ k _. value (cursor-has k)))
     where
-      small : Kept (OnSome (SmallCursor bound)) (readCursor i m)
-      small = unfold readCursor in (index-small i >> λ k _. value (numbers-cursor bound m (holds .small) k))
+      cursor-has : (k : ℕ) → OnSome (λ v. GoodCursor v × SmallCursor bound v) (get k (m .p))
+      cursor-has k = both k GoodCursor (SmallCursor bound) (get k (m .p)) (rising-get (λ j v. (j ≤ 65535) × GoodCursor v) k 0 (m .p) (holds .good .cursors)) (numbers-cursor bound m (holds .small) k)
 
+  -- a table, by its row
   pub told-table : (row : ℕ) → Told (λ t. (row ≤ 65535) × GoodTable t) (runTable (classKey 2 row)) (done (lookup (classKey 2 row) (entries cs 9 len base))) (done (get row (m .t)))
   told-table row = told (ap (λ es. done (lookup (classKey 2 row) es)) (holds .runs) ∙ ap done (read-table limit m (holds .good) row)) (value (table-good (holds .good) row))

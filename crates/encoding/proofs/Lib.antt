@@ -12,8 +12,12 @@ pub mod Reading
 pub mod Numbers
 pub mod Held
 pub mod Accesses
+pub mod Updates
 pub mod HeldAfter
+pub mod HeldFrom
 pub mod HeldRead
+pub mod ReadColumns
 pub mod Replaced
 pub mod HeldInPlace
+pub mod BySearch
 pub mod Samples

@@ -9,6 +9,7 @@ use lib.ListN.{getD}
 use Rattle.type_info.specs.declared.DataType.{DataType}
 use Rattle.type_info.specs.declared.DataType.the-variants.{Null}
 use Rattle.model.specs.State.{ColumnType, Single, Record, Columns, RegDataType, Column, Int, CursorDataType, Normal, Pseudo, TableDataType, datatypeCode}
+use Rattle.model.specs.Cursor.{nullRecord}
 use Rattle.area.specs.Cells.{cell}
 use Rattle.area.specs.declared.Cell.{Cell}
 use Rattle.intmap.specs.Pack.{tagOf}
@@ -59,6 +60,19 @@ module _ (c : Cell) (rest : List Cell) (key : ℕ) where
   unfolding runRegister
   register-column (Column w) e t = (w, refl, e)
   register-column (Int i) e t = absurd (t (omega (arith, first-is c _ rest [] e .0)))
+
+  pub register-record : (v : RegDataType) → c ∷ rest ≡ runRegister key v → tagOf c ≡ 2 → (x : Columns) × (v ≡ Column (Record x)) × Headed c rest x
+  register-record v e t =
+      let f = register-column v e (omega arith) in
+      let g = column-record (f .0) (f .2) t in
+      (g .0, f .1 ∙ ap Column (g .1), g .2)
+
+  -- which NullRow leaves as it is
+  pub register-plain : (v : RegDataType) → c ∷ rest ≡ runRegister key v → (tagOf c ≡ 2 → ⊥) → nullRecord v ≡ v
+  unfolding runRegister runColumn
+  register-plain (Column (Single d n)) e t = refl
+  register-plain (Column (Record x)) e t = absurd (t (omega (arith, first-is c _ rest (runColumns x) e .0)))
+  register-plain (Int i) e t = refl
 
   pub register-int : (bound : ℕ) → bound ≤ offset → (v : RegDataType) → SmallRegister bound v → c ∷ rest ≡ runRegister key v → tagOf c ≡ 3 → v ≡ Int (intOf (c .payload))
   unfolding runRegister runColumn

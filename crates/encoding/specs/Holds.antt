@@ -1,5 +1,6 @@
 -- When cells hold a state: `len` entries from `base` on, of `used` cells, are the state's runs; the state is good, and its numbers are small
--- enough for their words. Numbers grow with the walk, so their bound is a parameter, and so is the limit of cells. Assumes nothing.
+-- enough for their words. Numbers grow with the walk, so their bound is a parameter, and so is the limit of cells. And when they hold the state
+-- that an access answers. Assumes nothing.
 use mathlib.Core.Path.{_≡_}
 use mathlib.Core.List.{List}
 use Prim.Native.Nat.{ℕ, _≤_}
@@ -41,8 +42,8 @@ pub record Holds (limit bound : ℕ) (cs : List Cell) (base len used : ℕ) (m :
   pub good : Good limit m
   pub small : SmallNumbers bound m
 
--- these cells hold the state that was answered
-pub record HeldNext (limit bound : ℕ) (ds : List Cell) (base len used : ℕ) (t : Tried MemoryState) : Type 0 where
+-- the state that was answered is held
+pub record HeldNext (limit bound : ℕ) (cs : List Cell) (base len used : ℕ) (t : Tried MemoryState) : Type 0 where
   pub state : MemoryState
   pub answer : t ≡ done state
-  pub holds : Holds limit bound ds base len used state
+  pub holds : Holds limit bound cs base len used state

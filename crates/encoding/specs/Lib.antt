@@ -2,4 +2,5 @@ pub mod Encode
 pub mod Decode
 pub mod Heads
 pub mod Holds
-pub mod Access
+pub mod Answers
+pub mod Changes
