@@ -26,6 +26,9 @@ pub const NORMAL: u64 = 4;
 
 pub const PSEUDO: u64 = 5;
 
+// The word that stands for 0.
+pub const ZERO: u64 = 9223372036854775808;
+
 // A head of four parts.
 pub fn pack(tag: u64, kind: u64, nullable: u64, key: u64) -> u64
     requires { ⌜ Parts tag kind nullable key ⌝ }
@@ -290,10 +293,10 @@ pub enum Slot {
 pub fn judge_index(i: u64) -> Index
     ensures { λ r. ⌜ Judges i r ⌝ }
 {
-    if i < 9223372036854775808 {
+    if i < ZERO {
         return Index::Bad(6);
     }
-    let k = i - 9223372036854775808;
+    let k = i - ZERO;
     if 65535 < k {
         return Index::Bad(7);
     }

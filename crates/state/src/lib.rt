@@ -123,10 +123,10 @@ fn register_in(c: Cell, at: usize) -> Register
     ensures { λ r. ⌜ r ≡ registerIn c at ⌝ }
 {
     let tag = intmap::tag_of(c);
-    if tag == 1 {
+    if tag == intmap::SINGLE {
         return Register::Single(intmap::kind_of(c), intmap::nullable_of(c));
     }
-    if tag == 2 {
+    if tag == intmap::RECORD {
         return Register::Record(at);
     }
     Register::Int(c.payload)
