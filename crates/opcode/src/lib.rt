@@ -2,7 +2,7 @@
 // Translated from sqlx-sqlite 0.9.0, src/connection/explain.rs: the constants OP_, the arms of `explain` that look at P4,
 // `affinity_to_type` and `opcode_to_type`.
 ghost use mathlib.Core.Path.{_≡_};
-ghost use Prim.Native.Nat.{_+_, _≤_};
+ghost use Prim.Native.Nat.{_+_, _<_, _≤_};
 ghost use lib.ListN.{length, drop, take};
 ghost use Rattle.type_info.specs.Ascii.{startsWith};
 ghost use Rattle.model.specs.Operation.{operationOf};
@@ -104,8 +104,19 @@ pub enum P4 {
     Text { function: u8, aggregate: u8 },
 }
 
-// The number of the arm that the name leads to; 0 where there is none. One table for each length.
+// The number of the arm that the name leads to; 0 where there is none.
 pub fn opcode(name: &[u8]) -> u8
+    ensures { λ r. ⌜ IsOpcode (operationOf (now (name .entry))) r ⌝ }
+{
+    if name.len() < 8 {
+        return short_opcode(name);
+    }
+    long_opcode(name)
+}
+
+// One table for each length of a name.
+fn short_opcode(name: &[u8]) -> u8
+    requires { ⌜ length (now name) < 8 ⌝ }
     ensures { λ r. ⌜ IsOpcode (operationOf (now (name .entry))) r ⌝ }
 {
     match name.len() {
@@ -130,6 +141,15 @@ pub fn opcode(name: &[u8]) -> u8
             b"\x07Program\x03\x07VFilter\x03\x07NotNull\x05\x07RowData\x22\x07OpenDup\x26\x07NullRow\x29\x07AggStep\x14\x07IntCopy\x17\x07Integer\x1a\x07String8\x1f",
             name,
         ),
+        _ => 0,
+    }
+}
+
+fn long_opcode(name: &[u8]) -> u8
+    requires { ⌜ 8 ≤ length (now name) ⌝ }
+    ensures { λ r. ⌜ IsOpcode (operationOf (now (name .entry))) r ⌝ }
+{
+    match name.len() {
         8 => seek(
             b"\x08FkIfZero\x01\x08IfNoHope\x03\x08SeekScan\x03\x08Sequence\x1d\x08OpenRead\x27\x08Variable\x11\x08Function\x13\x08AggValue\x14\x08AggFinal\x15\x08IdxRowid\x1d\x08NewRowid\x1d\x08Subtract\x1c\x08Multiply\x1c",
             name,

@@ -1,4 +1,4 @@
--- `opcode::opcode`: each table of bytes has the names of one length, in the definition's order. Assumes nothing.
+-- `opcode::short_opcode`: each table of bytes has the names of one length, in the definition's order. Assumes nothing.
 use mathlib.Core.Path.{refl}
 use mathlib.Core.List.{[], _∷_}
 use Rattle.type_info.specs.Ascii.{ascii}
@@ -10,8 +10,8 @@ use Rattle.opcode.proofs.Arms.{NoneOf, oneOf}
 use Rattle.opcode.proofs.Tables.{numbersBelow, ofLength, lengthsIn, look-up-length, look-up-none}
 use native.Mathlib.Omega.{arith}
 use borrow.Author.Needs.{needs}
-use Rattle.opcode.proofs.opcode.Statement.{statement}
-use Rattle.opcode.proofs.opcode.Tie as tie
+use Rattle.opcode.proofs.short_opcode.Statement.{statement}
+use Rattle.opcode.proofs.short_opcode.Tie as tie
 
 slice-aggregate-seek : tie.Need-slice-aggregate-seek
 slice-aggregate-seek c = search needs
@@ -49,42 +49,6 @@ slice-aggregate-seek-6 c = search needs
 seek-requires-6 : tie.Need-seek-requires-6
 seek-requires-6 c κs = search needs
 
-slice-aggregate-seek-7 : tie.Need-slice-aggregate-seek-7
-slice-aggregate-seek-7 c = search needs
-
-seek-requires-7 : tie.Need-seek-requires-7
-seek-requires-7 c κs = search needs
-
-slice-aggregate-seek-8 : tie.Need-slice-aggregate-seek-8
-slice-aggregate-seek-8 c = search needs
-
-seek-requires-8 : tie.Need-seek-requires-8
-seek-requires-8 c κs = search needs
-
-slice-aggregate-seek-9 : tie.Need-slice-aggregate-seek-9
-slice-aggregate-seek-9 c = search needs
-
-seek-requires-9 : tie.Need-seek-requires-9
-seek-requires-9 c κs = search needs
-
-slice-aggregate-seek-10 : tie.Need-slice-aggregate-seek-10
-slice-aggregate-seek-10 c = search needs
-
-seek-requires-10 : tie.Need-seek-requires-10
-seek-requires-10 c κs = search needs
-
-slice-aggregate-seek-11 : tie.Need-slice-aggregate-seek-11
-slice-aggregate-seek-11 c = search needs
-
-seek-requires-11 : tie.Need-seek-requires-11
-seek-requires-11 c κs = search needs
-
-slice-aggregate-seek-12 : tie.Need-slice-aggregate-seek-12
-slice-aggregate-seek-12 c = search needs
-
-seek-requires-12 : tie.Need-seek-requires-12
-seek-requires-12 c κs = search needs
-
 returns : tie.Need-returns
 unfolding operationOf operationAt arms operations entries numbersBelow ofLength ascii
 returns c = look-up-length operationAt (orElse noArm) refl 43 (c .before .before .before .before .args .name .now) operations _ 2 (omega arith) (c .before .before .match .keys1) (c .seek .ensures) (refl, refl)
@@ -110,35 +74,11 @@ unfolding operationOf operationAt arms operations entries numbersBelow ofLength 
 returns-6 c = look-up-length operationAt (orElse noArm) refl 43 (c .before .before .before .before .args .name .now) operations _ 7 (omega arith) (c .before .before .match .keys6) (c .seek6 .ensures) (refl, refl)
 
 returns-7 : tie.Need-returns-7
-unfolding operationOf operationAt arms operations entries numbersBelow ofLength ascii
-returns-7 c = look-up-length operationAt (orElse noArm) refl 43 (c .before .before .before .before .args .name .now) operations _ 8 (omega arith) (c .before .before .match .keys7) (c .seek7 .ensures) (refl, refl)
-
-returns-8 : tie.Need-returns-8
-unfolding operationOf operationAt arms operations entries numbersBelow ofLength ascii
-returns-8 c = look-up-length operationAt (orElse noArm) refl 43 (c .before .before .before .before .args .name .now) operations _ 9 (omega arith) (c .before .before .match .keys8) (c .seek8 .ensures) (refl, refl)
-
-returns-9 : tie.Need-returns-9
-unfolding operationOf operationAt arms operations entries numbersBelow ofLength ascii
-returns-9 c = look-up-length operationAt (orElse noArm) refl 43 (c .before .before .before .before .args .name .now) operations _ 10 (omega arith) (c .before .before .match .keys9) (c .seek9 .ensures) (refl, refl)
-
-returns-10 : tie.Need-returns-10
-unfolding operationOf operationAt arms operations entries numbersBelow ofLength ascii
-returns-10 c = look-up-length operationAt (orElse noArm) refl 43 (c .before .before .before .before .args .name .now) operations _ 11 (omega arith) (c .before .before .match .keys10) (c .seek10 .ensures) (refl, refl)
-
-returns-11 : tie.Need-returns-11
-unfolding operationOf operationAt arms operations entries numbersBelow ofLength ascii
-returns-11 c = look-up-length operationAt (orElse noArm) refl 43 (c .before .before .before .before .args .name .now) operations _ 12 (omega arith) (c .before .before .match .keys11) (c .seek11 .ensures) (refl, refl)
-
-returns-12 : tie.Need-returns-12
-unfolding operationOf operationAt arms operations entries numbersBelow ofLength ascii
-returns-12 c = look-up-length operationAt (orElse noArm) refl 43 (c .before .before .before .before .args .name .now) operations _ 13 (omega arith) (c .before .before .match .keys12) (c .seek12 .ensures) (refl, refl)
-
-returns-13 : tie.Need-returns-13
 unfolding operationOf operationAt arms operations lengthsIn NoneOf oneOf ascii
-returns-13 c = look-up-none operationAt (orElse noArm) refl 43 (c .before .before .args .name .now) operations (13 ∷ 12 ∷ 11 ∷ 10 ∷ 9 ∷ 8 ∷ 7 ∷ 6 ∷ 5 ∷ 4 ∷ 3 ∷ 2 ∷ []) (omega arith) refl (c .match .rest)
+returns-7 c = look-up-none operationAt (orElse noArm) refl 43 (c .before .before .args .name .now) operations (13 ∷ 12 ∷ 11 ∷ 10 ∷ 9 ∷ 8 ∷ 7 ∷ 6 ∷ 5 ∷ 4 ∷ 3 ∷ 2 ∷ []) (omega arith) refl ((((((c .match .rest, omega arith), omega arith), omega arith), omega arith), omega arith), omega arith)
 
-pub opcode-spec : {M : Type 1} → statement M
-opcode-spec =
+pub short-opcode-spec : {M : Type 1} → statement M
+short-opcode-spec =
     tie.close
     (tie.spec
     slice-aggregate-seek
@@ -153,28 +93,10 @@ opcode-spec =
     seek-requires-5
     slice-aggregate-seek-6
     seek-requires-6
-    slice-aggregate-seek-7
-    seek-requires-7
-    slice-aggregate-seek-8
-    seek-requires-8
-    slice-aggregate-seek-9
-    seek-requires-9
-    slice-aggregate-seek-10
-    seek-requires-10
-    slice-aggregate-seek-11
-    seek-requires-11
-    slice-aggregate-seek-12
-    seek-requires-12
     returns
     returns-2
     returns-3
     returns-4
     returns-5
     returns-6
-    returns-7
-    returns-8
-    returns-9
-    returns-10
-    returns-11
-    returns-12
-    returns-13)
+    returns-7)
