@@ -1,0 +1,272 @@
+-- A run that is stored from the room behind the map is the definition's store of its value; a register that is copied or moved, one or many of
+-- them; and the definition's arms in the words of a judged row. Assumes nothing.
+use mathlib.Core.Path.{_≡_, refl, sym, ap, subst, _∙_}
+use mathlib.Core.Option.{Option, none, some}
+use mathlib.Core.List.{List}
+use Prim.Native.Nat.{ℕ, zero, suc, _+_, _-_, _<_, _≤_}
+use native.Mathlib.Omega.{arith}
+use lib.ListN.{length}
+use lib.IntN.{ℤ, sucℤ}
+use Rattle.model.specs.Walk.{Tried, refused, done}
+use Rattle.model.specs.Row.{Row as Listed}
+use Rattle.model.specs.State.{RegDataType, Column, MemoryState, null}
+use Rattle.model.specs.Offer.{turns}
+use Rattle.model.specs.Access.{_>>=_, readRegister, storeRegister}
+use Rattle.model.specs.Good.{GoodRegister}
+use Rattle.model.specs.Meaning.{Meaning}
+use Rattle.model.specs.Operation.{opCopyOne, opCopy, opMove}
+use Rattle.model.specs.RegisterArms.{storeSome, copyTo, copyMany, moveSome, moveMany, registerArm}
+use Rattle.area.specs.Moves.{moved}
+use Rattle.area.specs.declared.Cell.{Cell}
+use Rattle.intmap.specs.Pack.{classKey}
+use Rattle.intmap.specs.Runs.{size, Agree}
+use Rattle.intmap.specs.Depth.{nesting}
+use Rattle.intmap.specs.Entries.{span}
+use Rattle.intmap.specs.Map.{levels, runsAt, Frame, HasRoom}
+use Rattle.intmap.specs.Signed.{intOf}
+use Rattle.intmap.specs.Store.{storedOf, Stores}
+use Rattle.intmap.specs.Get.{Gets}
+use Rattle.intmap.specs.declared.IntMap.{IntMap}
+use Rattle.intmap.specs.declared.Slot.{Slot}
+use Rattle.intmap.specs.declared.Slot.the-variants as slot
+use Rattle.intmap.specs.declared.Stored.{Stored}
+use Rattle.intmap.specs.declared.Stored.the-variants as stored
+use Rattle.intmap.proofs.EntryLaws.{span-same, length-span}
+use Rattle.intmap.proofs.SameCells.{copied, size-same}
+use Rattle.intmap.proofs.MapLaws.{copied-frame, copied-agree, placed-room}
+use Rattle.intmap.proofs.SignedLaws.{int-suc, int-turns}
+use Rattle.encoding.specs.Encode.{runRegister}
+use Rattle.encoding.specs.Holds.{SmallRegister}
+use Rattle.encoding.proofs.Held.{held-elsewhere}
+use Rattle.encoding.proofs.HeldAfter.{Carried}
+use Rattle.encoding.proofs.HeldFrom.{held-register-from}
+use Rattle.encoding.proofs.HeldRead.{Value, told-register}
+use Rattle.rows.specs.Judged.{Judged}
+use Rattle.rows.specs.declared.Row.{Row}
+use Rattle.state.specs.Leads.{Current, HoldsMap, Tells, Leaves, Leads}
+use Rattle.state.specs.Arms.{Standard}
+use Rattle.state.specs.Reads.{Reads}
+use Rattle.state.specs.declared.Register.{Register}
+use Rattle.state.specs.declared.Register.the-variants as register
+use Rattle.state.proofs.ReadLaws.{read-bad, read-absent}
+use Rattle.copy_arms.specs.Copies.{StoresFrom, moveOne}
+use Rattle.copy_arms.proofs.LeadsLaws.{frame-none, frame-within, frame-then, Reached}
+
+-- ---- a store from the room behind the map
+
+-- an answer in runs is the definition's
+tells : (limit bound : ℕ) (ds : List Cell) (r : Stored) (t : Tried MemoryState) → Carried limit bound (storedOf ds r) t → (a : IntMap) → Leaves limit ds a r → Tells limit bound ds r t
+tells limit bound ds (stored.Refused n) t c a l = c .refuses n refl
+tells limit bound ds (stored.Done b) t c a l = c .next ds (b .base) (b .len) (b .used) (runsAt ds b) refl refl (l .room .used)
+
+left : (cs ds : List Cell) (limit : ℕ) (a : IntMap) (j depth : ℕ) (run : List Cell) (r : Stored) → Stores cs ds limit a 0 j depth run r → Leaves limit ds a r
+left cs ds limit a j depth run (stored.Refused n) st = tt
+left cs ds limit a j depth run (stored.Done b) st = record { base = st .leaves .base; room = st .leaves .room }
+
+-- the entry at `at`, of n cells, stands behind the map too
+module _ (limit : ℕ) (cs es : List Cell) (a : IntMap) (at n : ℕ) (current : Current limit cs a)
+    (below : at + size cs levels at ≤ a .base + a .used) (counted : n ≡ size cs levels at) (above : a .base ≤ at) (moves : es ≡ moved cs at (a .base + limit) n)
+  where
+    agree : Agree cs at es (a .base + limit) n
+    agree = copied-agree cs es at (a .base + limit) n n (copied refl moves) (omega (arith, current .scratch, current .room .most))
+
+    frame : Frame cs es (a .base + limit) n
+    frame = copied-frame cs es at (a .base + limit) n n (copied refl moves)
+
+    kept : Agree cs (a .base) es (a .base) (a .used)
+    kept j lt = frame .below (a .base + j) (omega (arith, current .room .most))
+
+    whole : Agree cs at es (a .base + limit) (size cs levels at)
+    whole j lt = agree j (omega arith)
+
+    long : size es levels (a .base + limit) ≡ n
+    long = size-same cs es levels at (a .base + limit) whole ∙ sym counted
+
+    pub behind-room : HasRoom es limit a
+    behind-room = placed-room cs es a (a .base) (record { used = current .room .used; inside = omega (arith, current .room .room, current .room .most); small = current .room .small }) kept (frame .long) limit (current .room .most) (omega (arith, frame .long, current .room .room))
+
+    pub behind-fits : a .base + limit + size es levels (a .base + limit) ≤ length es
+    behind-fits = omega (arith, long, frame .long, current .scratch, current .room .most)
+
+    pub stores-from : (ds : List Cell) (j : ℕ) (r : Stored) → Stores es ds limit a 0 j (nesting es levels (a .base + limit)) (span es (a .base + limit) (size es levels (a .base + limit))) r → StoresFrom limit cs ds a at j r
+    stores-from ds j r st =
+        record {
+          says = λ bound m key v h good small is.
+              (let run : span es (a .base + limit) n ≡ runRegister key v = span-same cs es n at (a .base + limit) agree ∙ ap (span cs at) counted ∙ is in
+              let size-run : length (runRegister key v) ≡ n = ap length (sym run) ∙ length-span es (a .base + limit) n in
+              let c = held-register-from (held-elsewhere limit bound cs (a .base) (a .len) (a .used) m h es (a .base) kept) (a .base + limit) key (intOf j) v (ap (span es (a .base + limit)) size-run ∙ run) (omega (arith, good .depth)) (λ _. good .sorted) small in
+              tells limit bound ds r (storeRegister limit (intOf j) v m) (subst (λ u. Carried limit bound u (storeRegister limit (intOf j) v m)) (sym (st .answer)) c) a (left es ds limit a j _ _ r st));
+          leaves = left es ds limit a j _ _ r st;
+          frame =
+              frame-then cs es ds (a .base) (limit + limit) (frame-within cs es (a .base + limit) n (a .base) (limit + limit) (omega arith) (omega (arith, current .room .most)) frame)
+              (frame-within es ds (a .base) limit (a .base) (limit + limit) (omega arith) (omega arith) (st .frame));
+        }
+
+-- ---- a register that is read first
+
+-- `next` is what the definition does with it
+module _ (limit : ℕ) (cs : List Cell) (a : IntMap) (i : ℕ) (next : Option RegDataType → MemoryState → Tried MemoryState) where
+  read-stop : (n : ℕ) → Reads cs a i (register.Bad n) → Leads limit cs cs a (stored.Refused n) (λ m. readRegister (intOf i) m >>= λ v. next v m)
+  read-stop n reads =
+      record {
+        says = λ bound m le h. ap (λ t. t >>= λ v. next v m) (reads .says limit bound m h);
+        leaves = tt;
+        frame = frame-none cs (a .base) (limit + limit);
+      }
+
+  read-none : Current limit cs a → ((m : MemoryState) → next none m ≡ done m) → Reads cs a i register.Absent → Leads limit cs cs a (stored.Done a) (λ m. readRegister (intOf i) m >>= λ v. next v m)
+  read-none current same reads =
+      record {
+        says = λ bound m le h. record { state = m; answer = ap (λ t. t >>= λ v. next v m) (reads .says limit bound m h) ∙ same m; holds = h };
+        leaves = record { base = refl; room = current .room };
+        frame = frame-none cs (a .base) (limit + limit);
+      }
+
+-- what is read is there, and f makes w of it
+pub record Made (f : RegDataType → RegDataType) (w : RegDataType) (t : Tried (Option RegDataType)) : Type 0 where
+  pub value : RegDataType
+  pub answer : t ≡ done (some value)
+  pub is : f value ≡ w
+
+-- it is copied, changed by f
+module _ (limit : ℕ) (cs : List Cell) (a : IntMap) (i j : ℕ) (f : RegDataType → RegDataType) where
+  pub copy-stop : (n : ℕ) → Reads cs a i (register.Bad n) → Leads limit cs cs a (stored.Refused n) (copyTo limit (intOf i) (intOf j) f)
+  unfolding copyTo
+  copy-stop n reads = read-stop limit cs a i (storeSome limit (intOf j) f) n reads
+
+  pub copy-none : Current limit cs a → Reads cs a i register.Absent → Leads limit cs cs a (stored.Done a) (copyTo limit (intOf i) (intOf j) f)
+  unfolding copyTo
+  copy-none current reads = read-none limit cs a i (storeSome limit (intOf j) f) current (λ m. refl) reads
+
+  -- the store of w is the definition's, if f makes w of what is read
+  pub copy-made : (w : RegDataType) (ds : List Cell) (r : Stored) → ((bound : ℕ) (m : MemoryState) → HoldsMap limit bound cs a m → Made f w (readRegister (intOf i) m)) → Leads limit cs ds a r (storeRegister limit (intOf j) w) → Leads limit cs ds a r (copyTo limit (intOf i) (intOf j) f)
+  unfolding copyTo
+  copy-made w ds r made l =
+      record {
+        says = λ bound m le h.
+            (let v = made bound m h in
+            subst (Tells limit bound ds r)
+            (sym (ap (λ t. t >>= λ u. storeSome limit (intOf j) f u m) (v .answer) ∙ ap (λ z. storeRegister limit (intOf j) z m) (v .is)))
+            (l .says bound m le h));
+        leaves = l .leaves;
+        frame = l .frame;
+      }
+
+-- ---- by the place of its run
+
+module _ (limit : ℕ) (cs : List Cell) (a : IntMap) (i : ℕ) (current : Current limit cs a) (x : Slot) (g : Gets cs a 0 i x) where
+  module _ (p : ℕ) (e : x ≡ slot.At p) where
+    there : Gets cs a 0 i (slot.At p)
+    there = subst (Gets cs a 0 i) e g
+
+    pub found-place : (a .base ≤ p) × (p + size cs levels p ≤ a .base + a .used)
+    found-place = there .place
+
+    pub found-value : (bound : ℕ) (m : MemoryState) → HoldsMap limit bound cs a m → Value (λ v. GoodRegister v × SmallRegister bound v) (runRegister (classKey 0 (turns (intOf i)))) (span cs p (size cs levels p)) (readRegister (intOf i) m)
+    found-value bound m h = told-register h (intOf i) .present (span cs p (size cs levels p)) (sym (there .answer))
+
+    pub copied-found : (j : ℕ) (ds : List Cell) (r : Stored) → StoresFrom limit cs ds a p j r → Leads limit cs ds a r (copyTo limit (intOf i) (intOf j) (λ v. v))
+    unfolding copyTo
+    copied-found j ds r st =
+        record {
+          says = λ bound m le h.
+              (let v = found-value bound m h in
+              subst (Tells limit bound ds r) (sym (ap (λ t. t >>= λ w. storeSome limit (intOf j) (λ u. u) w m) (v .answer)))
+              (st .says bound m (classKey 0 (turns (intOf i))) (v .value) h (v .has .0) (v .has .1) (v .is)));
+          leaves = st .leaves;
+          frame = st .frame;
+        }
+
+  -- it is moved
+  module _ (j : ℕ) where
+    pub moved-bad : (n : ℕ) → x ≡ slot.Bad n → Leads limit cs cs a (stored.Refused n) (moveOne limit (intOf i) (intOf j))
+    unfolding moveOne
+    moved-bad n e = read-stop limit cs a i (moveSome limit (intOf i) (intOf j)) n (read-bad cs a i x g n e)
+
+    pub moved-absent : x ≡ slot.Absent → Leads limit cs cs a (stored.Done a) (moveOne limit (intOf i) (intOf j))
+    unfolding moveOne
+    moved-absent e = read-none limit cs a i (moveSome limit (intOf i) (intOf j)) current (λ m. refl) (read-absent cs a i x g e)
+
+    module _ (p : ℕ) (e : x ≡ slot.At p) (ds : List Cell) (s : Stored) (stores : StoresFrom limit cs ds a p j s) where
+      -- the definition, where there is a value
+      opened : (bound : ℕ) (m : MemoryState) (h : HoldsMap limit bound cs a m) → moveOne limit (intOf i) (intOf j) m ≡ storeRegister limit (intOf j) (found-value p e bound m h .value) m >>= storeRegister limit (intOf i) (Column null)
+      unfolding moveOne
+      opened bound m h = ap (λ t. t >>= λ v. moveSome limit (intOf i) (intOf j) v m) (found-value p e bound m h .answer)
+
+      told : (bound : ℕ) (m : MemoryState) (h : HoldsMap limit bound cs a m) → Tells limit bound ds s (storeRegister limit (intOf j) (found-value p e bound m h .value) m)
+      told bound m h = let v = found-value p e bound m h in stores .says bound m (classKey 0 (turns (intOf i))) (v .value) h (v .has .0) (v .has .1) (v .is)
+
+      pub moved-stop : (n : ℕ) → s ≡ stored.Refused n → Leads limit cs ds a (stored.Refused n) (moveOne limit (intOf i) (intOf j))
+      moved-stop n q =
+          record {
+            says = λ bound m le h.
+                opened bound m h ∙ ap (λ t. t >>= storeRegister limit (intOf i) (Column null)) (subst (λ z. Tells limit bound ds z (storeRegister limit (intOf j) (found-value p e bound m h .value) m)) q (told bound m h));
+            leaves = tt;
+            frame = stores .frame;
+          }
+
+      pub moved-next : (b : IntMap) → s ≡ stored.Done b → Reached limit cs ds a b (moveOne limit (intOf i) (intOf j)) (storeRegister limit (intOf i) (Column null))
+      moved-next b q =
+          let stays = subst (Leaves limit ds a) q (stores .leaves) in
+          record {
+            says = λ bound m le h.
+                (let w = subst (λ z. Tells limit bound ds z (storeRegister limit (intOf j) (found-value p e bound m h .value) m)) q (told bound m h) in
+                record { state = w .state; same = opened bound m h ∙ ap (λ t. t >>= storeRegister limit (intOf i) (Column null)) (w .answer); holds = w .holds });
+            base = stays .base;
+            current = record { room = stays .room; scratch = omega (arith, stays .base, stores .frame .long, current .scratch) };
+            frame = stores .frame;
+          }
+
+-- ---- turns of the definition's loops
+
+-- one register on, in words
+onward : (g : ℕ → ℤ → ℤ → MemoryState → Tried MemoryState) (t : Tried MemoryState) (n i j : ℕ) → t >>= g n (sucℤ (intOf i)) (sucℤ (intOf j)) ≡ t >>= g (suc n - 1) (intOf (i + 1)) (intOf (j + 1))
+onward g t n i j =
+    let e : n ≡ suc n - 1 = omega arith in
+    ap (λ k. t >>= g n k (sucℤ (intOf j))) (int-suc i) ∙ ap (λ k. t >>= g n (intOf (i + 1)) k) (int-suc j) ∙ ap (λ k. t >>= g k (intOf (i + 1)) (intOf (j + 1))) e
+
+regroup : {A B C : Type 0} (t : Tried A) (f : A → Tried B) (g : B → Tried C) → (t >>= λ v. f v >>= g) ≡ t >>= f >>= g
+regroup (refused n) f g = refl
+regroup (done v) f g = refl
+
+module _ (limit : ℕ) where
+  pub copies-open : (n i j : ℕ) → 0 < n → (m : MemoryState) → copyMany limit n (intOf i) (intOf j) m ≡ copyTo limit (intOf i) (intOf j) (λ v. v) m >>= copyMany limit (n - 1) (intOf (i + 1)) (intOf (j + 1))
+  unfolding copyMany
+  copies-open zero i j lt m = absurd (omega arith)
+  copies-open (suc n) i j lt m = onward (copyMany limit) (copyTo limit (intOf i) (intOf j) (λ v. v) m) n i j
+
+  pub copies-end : (n i j : ℕ) → n ≤ 0 → (m : MemoryState) → copyMany limit n (intOf i) (intOf j) m ≡ done m
+  unfolding copyMany
+  copies-end zero i j le m = refl
+  copies-end (suc n) i j le m = absurd (omega arith)
+
+  pub moves-open : (n i j : ℕ) → 0 < n → (m : MemoryState) → moveMany limit n (intOf i) (intOf j) m ≡ moveOne limit (intOf i) (intOf j) m >>= moveMany limit (n - 1) (intOf (i + 1)) (intOf (j + 1))
+  unfolding moveMany moveOne
+  moves-open zero i j lt m = absurd (omega arith)
+  moves-open (suc n) i j lt m =
+      regroup (readRegister (intOf i) m) (λ v. moveSome limit (intOf i) (intOf j) v m) (moveMany limit n (sucℤ (intOf i)) (sucℤ (intOf j)))
+      ∙ onward (moveMany limit) (readRegister (intOf i) m >>= λ v. moveSome limit (intOf i) (intOf j) v m) n i j
+
+  pub moves-end : (n i j : ℕ) → n ≤ 0 → (m : MemoryState) → moveMany limit n (intOf i) (intOf j) m ≡ done m
+  unfolding moveMany
+  moves-end zero i j le m = refl
+  moves-end (suc n) i j le m = absurd (omega arith)
+
+-- ---- the definition's arms
+
+module _ (limit : ℕ) (meaning : Meaning) (l : Listed) (x : Row) (s : Standard limit meaning) (j : Judged l x) where
+  pub arm-copy-one : (m : MemoryState) → copyTo limit (intOf (x .p1)) (intOf (x .p2)) (λ v. v) m ≡ registerArm meaning l m opCopyOne
+  unfolding registerArm
+  arm-copy-one m = rw (s .cells, j .p1, j .p2)
+
+  pub arm-copy : (n : ℕ) → n ≡ x .p3 + 1 - 9223372036854775808 → (m : MemoryState) → copyMany limit n (intOf (x .p1)) (intOf (x .p2)) m ≡ registerArm meaning l m opCopy
+  unfolding registerArm
+  arm-copy n e m =
+      let t : n ≡ turns (sucℤ (l .p3)) = e ∙ sym (int-turns (x .p3 + 1)) ∙ ap turns (sym (int-suc (x .p3))) ∙ ap (λ k. turns (sucℤ k)) (j .p3) in
+      ap (λ k. copyMany limit k (intOf (x .p1)) (intOf (x .p2)) m) t ∙ rw (s .cells, j .p1, j .p2)
+
+  pub arm-move : (n : ℕ) → n ≡ x .p3 - 9223372036854775808 → (m : MemoryState) → moveMany limit n (intOf (x .p1)) (intOf (x .p2)) m ≡ registerArm meaning l m opMove
+  unfolding registerArm
+  arm-move n e m =
+      let t : n ≡ turns (l .p3) = e ∙ sym (int-turns (x .p3)) ∙ ap turns (j .p3) in
+      ap (λ k. moveMany limit k (intOf (x .p1)) (intOf (x .p2)) m) t ∙ rw (s .cells, j .p1, j .p2)

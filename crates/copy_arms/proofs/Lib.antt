@@ -1,0 +1,3 @@
+pub mod LeadsLaws
+pub mod CopyLaws
+pub mod ChangedLaws
