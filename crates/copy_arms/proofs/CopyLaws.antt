@@ -1,7 +1,7 @@
 -- A run that is stored from the room behind the map is the definition's store of its value; a register that is copied or moved, one or many of
 -- them; and the definition's arms in the words of a judged row. Assumes nothing.
 use mathlib.Core.Path.{_≡_, refl, sym, ap, subst, _∙_}
-use mathlib.Core.Option.{Option, none, some}
+use mathlib.Core.Option.{Option, none}
 use mathlib.Core.List.{List}
 use Prim.Native.Nat.{ℕ, zero, suc, _+_, _-_, _<_, _≤_}
 use native.Mathlib.Omega.{arith}
@@ -122,13 +122,7 @@ module _ (limit : ℕ) (cs : List Cell) (a : IntMap) (i : ℕ) (next : Option Re
         frame = frame-none cs (a .base) (limit + limit);
       }
 
--- what is read is there, and f makes w of it
-pub record Made (f : RegDataType → RegDataType) (w : RegDataType) (t : Tried (Option RegDataType)) : Type 0 where
-  pub value : RegDataType
-  pub answer : t ≡ done (some value)
-  pub is : f value ≡ w
-
--- it is copied, changed by f
+-- what there is to copy
 module _ (limit : ℕ) (cs : List Cell) (a : IntMap) (i j : ℕ) (f : RegDataType → RegDataType) where
   pub copy-stop : (n : ℕ) → Reads cs a i (register.Bad n) → Leads limit cs cs a (stored.Refused n) (copyTo limit (intOf i) (intOf j) f)
   unfolding copyTo
@@ -137,20 +131,6 @@ module _ (limit : ℕ) (cs : List Cell) (a : IntMap) (i j : ℕ) (f : RegDataTyp
   pub copy-none : Current limit cs a → Reads cs a i register.Absent → Leads limit cs cs a (stored.Done a) (copyTo limit (intOf i) (intOf j) f)
   unfolding copyTo
   copy-none current reads = read-none limit cs a i (storeSome limit (intOf j) f) current (λ m. refl) reads
-
-  -- the store of w is the definition's, if f makes w of what is read
-  pub copy-made : (w : RegDataType) (ds : List Cell) (r : Stored) → ((bound : ℕ) (m : MemoryState) → HoldsMap limit bound cs a m → Made f w (readRegister (intOf i) m)) → Leads limit cs ds a r (storeRegister limit (intOf j) w) → Leads limit cs ds a r (copyTo limit (intOf i) (intOf j) f)
-  unfolding copyTo
-  copy-made w ds r made l =
-      record {
-        says = λ bound m le h.
-            (let v = made bound m h in
-            subst (Tells limit bound ds r)
-            (sym (ap (λ t. t >>= λ u. storeSome limit (intOf j) f u m) (v .answer) ∙ ap (λ z. storeRegister limit (intOf j) z m) (v .is)))
-            (l .says bound m le h));
-        leaves = l .leaves;
-        frame = l .frame;
-      }
 
 -- ---- by the place of its run
 

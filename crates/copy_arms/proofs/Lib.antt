@@ -1,3 +1,2 @@
 pub mod LeadsLaws
 pub mod CopyLaws
-pub mod ChangedLaws

@@ -1,6 +1,5 @@
--- What a store of an entry that the map has leads to, one turn of Move, and what AggStep makes of its operand. Assumes nothing.
+-- What a store of an entry that the map has leads to, and one turn of Move. Assumes nothing.
 use mathlib.Core.Path.{_≡_}
-use mathlib.Core.Bool.{Bool, true, false}
 use mathlib.Core.List.{List}
 use Prim.Native.Nat.{ℕ, _+_}
 use lib.IntN.{ℤ}
@@ -8,7 +7,7 @@ use Rattle.model.specs.Walk.{Tried}
 use Rattle.model.specs.State.{RegDataType, MemoryState}
 use Rattle.model.specs.Access.{_>>=_, readRegister, storeRegister}
 use Rattle.model.specs.Good.{GoodRegister}
-use Rattle.model.specs.RegisterArms.{summed, fromOtherRow, moveSome}
+use Rattle.model.specs.RegisterArms.{moveSome}
 use Rattle.area.specs.declared.Cell.{Cell}
 use Rattle.intmap.specs.Map.{levels, Frame}
 use Rattle.intmap.specs.Runs.{size}
@@ -29,8 +28,3 @@ pub record StoresFrom (limit : ℕ) (cs ds : List Cell) (a : IntMap) (at j : ℕ
 -- one turn of Move
 unfoldable pub moveOne : ℕ → ℤ → ℤ → MemoryState → Tried MemoryState
 moveOne limit i j m = readRegister i m >>= λ v. moveSome limit i j v m
-
--- what AggStep makes of its operand: a sum, or a value of another row
-unfoldable pub changed : Bool → RegDataType → RegDataType
-changed true v = summed v
-changed false v = fromOtherRow v

@@ -1,8 +1,6 @@
 // The arms of `explain` that copy or move registers. Translated from sqlx-sqlite 0.9.0, src/connection/explain.rs: OP_SCOPY, OP_INT_COPY,
-// OP_NOT, OP_COPY, OP_MOVE, and the copies of OP_AGG_STEP.
+// OP_NOT, OP_COPY, OP_MOVE.
 ghost use mathlib.Core.Path.{_≡_};
-ghost use mathlib.Core.Option.{none};
-ghost use lib.ListN.{getD};
 ghost use Prim.Native.Nat.{_+_, _-_, _<_, _≤_};
 ghost use Rattle.model.specs.RegisterArms.{copyTo, copyMany, moveMany};
 ghost use Rattle.model.specs.Operation.{opCopyOne, opCopy, opMove};
@@ -10,20 +8,14 @@ ghost use Rattle.area.specs.Cells.{cells};
 ghost use Rattle.intmap.specs.Map.{levels};
 ghost use Rattle.intmap.specs.Runs.{size};
 ghost use Rattle.intmap.specs.Signed.{intOf};
-ghost use Rattle.type_info.specs.declared.DataType.the-variants.{Null};
-ghost use Rattle.model.specs.State.{Column, Single};
-ghost use Rattle.model.specs.Functions.{sumDatatype};
-ghost use Rattle.model.specs.Access.{storeRegister};
-ghost use Rattle.encoding.specs.Decode.{datatypes, nullables};
 ghost use Rattle.rows.specs.Rows.{Fits};
 ghost use Rattle.state.specs.Leads.{Current, Leads};
 ghost use Rattle.state.specs.Arms.{RegisterArm};
-ghost use Rattle.copy_arms.specs.Copies.{StoresFrom, moveOne, changed};
+ghost use Rattle.copy_arms.specs.Copies.{StoresFrom, moveOne};
 use intmap::IntMap;
 use intmap::Slot;
 use intmap::Stored;
 use rows::Row;
-use state::Register;
 use type_info::DataType;
 
 // Stores the entry at `at` of the map in register j too. A store may move that entry, so its run goes to the room behind the map first.
@@ -62,10 +54,10 @@ pub fn scopy(map: IntMap, area: &mut [u8], x: Row, limit: usize) -> Stored
 fn turns(w: u64) -> u64
     ensures { λ r. ⌜ r ≡ w - 9223372036854775808 ⌝ }
 {
-    if w < 9223372036854775808 {
+    if w < intmap::ZERO {
         return 0;
     }
-    w - 9223372036854775808
+    w - intmap::ZERO
 }
 
 // Copies n registers from i on to those from j on, in their order. An index above 65,535 is refused, so that there are at most 65,536 turns.
@@ -155,92 +147,4 @@ pub fn move_(map: IntMap, area: &mut [u8], x: Row, limit: usize) -> Stored
     ensures { λ r. ⌜ RegisterArm limit (cells (now (area .entry))) (cells (now (area .exit))) map x opMove r ⌝ }
 {
     move_many(map, area, x.p1, x.p2, turns(x.p3), limit)
-}
-
-// The kind of a code.
-fn datatype(kind: u64) -> DataType
-    ensures { λ r. ⌜ r ≡ getD datatypes kind Null ⌝ }
-{
-    match kind {
-        1 => DataType::Integer,
-        2 => DataType::Float,
-        3 => DataType::Text,
-        4 => DataType::Blob,
-        5 => DataType::Numeric,
-        6 => DataType::Bool,
-        7 => DataType::Int4,
-        8 => DataType::Date,
-        9 => DataType::Time,
-        10 => DataType::Datetime,
-        _ => DataType::Null,
-    }
-}
-
-// The code of `nullable` that a store takes: a cell has room for more than three, and any other says that it is not known.
-fn nullable_code(n: u64) -> u64
-    ensures { λ r. ⌜ (getD nullables r none ≡ getD nullables n none) × (r < 3) ⌝ }
-{
-    if n < 3 {
-        return n;
-    }
-    state::UNKNOWN
-}
-
-// The kind of a sum.
-fn sum_datatype(d: DataType) -> DataType
-    ensures { λ r. ⌜ r ≡ sumDatatype d ⌝ }
-{
-    match d {
-        DataType::Null => DataType::Float,
-        DataType::Integer => DataType::Integer,
-        DataType::Float => DataType::Float,
-        DataType::Text => DataType::Float,
-        DataType::Blob => DataType::Float,
-        DataType::Numeric => DataType::Float,
-        DataType::Bool => DataType::Integer,
-        DataType::Int4 => DataType::Integer,
-        DataType::Date => DataType::Float,
-        DataType::Time => DataType::Float,
-        DataType::Datetime => DataType::Float,
-    }
-}
-
-// Stores what AggStep makes of a plain column: a sum, or a value of another row, which may be null.
-fn store_changed(
-    map: IntMap,
-    area: &mut [u8],
-    j: u64,
-    d: DataType,
-    nullable: u64,
-    sum: bool,
-    limit: usize,
-) -> Stored
-    requires { ⌜ Current limit (cells (now area)) map × (nullable < 3) ⌝ }
-    ensures { λ r. ⌜ Leads limit (cells (now (area .entry))) (cells (now (area .exit))) map r (storeRegister limit (intOf j) (changed sum (Column (Single d (getD nullables nullable none))))) ⌝ }
-{
-    if sum {
-        return state::store_single(map, area, j, sum_datatype(d), nullable, limit);
-    }
-    state::store_single(map, area, j, d, state::NULLABLE, limit)
-}
-
-// Stores what AggStep makes of what register i holds, if there is something, in register j: a plain column, whatever it holds.
-pub fn copy_with(map: IntMap, area: &mut [u8], i: u64, j: u64, sum: bool, limit: usize) -> Stored
-    requires { ⌜ Current limit (cells (now area)) map ⌝ }
-    ensures { λ r. ⌜ Leads limit (cells (now (area .entry))) (cells (now (area .exit))) map r (copyTo limit (intOf i) (intOf j) (changed sum)) ⌝ }
-{
-    let x = state::read_register(map, area, i);
-    match x {
-        Register::Bad(n) => Stored::Refused(n),
-        Register::Absent => Stored::Done(map),
-        Register::Single(k, n) => {
-            store_changed(map, area, j, datatype(k), nullable_code(n), sum, limit)
-        }
-        Register::Record(at) => {
-            store_changed(map, area, j, DataType::Null, state::UNKNOWN, sum, limit)
-        }
-        Register::Int(w) => {
-            store_changed(map, area, j, DataType::Integer, state::NEVER, sum, limit)
-        }
-    }
 }

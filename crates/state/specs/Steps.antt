@@ -51,16 +51,27 @@ abbrev pub TellsStep : ℕ → ℕ → List Cell → Step → Offer → Type 0
 TellsStep limit bound cs (step.Refused n) o = o ≡ refused n
 TellsStep limit bound cs (step.Ways b s) o = Offered limit bound cs b s o
 
--- the state that goes on lies where the state was, and a branch there or in the room behind it
+-- the state that goes on lies where the state was
 abbrev pub StaysAt : ℕ → List Cell → ℕ → Way → Type 0
 StaysAt limit ds base way.Nowhere = Unit {0}
 StaysAt limit ds base (way.To t) = (t .map .base ≡ base) × HasRoom ds limit (t .map)
 
+-- a branch lies no further than at the room behind it
+pub record Lies (limit : ℕ) (ds : List Cell) (base : ℕ) (t : MemoryState) : Type 0 where
+  pub above : base ≤ t .map .base
+  pub below : t .map .base ≤ base + limit
+  pub room : HasRoom ds limit (t .map)
+
+abbrev pub LiesAt : ℕ → List Cell → ℕ → Way → Type 0
+LiesAt limit ds base way.Nowhere = Unit {0}
+LiesAt limit ds base (way.To t) = Lies limit ds base t
+
 abbrev pub LeavesStep : ℕ → List Cell → MemoryState → Step → Type 0
 LeavesStep limit ds s (step.Refused n) = Unit {0}
-LeavesStep limit ds s (step.Ways b w) = StaysAt limit ds (s .map .base) w
+LeavesStep limit ds s (step.Ways b w) = LiesAt limit ds (s .map .base) b × StaysAt limit ds (s .map .base) w
 
+-- no arm of these makes a known number larger than `bound`
 pub record JumpArm (limit : ℕ) (cs ds : List Cell) (s : MemoryState) (x : Row) (o : JumpOperation) (r : Step) : Type 0 where
-  pub says : (rows : List Listed) (l : Listed) → Judged l x → (bound : ℕ) (m : Defined) → operands ≤ bound → HoldsState limit bound cs s m → TellsStep limit (bound + 1) ds r (jumpArm limit rows l m o)
+  pub says : (rows : List Listed) (l : Listed) → Judged l x → (bound : ℕ) (m : Defined) → operands ≤ bound → HoldsState limit bound cs s m → TellsStep limit bound ds r (jumpArm limit rows l m o)
   pub leaves : LeavesStep limit ds s r
   pub frame : Frame cs ds (s .map .base) (limit + limit)

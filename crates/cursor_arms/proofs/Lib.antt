@@ -1,0 +1,5 @@
+pub mod CursorLeads
+pub mod CursorLaws
+pub mod DupLaws
+pub mod TableLaws
+pub mod DeleteLaws

@@ -1,0 +1,168 @@
+// Cursors in the state by value, and the arms of `explain` that open one on what is there already, or say that a table may be empty:
+// OpenPseudo, OpenDup and Delete.
+// Translated from sqlx-sqlite 0.9.0, src/connection/explain.rs.
+ghost use mathlib.Core.Path.{_≡_};
+ghost use Prim.Native.Nat.{ℕ, _≤_};
+ghost use Rattle.model.specs.State.{Normal, Pseudo};
+ghost use Rattle.model.specs.Access.{storeCursor};
+ghost use Rattle.model.specs.CursorArms.{emptyAfterDelete, afterDelete};
+ghost use Rattle.model.specs.Operation.{opOpenPseudo, opOpenDup, opDelete};
+ghost use Rattle.area.specs.Cells.{cells};
+ghost use Rattle.intmap.specs.Pack.{withNullable};
+ghost use Rattle.intmap.specs.Map.{IsMap};
+ghost use Rattle.intmap.specs.Signed.{intOf};
+ghost use Rattle.encoding.specs.Encode.{nullableCode};
+ghost use Rattle.encoding.specs.Decode.{nullableIn};
+ghost use Rattle.rows.specs.Rows.{Operand, Fits};
+ghost use Rattle.state.specs.Leads.{Current, Leads};
+ghost use Rattle.state.specs.Arms.{CursorArm};
+ghost use Rattle.cursor_arms.specs.Cursors.{cursorIn, ReadsCursor, TableChanged};
+use area::Cell;
+use intmap::IntMap;
+use intmap::Slot;
+use intmap::Stored;
+use rows::Row;
+
+// The class of cursors in the map.
+pub const CURSORS: u64 = 1;
+
+// And that of tables.
+pub const TABLES: u64 = 2;
+
+// The codes of a table's emptiness.
+pub const MAYBE_EMPTY: u64 = 0;
+
+pub const EMPTY: u64 = 2;
+
+// Stores a cursor that reads the record in a register, whose number is an operand's word.
+pub fn store_pseudo(map: IntMap, area: &mut [u8], i: u64, register: u64, limit: usize) -> Stored
+    requires { ⌜ Current limit (cells (now area)) map × Operand register ⌝ }
+    ensures { λ r. ⌜ Leads limit (cells (now (area .entry))) (cells (now (area .exit))) map r (storeCursor limit (intOf i) (Pseudo (intOf register))) ⌝ }
+{
+    map.store_cell(
+        area,
+        CURSORS,
+        i,
+        Cell {
+            head: intmap::PSEUDO,
+            payload: register,
+        },
+        limit,
+    )
+}
+
+// Stores a cursor on the table that this row opened.
+pub fn store_normal(map: IntMap, area: &mut [u8], i: u64, row: u64, limit: usize) -> Stored
+    requires { ⌜ Current limit (cells (now area)) map × (row ≤ 65535) ⌝ }
+    ensures { λ r. ⌜ Leads limit (cells (now (area .entry))) (cells (now (area .exit))) map r (storeCursor limit (intOf i) (Normal row)) ⌝ }
+{
+    map.store_cell(
+        area,
+        CURSORS,
+        i,
+        Cell {
+            head: intmap::NORMAL,
+            payload: row,
+        },
+        limit,
+    )
+}
+
+// OpenPseudo: cursor P1 reads register P2.
+pub fn open_pseudo(map: IntMap, area: &mut [u8], x: Row, limit: usize) -> Stored
+    requires { ⌜ Current limit (cells (now area)) map × Fits x ⌝ }
+    ensures { λ r. ⌜ ((row : ℕ) → CursorArm limit (cells (now (area .entry))) (cells (now (area .exit))) map row x opOpenPseudo r) ⌝ }
+{
+    store_pseudo(map, area, x.p1, x.p2, limit)
+}
+
+// What a cursor is. One on a table is told by the row that opened it, a pseudo cursor by its register's word.
+pub enum CursorDataType {
+    Bad(u64),
+    Absent,
+    Normal(u64),
+    Pseudo(u64),
+}
+
+// What a cursor's cell says. A row's number has 16 bits, and taking no more makes it one in any cell.
+fn cursor_in(c: Cell) -> CursorDataType
+    ensures { λ r. ⌜ r ≡ cursorIn c ⌝ }
+{
+    if intmap::tag_of(c) == intmap::NORMAL {
+        return CursorDataType::Normal(c.payload % 65536);
+    }
+    CursorDataType::Pseudo(c.payload)
+}
+
+// Reads cursor i.
+pub fn read_cursor(map: IntMap, area: &[u8], i: u64) -> CursorDataType
+    requires { ⌜ IsMap (cells (now area)) map ⌝ }
+    ensures { λ r. ⌜ ReadsCursor (cells (now (area .entry))) map i r ⌝ }
+{
+    let x = map.get(area, CURSORS, i);
+    match x {
+        Slot::Bad(n) => CursorDataType::Bad(n),
+        Slot::Absent => CursorDataType::Absent,
+        Slot::At(at) => cursor_in(area::cell_at(area, at)),
+    }
+}
+
+// OpenDup: cursor P1 becomes what cursor P2 is, if there is one.
+pub fn open_dup(map: IntMap, area: &mut [u8], x: Row, limit: usize) -> Stored
+    requires { ⌜ Current limit (cells (now area)) map ⌝ }
+    ensures { λ r. ⌜ ((row : ℕ) → CursorArm limit (cells (now (area .entry))) (cells (now (area .exit))) map row x opOpenDup r) ⌝ }
+{
+    let p = read_cursor(map, area, x.p2);
+    match p {
+        CursorDataType::Bad(n) => Stored::Refused(n),
+        CursorDataType::Absent => Stored::Done(map),
+        CursorDataType::Normal(payload) => {
+            let head = intmap::NORMAL;
+            map.store_cell(area, CURSORS, x.p1, Cell { head, payload }, limit)
+        }
+        CursorDataType::Pseudo(payload) => {
+            let head = intmap::PSEUDO;
+            map.store_cell(area, CURSORS, x.p1, Cell { head, payload }, limit)
+        }
+    }
+}
+
+// A table's head after a row was deleted: a table that had rows might be empty now.
+fn after_delete(c: Cell) -> Cell
+    ensures { λ r. ⌜ r ≡ withNullable (nullableCode (emptyAfterDelete (nullableIn c))) c ⌝ }
+{
+    if intmap::nullable_of(c) == EMPTY {
+        return intmap::with_nullable(c, EMPTY);
+    }
+    intmap::with_nullable(c, MAYBE_EMPTY)
+}
+
+// Delete on the table that a row opened, if there is one.
+fn delete_from(map: IntMap, area: &mut [u8], row: u64)
+    requires { ⌜ IsMap (cells (now area)) map × (row ≤ 65535) ⌝ }
+    ensures { λ _. ⌜ TableChanged afterDelete (cells (now (area .entry))) (cells (now (area .exit))) map row ⌝ }
+{
+    let found = map.find(area, intmap::class_key(TABLES, row));
+    let there = found.present;
+    if there {
+        let c = after_delete(area::cell_at(area, found.at));
+        area::put_cell(area, found.at, c);
+    }
+}
+
+// Delete: the table of cursor P1 might be empty now.
+pub fn delete(map: IntMap, area: &mut [u8], x: Row) -> Stored
+    requires { ⌜ IsMap (cells (now area)) map ⌝ }
+    ensures { λ r. ⌜ ((limit row : ℕ) → Current limit (cells (now (area .entry))) map → CursorArm limit (cells (now (area .entry))) (cells (now (area .exit))) map row x opDelete r) ⌝ }
+{
+    let p = read_cursor(map, area, x.p1);
+    match p {
+        CursorDataType::Bad(n) => Stored::Refused(n),
+        CursorDataType::Absent => Stored::Done(map),
+        CursorDataType::Normal(row) => {
+            delete_from(map, area, row);
+            Stored::Done(map)
+        }
+        CursorDataType::Pseudo(_) => Stored::Done(map),
+    }
+}

@@ -1,0 +1,4 @@
+pub mod StepLaws
+pub mod StoreSteps
+pub mod ReturnLaws
+pub mod IfLaws

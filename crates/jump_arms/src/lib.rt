@@ -1,0 +1,270 @@
+// The arms of `explain` that name the next row, add a branch or end the branch: sqlx-sqlite 0.9.0, src/connection/explain.rs.
+ghost use mathlib.Core.Path.{_≡_};
+ghost use mathlib.Core.Option.{none, some};
+ghost use Prim.Native.Nat.{_<_};
+ghost use Rattle.model.specs.Operation.{opGoto, opGosub, opBranch, opMustBeInt, opIf, opInitCoroutine, opReturn, opHalt};
+ghost use Rattle.model.specs.Equality.{isZeroInt};
+ghost use Rattle.model.specs.Access.{removeRegister};
+ghost use Rattle.model.specs.JumpArms.{storeIf};
+ghost use Rattle.area.specs.Cells.{cells};
+ghost use Rattle.intmap.specs.Map.{IsMap, HasRoom};
+ghost use Rattle.intmap.specs.Signed.{intOf};
+ghost use Rattle.rows.specs.Rows.{Operand};
+ghost use Rattle.state.specs.Leads.{Current, Leads};
+ghost use Rattle.state.specs.Steps.{JumpArm};
+ghost use Rattle.jump_arms.specs.Arms.{Ready, InitTo, RowAfter, stepAfter, branchAfter, bothAfter, Knows, Puts, IfArm};
+use area::Cell;
+use intmap::IntMap;
+use intmap::Stored;
+use rows::Row;
+use state::MemoryState;
+use state::Register;
+use state::Step;
+use state::Way;
+
+// The word of 1.
+const ONE: u64 = 9223372036854775809;
+
+// Goto
+pub fn goto(s: MemoryState, area: &[u8], x: Row, limit: usize) -> Step
+    requires { ⌜ Ready limit (cells (now area)) s x ⌝ }
+    ensures { λ r. ⌜ JumpArm limit (cells (now (area .entry))) (cells (now (area .entry))) s x opGoto r ⌝ }
+{
+    let map = s.map;
+    Step::Ways(Way::Nowhere, Way::To(MemoryState { row: x.p2, map }))
+}
+
+// Halt
+pub fn halt(s: MemoryState, area: &[u8], x: Row, limit: usize) -> Step
+    requires { ⌜ Ready limit (cells (now area)) s x ⌝ }
+    ensures { λ r. ⌜ JumpArm limit (cells (now (area .entry))) (cells (now (area .entry))) s x opHalt r ⌝ }
+{
+    Step::Ways(Way::Nowhere, Way::Nowhere)
+}
+
+// The operations that may go to P2 or to the next row
+pub fn branch(s: MemoryState, area: &[u8], x: Row, limit: usize) -> Step
+    requires { ⌜ Ready limit (cells (now area)) s x ⌝ }
+    ensures { λ r. ⌜ JumpArm limit (cells (now (area .entry))) (cells (now (area .entry))) s x opBranch r ⌝ }
+{
+    let map = s.map;
+    Step::Ways(
+        Way::To(MemoryState { row: x.p2, map }),
+        Way::To(MemoryState {
+            row: s.row + 1,
+            map,
+        }),
+    )
+}
+
+// MustBeInt
+pub fn must_be_int(s: MemoryState, area: &[u8], x: Row, limit: usize) -> Step
+    requires { ⌜ Ready limit (cells (now area)) s x ⌝ }
+    ensures { λ r. ⌜ JumpArm limit (cells (now (area .entry))) (cells (now (area .entry))) s x opMustBeInt r ⌝ }
+{
+    let map = s.map;
+    let on = Way::To(MemoryState {
+        row: s.row + 1,
+        map,
+    });
+    if x.p2 == intmap::ZERO {
+        return Step::Ways(Way::Nowhere, on);
+    }
+    Step::Ways(Way::To(MemoryState { row: x.p2, map }), on)
+}
+
+// What follows an access to the map: the state goes on at a row.
+fn go_on(x: Stored, row: u64) -> Step
+    ensures { λ r. ⌜ r ≡ stepAfter row x ⌝ }
+{
+    match x {
+        Stored::Refused(n) => Step::Refused(n),
+        Stored::Done(map) => Step::Ways(Way::Nowhere, Way::To(MemoryState { row, map })),
+    }
+}
+
+// Gosub
+pub fn gosub(s: MemoryState, area: &mut [u8], x: Row, limit: usize) -> Step
+    requires { ⌜ Ready limit (cells (now area)) s x ⌝ }
+    ensures { λ r. ⌜ JumpArm limit (cells (now (area .entry))) (cells (now (area .exit))) s x opGosub r ⌝ }
+{
+    let map = s.map;
+    go_on(state::store_int(map, area, x.p1, s.row, limit), x.p2)
+}
+
+// Where InitCoroutine goes: 0 in P2 stands for the next row.
+fn init_coroutine_to(row: u64, p2: u64) -> u64
+    requires { ⌜ row < 9223372036854777856 ⌝ }
+    ensures { λ r. ⌜ InitTo row p2 r ⌝ }
+{
+    if p2 == intmap::ZERO {
+        return row + 1;
+    }
+    p2
+}
+
+// InitCoroutine
+pub fn init_coroutine(s: MemoryState, area: &mut [u8], x: Row, limit: usize) -> Step
+    requires { ⌜ Ready limit (cells (now area)) s x ⌝ }
+    ensures { λ r. ⌜ JumpArm limit (cells (now (area .entry))) (cells (now (area .exit))) s x opInitCoroutine r ⌝ }
+{
+    let map = s.map;
+    let row = init_coroutine_to(s.row, x.p2);
+    go_on(state::store_int(map, area, x.p1, x.p3, limit), row)
+}
+
+// The number that a register is known to hold.
+pub enum Known {
+    Bad(u64),
+    Unknown,
+    Int(u64),
+}
+
+// Reads whether register i is known to hold a number.
+fn known_int(map: IntMap, area: &[u8], i: u64) -> Known
+    requires { ⌜ IsMap (cells (now area)) map ⌝ }
+    ensures { λ r. ⌜ Knows (cells (now (area .entry))) map i r ⌝ }
+{
+    let x = state::read_register(map, area, i);
+    match x {
+        Register::Bad(n) => Known::Bad(n),
+        Register::Absent => Known::Unknown,
+        Register::Single(_, _) => Known::Unknown,
+        Register::Record(_) => Known::Unknown,
+        Register::Int(w) => Known::Int(w),
+    }
+}
+
+// The row after one that a register told. No known number is the last word, which stays as it is.
+fn row_after(w: u64) -> u64
+    ensures { λ r. ⌜ RowAfter w r ⌝ }
+{
+    if w < 18446744073709551615 {
+        return w + 1;
+    }
+    w
+}
+
+// Removes register i.
+fn remove_register(map: IntMap, area: &mut [u8], i: u64, limit: usize) -> Stored
+    requires { ⌜ Current limit (cells (now area)) map ⌝ }
+    ensures { λ r. ⌜ Leads limit (cells (now (area .entry))) (cells (now (area .exit))) map r (removeRegister (intOf i)) ⌝ }
+{
+    map.remove_at(area, state::REGISTERS, i)
+}
+
+// Return
+pub fn return_(s: MemoryState, area: &mut [u8], x: Row, limit: usize) -> Step
+    requires { ⌜ Ready limit (cells (now area)) s x ⌝ }
+    ensures { λ r. ⌜ JumpArm limit (cells (now (area .entry))) (cells (now (area .exit))) s x opReturn r ⌝ }
+{
+    let map = s.map;
+    let v = known_int(map, area, x.p1);
+    match v {
+        Known::Bad(n) => Step::Refused(n),
+        Known::Unknown => {
+            if x.p3 == ONE {
+                return Step::Ways(
+                    Way::Nowhere,
+                    Way::To(MemoryState {
+                        row: s.row + 1,
+                        map,
+                    }),
+                );
+            }
+            Step::Ways(Way::Nowhere, Way::Nowhere)
+        }
+        Known::Int(w) => {
+            let row = row_after(w);
+            go_on(remove_register(map, area, x.p1, limit), row)
+        }
+    }
+}
+
+// What follows an access to the map: a branch at a row, and nothing goes on.
+fn branch_at(x: Stored, row: u64) -> Step
+    ensures { λ r. ⌜ r ≡ branchAfter row x ⌝ }
+{
+    match x {
+        Stored::Refused(n) => Step::Refused(n),
+        Stored::Done(map) => Step::Ways(Way::To(MemoryState { row, map }), Way::Nowhere),
+    }
+}
+
+// What follows an access to the map, where there is a branch: the state goes on at a row.
+fn branch_and_go(branch: MemoryState, x: Stored, row: u64) -> Step
+    ensures { λ r. ⌜ r ≡ bothAfter branch row x ⌝ }
+{
+    match x {
+        Stored::Refused(n) => Step::Refused(n),
+        Stored::Done(map) => Step::Ways(Way::To(branch), Way::To(MemoryState { row, map })),
+    }
+}
+
+// Stores a number in register P1, where P3 is 0.
+fn store_if(map: IntMap, area: &mut [u8], x: Row, value: u64, limit: usize) -> Stored
+    requires { ⌜ HasRoom (cells (now area)) limit map × Operand value ⌝ }
+    ensures { λ r. ⌜ Puts limit (cells (now (area .entry))) (cells (now (area .exit))) map r (storeIf (isZeroInt (intOf (x .p3))) limit (intOf (x .p1)) (intOf value)) ⌝ }
+{
+    if x.p3 == intmap::ZERO {
+        return map.store_cell(
+            area,
+            state::REGISTERS,
+            x.p1,
+            Cell {
+                head: intmap::INT,
+                payload: value,
+            },
+            limit,
+        );
+    }
+    Stored::Done(map)
+}
+
+// If, where the number w is known: 0 goes on, another branches.
+fn if_known(s: MemoryState, area: &mut [u8], x: Row, w: u64, limit: usize) -> Step
+    requires { ⌜ Ready limit (cells (now area)) s x ⌝ }
+    ensures { λ r. ⌜ IfArm limit (cells (now (area .entry))) (cells (now (area .exit))) s x (some (intOf w)) r ⌝ }
+{
+    let map = s.map;
+    if w == intmap::ZERO {
+        return go_on(store_if(map, area, x, intmap::ZERO, limit), s.row + 1);
+    }
+    branch_at(store_if(map, area, x, ONE, limit), x.p2)
+}
+
+// If, where no number is known: both ways. The branch has another register, so it is built in the room behind the map, and its store is judged
+// first.
+fn if_both(s: MemoryState, area: &mut [u8], x: Row, limit: usize) -> Step
+    requires { ⌜ Ready limit (cells (now area)) s x ⌝ }
+    ensures { λ r. ⌜ IfArm limit (cells (now (area .entry))) (cells (now (area .exit))) s x none r ⌝ }
+{
+    let map = s.map;
+    let behind = map.copy_to(area, map.base + limit);
+    let there = store_if(behind, area, x, ONE, limit);
+    match there {
+        Stored::Refused(n) => Step::Refused(n),
+        Stored::Done(b) => {
+            let branch = MemoryState { row: x.p2, map: b };
+            branch_and_go(
+                branch,
+                store_if(map, area, x, intmap::ZERO, limit),
+                s.row + 1,
+            )
+        }
+    }
+}
+
+// If
+pub fn if_(s: MemoryState, area: &mut [u8], x: Row, limit: usize) -> Step
+    requires { ⌜ Ready limit (cells (now area)) s x ⌝ }
+    ensures { λ r. ⌜ JumpArm limit (cells (now (area .entry))) (cells (now (area .exit))) s x opIf r ⌝ }
+{
+    let map = s.map;
+    let v = known_int(map, area, x.p1);
+    match v {
+        Known::Bad(n) => Step::Refused(n),
+        Known::Unknown => if_both(s, area, x, limit),
+        Known::Int(w) => if_known(s, area, x, w, limit),
+    }
+}

@@ -1,0 +1,54 @@
+-- `register_arms::map_to_nullable`: a case for each that a register may hold. Assumes nothing.
+use Rattle.register_arms.proofs.ValueLaws.{bad-nullable, absent-nullable, single-nullable, record-nullable, int-nullable}
+use borrow.Author.Needs.{needs}
+use Rattle.register_arms.proofs.map_to_nullable.Statement.{statement}
+use Rattle.register_arms.proofs.map_to_nullable.Tie as tie
+
+enum-told : tie.Need-enum-told
+enum-told c = search needs
+
+enum-told-2 : tie.Need-enum-told-2
+enum-told-2 c = search needs
+
+enum-known-r : tie.Need-enum-known-r
+enum-known-r c = search needs
+
+nullable-code-requires : tie.Need-nullable-code-requires
+nullable-code-requires c κs = search needs
+
+enum-told-3 : tie.Need-enum-told-3
+enum-told-3 c = search needs
+
+enum-told-4 : tie.Need-enum-told-4
+enum-told-4 c = search needs
+
+returns : tie.Need-returns
+returns c = bad-nullable _ _ (c .enum-told .given .1)
+
+returns-2 : tie.Need-returns-2
+returns-2 c = absent-nullable _ (c .enum-told2 .given .1)
+
+returns-3 : tie.Need-returns-3
+returns-3 c = single-nullable _ _ _ _ (c .before .before .r .given .1) (c .nullable-code .ensures .0) (c .nullable-code .ensures .1)
+
+returns-4 : tie.Need-returns-4
+returns-4 c = record-nullable _ _ (c .enum-told3 .given .1)
+
+returns-5 : tie.Need-returns-5
+returns-5 c = int-nullable _ _ (c .enum-told4 .given .1)
+
+pub map-to-nullable-spec : {M : Type 1} → statement M
+map-to-nullable-spec =
+    tie.close
+    (tie.spec
+    enum-told
+    enum-told-2
+    enum-known-r
+    nullable-code-requires
+    enum-told-3
+    enum-told-4
+    returns
+    returns-2
+    returns-3
+    returns-4
+    returns-5)

@@ -1,0 +1,58 @@
+-- `register_arms::other_row` reads the operand, and stores its kind, nullable. Assumes nothing.
+use mathlib.Core.Path.{refl, sym, _∙_}
+use denote.Enum.Declared
+use Rattle.state.proofs.Register
+use Rattle.register_arms.proofs.ValueLaws.{not-bad}
+use Rattle.register_arms.proofs.RegisterLaws.{refuses-leads, same-leads, leads-where, copy-refused, copy-nothing, row-stored}
+use borrow.Author.Needs.{needs}
+use Rattle.register_arms.proofs.other_row.Statement.{statement}
+use Rattle.register_arms.proofs.other_row.Tie as tie
+
+read-register-requires : tie.Need-read-register-requires
+read-register-requires c κs = search needs
+
+enum-known-v : tie.Need-enum-known-v
+enum-known-v c = search needs
+
+same-length : tie.Need-same-length
+same-length c = search needs
+
+returns : tie.Need-returns
+returns c = refuses-leads _ _ _ _ _ (λ bound m h. copy-refused _ _ _ _ _ (c .before .before .before .read-register .result) (c .before .before .before .read-register .ensures) bound m h _ _ (c .before .v .given .1))
+
+is-absent-requires : tie.Need-is-absent-requires
+is-absent-requires c κs = search needs
+
+same-length-2 : tie.Need-same-length-2
+same-length-2 c = search needs
+
+returns-2 : tie.Need-returns-2
+returns-2 c = same-leads _ _ _ _ (c .before .before .before .before .before .before .pre) (λ bound m h. copy-nothing _ _ _ _ _ (c .before .before .before .read-register .result) (c .before .before .before .read-register .ensures) bound m h _ (sym (c .if1 .taken) ∙ c .before .is-absent .ensures))
+
+map-to-datatype-requires : tie.Need-map-to-datatype-requires
+map-to-datatype-requires c κs = search needs
+
+store-single-requires : tie.Need-store-single-requires
+store-single-requires c κs = search needs
+
+same-length-3 : tie.Need-same-length-3
+same-length-3 c = search needs
+
+returns-3 : tie.Need-returns-3
+returns-3 c = leads-where _ (λ bound m h. row-stored _ _ _ _ _ (c .before .before .before .before .before .before .before .before .read-register .result) (c .before .before .before .before .before .before .before .before .read-register .ensures) bound m h (not-bad (Declared.tagOf Register.the-type) (λ n. refl) (c .before .before .before .before .before .before .before .before .read-register .result) (c .before .before .before .before .before .before .before .match .keys2)) (sym (c .before .before .before .before .before .if1 .left) ∙ c .before .before .before .before .before .before .is-absent .ensures) (c .before .before .before .map-to-datatype .result) (c .before .before .before .map-to-datatype .ensures)) (c .before .before .store-single .ensures)
+
+pub other-row-spec : {M : Type 1} → statement M
+other-row-spec =
+    tie.close
+    (tie.spec
+    read-register-requires
+    enum-known-v
+    same-length
+    returns
+    is-absent-requires
+    same-length-2
+    returns-2
+    map-to-datatype-requires
+    store-single-requires
+    same-length-3
+    returns-3)
