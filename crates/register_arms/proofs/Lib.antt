@@ -1,3 +1,4 @@
 pub mod ValueLaws
 pub mod RegisterLaws
 pub mod NullLaws
+pub mod ChangeLaws

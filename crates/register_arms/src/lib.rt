@@ -1,15 +1,15 @@
 // The arms of `explain` that write registers, each on the state's map in the area.
 // Translated from sqlx-sqlite 0.9.0, src/connection/explain.rs: OP_INTEGER, the constants, OP_VARIABLE, OP_FUNCTION, the operations on
-// two operands, OP_AGG_STEP, OP_AGG_FINAL and OP_NULL, with `map_to_datatype` and `map_to_nullable`.
+// two operands, OP_AGG_STEP, OP_AGG_FINAL, OP_NULL, OP_CAST and OP_HALT_IF_NULL, with `map_to_datatype` and `map_to_nullable`.
 ghost use mathlib.Core.Path.{_≡_};
-ghost use Prim.Native.Nat.{_+_, _<_};
+ghost use Prim.Native.Nat.{_+_, _%_, _<_};
 ghost use mathlib.Core.Option.{none, some};
 ghost use lib.ListN.{getD};
 ghost use Rattle.model.specs.Functions.{byP2, isNullable, sumDatatype};
 ghost use Rattle.model.specs.RegisterArms.{summed, fromOtherRow, copyTo, nullMany};
 ghost use Rattle.type_info.specs.declared.DataType.the-variants.{Null};
 ghost use Rattle.model.specs.State.{firstDatatype, eitherNullable};
-ghost use Rattle.model.specs.Operation.{opInteger, opConstant, opVariable, opFunction, opArithmetic, opAggStep, opAggFinal, opNull};
+ghost use Rattle.model.specs.Operation.{opInteger, opConstant, opVariable, opFunction, opArithmetic, opAggStep, opAggFinal, opNull, opCast, opHaltIfNull};
 ghost use Rattle.area.specs.Cells.{cells};
 ghost use Rattle.intmap.specs.Signed.{intOf};
 ghost use Rattle.encoding.specs.Decode.{datatypes, nullables};
@@ -326,4 +326,43 @@ pub fn null(map: IntMap, area: &mut [u8], x: Row, limit: usize) -> Stored
         return null_many(map, area, x.p2, x.p3 - x.p2 + 1, limit);
     }
     null_many(map, area, x.p2, 1, limit)
+}
+
+// The low byte of the number that the word stands for: the offset is a multiple of 256.
+fn low_byte(w: u64) -> u8
+    ensures { λ r. ⌜ r ≡ w % 256 ⌝ }
+{
+    (w % 256) as u8
+}
+
+// Cast: the kind of the affinity in P2's low byte in register P1, if something is there; whether it is null stays.
+pub fn cast(map: IntMap, area: &mut [u8], x: Row, limit: usize) -> Stored
+    requires { ⌜ Current limit (cells (now area)) map × Fits x ⌝ }
+    ensures { λ r. ⌜ RegisterArm limit (cells (now (area .entry))) (cells (now (area .exit))) map x opCast r ⌝ }
+{
+    let v = state::read_register(map, area, x.p1);
+    if let Register::Bad(n) = v {
+        return Stored::Refused(n);
+    }
+    if is_absent(v) {
+        return Stored::Done(map);
+    }
+    let d = opcode::affinity_to_type(low_byte(x.p2));
+    state::store_single(map, area, x.p1, d, map_to_nullable(v), limit)
+}
+
+// HaltIfNull: behind it a plain column in register P3 is not null; what else is there stays.
+pub fn halt_if_null(map: IntMap, area: &mut [u8], x: Row, limit: usize) -> Stored
+    requires { ⌜ Current limit (cells (now area)) map × Fits x ⌝ }
+    ensures { λ r. ⌜ RegisterArm limit (cells (now (area .entry))) (cells (now (area .exit))) map x opHaltIfNull r ⌝ }
+{
+    match state::read_register(map, area, x.p3) {
+        Register::Bad(n) => Stored::Refused(n),
+        Register::Absent => Stored::Done(map),
+        Register::Single(kind, _) => {
+            state::store_single(map, area, x.p3, datatype(kind), state::NEVER, limit)
+        }
+        Register::Record(_) => Stored::Done(map),
+        Register::Int(_) => Stored::Done(map),
+    }
 }
