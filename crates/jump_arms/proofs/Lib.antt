@@ -1,4 +1,6 @@
 pub mod StepLaws
 pub mod StoreSteps
 pub mod ReturnLaws
+pub mod BothLaws
 pub mod IfLaws
+pub mod NullLaws

@@ -2,15 +2,17 @@
 -- that a listing has at most. And what the arms have in common: a step after an access to the map, the row that InitCoroutine and Return name,
 -- whether a register is known to hold a number, a store that stays within the map's room, and If by what is known. Assumes nothing.
 use mathlib.Core.Path.{_≡_}
-use mathlib.Core.Option.{Option, none}
-use mathlib.Core.List.{List}
+use mathlib.Core.Bool.{Bool, true, false}
+use mathlib.Core.Option.{Option, none, some}
+use mathlib.Core.List.{List, [], _∷_}
 use Prim.Native.Nat.{ℕ, _+_, _<_, _≤_}
 use lib.IntN.{ℤ}
 use Rattle.model.specs.Walk.{Tried, refused, done}
 use Rattle.model.specs.Row.{Row as Listed}
 use Rattle.model.specs.State.{RegDataType, MemoryState as Defined}
-use Rattle.model.specs.Access.{readRegister}
-use Rattle.model.specs.JumpArms.{knownInt, ifArm}
+use Rattle.model.specs.Access.{_>>=_, goTo, next, readRegister}
+use Rattle.model.specs.Offer.{offers}
+use Rattle.model.specs.JumpArms.{knownInt, mayBeNull, hasKind, ifArm}
 use Rattle.area.specs.declared.Cell.{Cell}
 use Rattle.intmap.specs.Map.{Frame}
 use Rattle.intmap.specs.Signed.{offset, intOf}
@@ -29,6 +31,8 @@ use Rattle.state.specs.declared.Step.{Step}
 use Rattle.state.specs.declared.Step.the-variants as step
 use Rattle.jump_arms.specs.declared.Known.{Known}
 use Rattle.jump_arms.specs.declared.Known.the-variants as known
+use Rattle.jump_arms.specs.declared.Asked.{Asked}
+use Rattle.jump_arms.specs.declared.Asked.the-variants as asked
 
 pub record Ready (limit : ℕ) (cs : List Cell) (s : MemoryState) (x : Row) : Type 0 where
   pub current : Current limit cs (s .map)
@@ -81,6 +85,29 @@ pub record Knows (cs : List Cell) (a : IntMap) (i : ℕ) (r : Known) : Type 0 wh
 pub record Puts (limit : ℕ) (cs ds : List Cell) (a : IntMap) (r : Stored) (f : Defined → Tried Defined) : Type 0 where
   pub leads : Leads limit cs ds a r f
   pub frame : Frame cs ds (a .base) limit
+
+-- a branch at P2 after one access, and the next row after another
+pub record BothArm (limit : ℕ) (cs ds : List Cell) (s : MemoryState) (x : Row) (f g : Defined → Tried Defined) (r : Step) : Type 0 where
+  pub says : (l : Listed) → Judged l x → (bound : ℕ) (m : Defined) → operands ≤ bound → HoldsState limit bound cs s m → TellsStep limit bound ds r (f (goTo (l .p2) m) >>= λ branch. g (next m) >>= λ stays. offers (branch ∷ []) (some stays))
+  pub leaves : LeavesStep limit ds s r
+  pub frame : Frame cs ds (s .map .base) (limit + limit)
+
+-- what IsNull and NotNull ask of what is read: whether it may be null, and whether its kind is not Null
+pub record IsAsked (b k : Bool) (t : Tried (Option RegDataType)) : Type 0 where
+  pub value : Option RegDataType
+  pub answer : t ≡ done value
+  pub null : mayBeNull value ≡ b
+  pub kind : hasKind value ≡ k
+
+abbrev pub TellsAsked : Asked → Tried (Option RegDataType) → Type 0
+TellsAsked (asked.Bad n) t = t ≡ refused n
+TellsAsked asked.Neither t = IsAsked false false t
+TellsAsked asked.Kind t = IsAsked false true t
+TellsAsked asked.Null t = IsAsked true false t
+TellsAsked asked.Either t = IsAsked true true t
+
+pub record Asks (cs : List Cell) (a : IntMap) (i : ℕ) (r : Asked) : Type 0 where
+  pub says : (limit bound : ℕ) (m : Defined) → HoldsMap limit bound cs a m → TellsAsked r (readRegister (intOf i) m)
 
 -- If, where a number is known or none is
 pub record IfArm (limit : ℕ) (cs ds : List Cell) (s : MemoryState) (x : Row) (n : Option ℤ) (r : Step) : Type 0 where

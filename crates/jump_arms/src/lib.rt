@@ -2,17 +2,20 @@
 ghost use mathlib.Core.Path.{_≡_};
 ghost use mathlib.Core.Option.{none, some};
 ghost use Prim.Native.Nat.{_<_};
-ghost use Rattle.model.specs.Operation.{opGoto, opGosub, opBranch, opMustBeInt, opIf, opInitCoroutine, opReturn, opHalt};
+ghost use Rattle.model.specs.Operation.{opGoto, opGosub, opBranch, opMustBeInt, opIsNull, opIf, opInitCoroutine, opReturn, opHalt};
 ghost use Rattle.model.specs.Equality.{isZeroInt};
-ghost use Rattle.model.specs.Access.{removeRegister};
-ghost use Rattle.model.specs.JumpArms.{storeIf};
+ghost use Rattle.model.specs.Access.{removeRegister, storeRegister, updateRegister};
+ghost use Rattle.model.specs.JumpArms.{storeIf, toDefault};
+ghost use Rattle.model.specs.State.{Column, Single, toNotNull};
+ghost use Rattle.encoding.specs.Decode.{nullables};
+ghost use lib.ListN.{getD};
 ghost use Rattle.area.specs.Cells.{cells};
 ghost use Rattle.intmap.specs.Map.{IsMap, HasRoom};
 ghost use Rattle.intmap.specs.Signed.{intOf};
 ghost use Rattle.rows.specs.Rows.{Operand};
 ghost use Rattle.state.specs.Leads.{Current, Leads};
 ghost use Rattle.state.specs.Steps.{JumpArm};
-ghost use Rattle.jump_arms.specs.Arms.{Ready, InitTo, RowAfter, stepAfter, branchAfter, bothAfter, Knows, Puts, IfArm};
+ghost use Rattle.jump_arms.specs.Arms.{Ready, InitTo, RowAfter, stepAfter, branchAfter, bothAfter, Knows, Puts, BothArm, IfArm, Asks};
 use area::Cell;
 use intmap::IntMap;
 use intmap::Stored;
@@ -21,6 +24,7 @@ use state::MemoryState;
 use state::Register;
 use state::Step;
 use state::Way;
+use type_info::DataType;
 
 // The word of 1.
 const ONE: u64 = 9223372036854775809;
@@ -266,5 +270,123 @@ pub fn if_(s: MemoryState, area: &mut [u8], x: Row, limit: usize) -> Step
         Known::Bad(n) => Step::Refused(n),
         Known::Unknown => if_both(s, area, x, limit),
         Known::Int(w) => if_known(s, area, x, w, limit),
+    }
+}
+
+// What IsNull and NotNull ask of a register: whether its kind is not Null, and whether it may be null.
+pub enum Asked {
+    Bad(u64),
+    Neither,
+    Kind,
+    Null,
+    Either,
+}
+
+// Asks register i.
+fn ask(map: IntMap, area: &[u8], i: u64) -> Asked
+    requires { ⌜ IsMap (cells (now area)) map ⌝ }
+    ensures { λ r. ⌜ Asks (cells (now (area .entry))) map i r ⌝ }
+{
+    let v = state::read_register(map, area, i);
+    match v {
+        Register::Bad(n) => Asked::Bad(n),
+        Register::Absent => Asked::Neither,
+        Register::Single(kind, nullable) => {
+            if nullable == state::NEVER {
+                if kind == 0 {
+                    return Asked::Neither;
+                }
+                return Asked::Kind;
+            }
+            if kind == 0 {
+                return Asked::Null;
+            }
+            Asked::Either
+        }
+        Register::Record(_) => Asked::Null,
+        Register::Int(_) => Asked::Kind,
+    }
+}
+
+// Stores a plain column in register i, within the map's room alone.
+fn put_single(
+    map: IntMap,
+    area: &mut [u8],
+    i: u64,
+    d: DataType,
+    nullable: u64,
+    limit: usize,
+) -> Stored
+    requires { ⌜ HasRoom (cells (now area)) limit map × (nullable < 3) ⌝ }
+    ensures { λ r. ⌜ Puts limit (cells (now (area .entry))) (cells (now (area .exit))) map r (storeRegister limit (intOf i) (Column (Single d (getD nullables nullable none)))) ⌝ }
+{
+    map.store_cell(area, state::REGISTERS, i, state::single(d, nullable), limit)
+}
+
+// Register i at its default, if it is there. The store refuses nothing that the read did not, since a plain column is never larger.
+fn put_default(map: IntMap, area: &mut [u8], i: u64, limit: usize) -> Stored
+    requires { ⌜ HasRoom (cells (now area)) limit map ⌝ }
+    ensures { λ r. ⌜ Puts limit (cells (now (area .entry))) (cells (now (area .exit))) map r (updateRegister (intOf i) toDefault) ⌝ }
+{
+    let v = state::read_register(map, area, i);
+    match v {
+        Register::Bad(n) => Stored::Refused(n),
+        Register::Absent => Stored::Done(map),
+        Register::Single(_, _) => {
+            put_single(map, area, i, DataType::Null, state::UNKNOWN, limit)
+        }
+        Register::Record(_) => put_single(map, area, i, DataType::Null, state::UNKNOWN, limit),
+        Register::Int(_) => put_single(map, area, i, DataType::Null, state::UNKNOWN, limit),
+    }
+}
+
+// Register i never null, if it is a plain column; another stays as it is.
+fn put_never(map: IntMap, area: &mut [u8], i: u64, limit: usize) -> Stored
+    requires { ⌜ HasRoom (cells (now area)) limit map ⌝ }
+    ensures { λ r. ⌜ Puts limit (cells (now (area .entry))) (cells (now (area .exit))) map r (updateRegister (intOf i) toNotNull) ⌝ }
+{
+    let v = state::read_register(map, area, i);
+    match v {
+        Register::Bad(n) => Stored::Refused(n),
+        Register::Absent => Stored::Done(map),
+        Register::Single(_, _) => {
+            let d = register_arms::map_to_datatype(v);
+            put_single(map, area, i, d, state::NEVER, limit)
+        }
+        Register::Record(_) => Stored::Done(map),
+        Register::Int(_) => Stored::Done(map),
+    }
+}
+
+// IsNull, where the register may be null: both ways, the branch behind the map.
+fn is_null_both(s: MemoryState, area: &mut [u8], x: Row, limit: usize) -> Step
+    requires { ⌜ Ready limit (cells (now area)) s x ⌝ }
+    ensures { λ r. ⌜ BothArm limit (cells (now (area .entry))) (cells (now (area .exit))) s x (updateRegister (intOf (x .p1)) toDefault) (updateRegister (intOf (x .p1)) toNotNull) r ⌝ }
+{
+    let map = s.map;
+    let behind = map.copy_to(area, map.base + limit);
+    let there = put_default(behind, area, x.p1, limit);
+    match there {
+        Stored::Refused(n) => Step::Refused(n),
+        Stored::Done(b) => {
+            let branch = MemoryState { row: x.p2, map: b };
+            branch_and_go(branch, put_never(map, area, x.p1, limit), s.row + 1)
+        }
+    }
+}
+
+// IsNull
+pub fn is_null(s: MemoryState, area: &mut [u8], x: Row, limit: usize) -> Step
+    requires { ⌜ Ready limit (cells (now area)) s x ⌝ }
+    ensures { λ r. ⌜ JumpArm limit (cells (now (area .entry))) (cells (now (area .exit))) s x opIsNull r ⌝ }
+{
+    let map = s.map;
+    let v = ask(map, area, x.p1);
+    match v {
+        Asked::Bad(n) => Step::Refused(n),
+        Asked::Neither => Step::Ways(Way::Nowhere, Way::Nowhere),
+        Asked::Kind => Step::Ways(Way::Nowhere, Way::Nowhere),
+        Asked::Null => is_null_both(s, area, x, limit),
+        Asked::Either => is_null_both(s, area, x, limit),
     }
 }

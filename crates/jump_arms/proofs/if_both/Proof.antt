@@ -2,7 +2,8 @@
 use mathlib.Core.Path.{sym, subst}
 use native.Mathlib.Omega.{arith}
 use Rattle.jump_arms.specs.Arms.{IfArm}
-use Rattle.jump_arms.proofs.IfLaws.{behind-room, state-room, both-refused, both-arm}
+use Rattle.jump_arms.proofs.BothLaws.{behind-room, state-room, both-refused, both-arm}
+use Rattle.jump_arms.proofs.IfLaws.{stores-row, if-both}
 use borrow.Author.Needs.{needs}
 use Rattle.jump_arms.proofs.if_both.Statement.{statement}
 use Rattle.jump_arms.proofs.if_both.Tie as tie
@@ -35,13 +36,13 @@ same-length : tie.Need-same-length
 same-length c = search needs
 
 returns : tie.Need-returns
-returns c = both-refused _ _ _ _ (c .before .before .before .before .before .before .before .before .before .before .before .before .before .before .pre .current) _ (c .before .before .before .before .before .before .before .before .before .copy-to .ensures) _ _ _ _ (c .before .before .before .before .before .store-if .ensures) (c .before .there .given .1)
+returns c = if-both _ _ _ _ _ _ (both-refused _ _ _ _ (c .before .before .before .before .before .before .before .before .before .before .before .before .before .before .pre .current) _ (c .before .before .before .before .before .before .before .before .before .copy-to .ensures) _ _ _ _ (stores-row _ (c .before .before .before .before .before .before .before .before .before .before .before .before .before .before .args .x) _) (stores-row _ (c .before .before .before .before .before .before .before .before .before .before .before .before .before .before .args .x) _) _ _ (c .before .before .before .before .before .store-if .ensures) (c .before .there .given .1))
 
 same-length-2 : tie.Need-same-length-2
 same-length-2 c = search needs
 
 returns-2 : tie.Need-returns-2
-returns-2 c = subst (IfArm _ _ _ _ _ _) (sym (c .branch-and-go .ensures)) (both-arm _ _ _ _ (c .before .before .before .before .before .before .before .before .before .before .before .before .before .before .before .before .before .before .before .before .pre .current) _ (c .before .before .before .before .before .before .before .before .before .before .before .before .before .before .before .copy-to .ensures) _ _ _ _ (c .before .before .before .before .before .before .before .before .before .before .before .store-if .ensures) (c .before .before .before .before .before .before .before .there2 .given .1) _ _ (c .before .before .before .before .store-if2 .ensures))
+returns-2 c = subst (IfArm _ _ _ _ _ _) (sym (c .branch-and-go .ensures)) (if-both _ _ _ _ _ _ (both-arm _ _ _ _ (c .before .before .before .before .before .before .before .before .before .before .before .before .before .before .before .before .before .before .before .before .pre .current) _ (c .before .before .before .before .before .before .before .before .before .before .before .before .before .before .before .copy-to .ensures) _ _ _ _ (stores-row _ (c .before .before .before .before .before .before .before .before .before .before .before .before .before .before .before .before .before .before .before .before .args .x) _) (stores-row _ (c .before .before .before .before .before .before .before .before .before .before .before .before .before .before .before .before .before .before .before .before .args .x) _) _ _ (c .before .before .before .before .before .before .before .before .before .before .before .store-if .ensures) (c .before .before .before .before .before .before .before .there2 .given .1) _ _ (c .before .before .before .before .store-if2 .ensures)))
 
 pub if-both-spec : {M : Type 1} → statement M
 if-both-spec =
