@@ -1,4 +1,4 @@
--- If: a store where P3 is 0, the ways of a known number, and both ways, where the branch is built behind the map. Assumes nothing.
+-- If: a store where P3 is 0, the ways of a known number, and both ways, by `BothLaws`. Assumes nothing.
 use mathlib.Core.Path.{_≡_, refl, sym, ap, ap₂, subst, _∙_}
 use mathlib.Core.Bool.{Bool, true, false}
 use mathlib.Core.Option.{Option, none, some}
