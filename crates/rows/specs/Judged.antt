@@ -1,6 +1,6 @@
 -- When a judged row says what a row of the listing says to the arms of `explain`: its operation by the arm's number, its operands, and of its P4
--- whether it is UTF-8, which function's value and which aggregate it names. 01, "The rows": P4 is read by Function, AggStep, AggValue and AggFinal
--- alone. Assumes nothing.
+-- whether it is UTF-8, which function's value and which aggregate it names. 01, "Walk, refusals in order":
+-- "10 P4 not UTF-8 at a handled Function, AggStep, AggValue or AggFinal"; no other arm reads it. Assumes nothing.
 use mathlib.Core.Path.{_≡_}
 use mathlib.Core.Bool.{true}
 use mathlib.Core.Option.{some}
