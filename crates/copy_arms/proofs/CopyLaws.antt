@@ -1,7 +1,8 @@
 -- A run that is stored from the room behind the map is the definition's store of its value; a register that is copied or moved, one or many of
--- them; and the definition's arms in the words of a judged row. Assumes nothing.
+-- them, where absent ones are passed over; and the definition's arms in the words of a judged row. Assumes nothing.
 use mathlib.Core.Path.{_≡_, refl, sym, ap, subst, _∙_}
-use mathlib.Core.Option.{Option, none}
+use mathlib.Core.Bool.{Bool, true, false}
+use mathlib.Core.Option.{Option, none, some}
 use mathlib.Core.List.{List}
 use Prim.Native.Nat.{ℕ, zero, suc, _+_, _-_, _<_, _≤_}
 use native.Mathlib.Omega.{arith}
@@ -15,7 +16,7 @@ use Rattle.model.specs.Access.{_>>=_, readRegister, storeRegister}
 use Rattle.model.specs.Good.{GoodRegister}
 use Rattle.model.specs.Meaning.{Meaning}
 use Rattle.model.specs.Operation.{opCopyOne, opCopy, opMove}
-use Rattle.model.specs.RegisterArms.{storeSome, copyTo, copyMany, moveSome, moveMany, registerArm}
+use Rattle.model.specs.RegisterArms.{copyTo, copyMany, moveSome, moveMany, registerArm}
 use Rattle.area.specs.Moves.{moved}
 use Rattle.area.specs.declared.Cell.{Cell}
 use Rattle.intmap.specs.Pack.{classKey}
@@ -34,6 +35,7 @@ use Rattle.intmap.specs.declared.Stored.the-variants as stored
 use Rattle.intmap.proofs.EntryLaws.{span-same, length-span}
 use Rattle.intmap.proofs.SameCells.{copied, size-same}
 use Rattle.intmap.proofs.MapLaws.{copied-frame, copied-agree, placed-room}
+use Rattle.intmap.proofs.StoreLaws.{frame-same}
 use Rattle.intmap.proofs.SignedLaws.{int-suc, int-turns}
 use Rattle.encoding.specs.Encode.{runRegister}
 use Rattle.encoding.specs.Holds.{SmallRegister}
@@ -46,11 +48,11 @@ use Rattle.rows.specs.declared.Row.{Row}
 use Rattle.state.specs.Leads.{Current, HoldsMap, Tells, Leaves, Leads}
 use Rattle.state.specs.Arms.{Standard}
 use Rattle.state.specs.Reads.{Reads}
-use Rattle.state.specs.declared.Register.{Register}
 use Rattle.state.specs.declared.Register.the-variants as register
 use Rattle.state.proofs.ReadLaws.{read-bad, read-absent}
-use Rattle.copy_arms.specs.Copies.{StoresFrom, moveOne}
-use Rattle.copy_arms.proofs.LeadsLaws.{frame-none, frame-within, frame-then, Reached}
+use Rattle.state.proofs.LeadsLaws.{frame-within, frame-then, Reached, reached-next, reached-as}
+use Rattle.copy_arms.specs.Copies.{StoresFrom, carrySome, carryOne, carryMany}
+use Rattle.copy_arms.specs.Gaps.{gapIf, gap, Gap}
 
 -- ---- a store from the room behind the map
 
@@ -111,7 +113,7 @@ module _ (limit : ℕ) (cs : List Cell) (a : IntMap) (i : ℕ) (next : Option Re
       record {
         says = λ bound m le h. ap (λ t. t >>= λ v. next v m) (reads .says limit bound m h);
         leaves = tt;
-        frame = frame-none cs (a .base) (limit + limit);
+        frame = frame-same cs cs (a .base) (limit + limit) refl;
       }
 
   read-none : Current limit cs a → ((m : MemoryState) → next none m ≡ done m) → Reads cs a i register.Absent → Leads limit cs cs a (stored.Done a) (λ m. readRegister (intOf i) m >>= λ v. next v m)
@@ -119,18 +121,13 @@ module _ (limit : ℕ) (cs : List Cell) (a : IntMap) (i : ℕ) (next : Option Re
       record {
         says = λ bound m le h. record { state = m; answer = ap (λ t. t >>= λ v. next v m) (reads .says limit bound m h) ∙ same m; holds = h };
         leaves = record { base = refl; room = current .room };
-        frame = frame-none cs (a .base) (limit + limit);
+        frame = frame-same cs cs (a .base) (limit + limit) refl;
       }
 
--- what there is to copy
-module _ (limit : ℕ) (cs : List Cell) (a : IntMap) (i j : ℕ) (f : RegDataType → RegDataType) where
-  pub copy-stop : (n : ℕ) → Reads cs a i (register.Bad n) → Leads limit cs cs a (stored.Refused n) (copyTo limit (intOf i) (intOf j) f)
-  unfolding copyTo
-  copy-stop n reads = read-stop limit cs a i (storeSome limit (intOf j) f) n reads
-
-  pub copy-none : Current limit cs a → Reads cs a i register.Absent → Leads limit cs cs a (stored.Done a) (copyTo limit (intOf i) (intOf j) f)
-  unfolding copyTo
-  copy-none current reads = read-none limit cs a i (storeSome limit (intOf j) f) current (λ m. refl) reads
+-- nothing is read
+carries-none : (limit : ℕ) (moves : Bool) (i j : ℤ) (m : MemoryState) → carrySome limit moves i j none m ≡ done m
+carries-none limit false i j m = refl
+carries-none limit true i j m = refl
 
 -- ---- by the place of its run
 
@@ -145,57 +142,58 @@ module _ (limit : ℕ) (cs : List Cell) (a : IntMap) (i : ℕ) (current : Curren
     pub found-value : (bound : ℕ) (m : MemoryState) → HoldsMap limit bound cs a m → Value (λ v. GoodRegister v × SmallRegister bound v) (runRegister (classKey 0 (turns (intOf i)))) (span cs p (size cs levels p)) (readRegister (intOf i) m)
     found-value bound m h = told-register h (intOf i) .present (span cs p (size cs levels p)) (sym (there .answer))
 
-    pub copied-found : (j : ℕ) (ds : List Cell) (r : Stored) → StoresFrom limit cs ds a p j r → Leads limit cs ds a r (copyTo limit (intOf i) (intOf j) (λ v. v))
-    unfolding copyTo
-    copied-found j ds r st =
-        record {
-          says = λ bound m le h.
-              (let v = found-value bound m h in
-              subst (Tells limit bound ds r) (sym (ap (λ t. t >>= λ w. storeSome limit (intOf j) (λ u. u) w m) (v .answer)))
-              (st .says bound m (classKey 0 (turns (intOf i))) (v .value) h (v .has .0) (v .has .1) (v .is)));
-          leaves = st .leaves;
-          frame = st .frame;
-        }
+  -- it is carried
+  module _ (moves : Bool) (j : ℕ) where
+    pub carry-bad : (n : ℕ) → x ≡ slot.Bad n → Leads limit cs cs a (stored.Refused n) (carryOne limit moves (intOf i) (intOf j))
+    unfolding carryOne
+    carry-bad n e = read-stop limit cs a i (carrySome limit moves (intOf i) (intOf j)) n (read-bad cs a i x g n e)
 
-  -- it is moved
-  module _ (j : ℕ) where
-    pub moved-bad : (n : ℕ) → x ≡ slot.Bad n → Leads limit cs cs a (stored.Refused n) (moveOne limit (intOf i) (intOf j))
-    unfolding moveOne
-    moved-bad n e = read-stop limit cs a i (moveSome limit (intOf i) (intOf j)) n (read-bad cs a i x g n e)
-
-    pub moved-absent : x ≡ slot.Absent → Leads limit cs cs a (stored.Done a) (moveOne limit (intOf i) (intOf j))
-    unfolding moveOne
-    moved-absent e = read-none limit cs a i (moveSome limit (intOf i) (intOf j)) current (λ m. refl) (read-absent cs a i x g e)
+    pub carry-absent : x ≡ slot.Absent → Leads limit cs cs a (stored.Done a) (carryOne limit moves (intOf i) (intOf j))
+    unfolding carryOne
+    carry-absent e = read-none limit cs a i (carrySome limit moves (intOf i) (intOf j)) current (carries-none limit moves (intOf i) (intOf j)) (read-absent cs a i x g e)
 
     module _ (p : ℕ) (e : x ≡ slot.At p) (ds : List Cell) (s : Stored) (stores : StoresFrom limit cs ds a p j s) where
       -- the definition, where there is a value
-      opened : (bound : ℕ) (m : MemoryState) (h : HoldsMap limit bound cs a m) → moveOne limit (intOf i) (intOf j) m ≡ storeRegister limit (intOf j) (found-value p e bound m h .value) m >>= storeRegister limit (intOf i) (Column null)
-      unfolding moveOne
-      opened bound m h = ap (λ t. t >>= λ v. moveSome limit (intOf i) (intOf j) v m) (found-value p e bound m h .answer)
+      opened : (bound : ℕ) (m : MemoryState) (h : HoldsMap limit bound cs a m) → carryOne limit moves (intOf i) (intOf j) m ≡ carrySome limit moves (intOf i) (intOf j) (some (found-value p e bound m h .value)) m
+      unfolding carryOne
+      opened bound m h = ap (λ t. t >>= λ v. carrySome limit moves (intOf i) (intOf j) v m) (found-value p e bound m h .answer)
 
       told : (bound : ℕ) (m : MemoryState) (h : HoldsMap limit bound cs a m) → Tells limit bound ds s (storeRegister limit (intOf j) (found-value p e bound m h .value) m)
       told bound m h = let v = found-value p e bound m h in stores .says bound m (classKey 0 (turns (intOf i))) (v .value) h (v .has .0) (v .has .1) (v .is)
 
-      pub moved-stop : (n : ℕ) → s ≡ stored.Refused n → Leads limit cs ds a (stored.Refused n) (moveOne limit (intOf i) (intOf j))
-      moved-stop n q =
+      pub carry-copies : moves ≡ false → Leads limit cs ds a s (carryOne limit moves (intOf i) (intOf j))
+      carry-copies q =
           record {
             says = λ bound m le h.
-                opened bound m h ∙ ap (λ t. t >>= storeRegister limit (intOf i) (Column null)) (subst (λ z. Tells limit bound ds z (storeRegister limit (intOf j) (found-value p e bound m h .value) m)) q (told bound m h));
-            leaves = tt;
+                subst (Tells limit bound ds s) (sym (opened bound m h ∙ ap (λ b. carrySome limit b (intOf i) (intOf j) (some (found-value p e bound m h .value)) m) q)) (told bound m h);
+            leaves = stores .leaves;
             frame = stores .frame;
           }
 
-      pub moved-next : (b : IntMap) → s ≡ stored.Done b → Reached limit cs ds a b (moveOne limit (intOf i) (intOf j)) (storeRegister limit (intOf i) (Column null))
-      moved-next b q =
-          let stays = subst (Leaves limit ds a) q (stores .leaves) in
-          record {
-            says = λ bound m le h.
-                (let w = subst (λ z. Tells limit bound ds z (storeRegister limit (intOf j) (found-value p e bound m h .value) m)) q (told bound m h) in
-                record { state = w .state; same = opened bound m h ∙ ap (λ t. t >>= storeRegister limit (intOf i) (Column null)) (w .answer); holds = w .holds });
-            base = stays .base;
-            current = record { room = stays .room; scratch = omega (arith, stays .base, stores .frame .long, current .scratch) };
-            frame = stores .frame;
-          }
+      module _ (q : moves ≡ true) where
+        moved-as : (bound : ℕ) (m : MemoryState) (h : HoldsMap limit bound cs a m) → carryOne limit moves (intOf i) (intOf j) m ≡ storeRegister limit (intOf j) (found-value p e bound m h .value) m >>= storeRegister limit (intOf i) (Column null)
+        moved-as bound m h = opened bound m h ∙ ap (λ b. carrySome limit b (intOf i) (intOf j) (some (found-value p e bound m h .value)) m) q
+
+        pub carry-stop : (n : ℕ) → s ≡ stored.Refused n → Leads limit cs ds a (stored.Refused n) (carryOne limit moves (intOf i) (intOf j))
+        carry-stop n r =
+            record {
+              says = λ bound m le h.
+                  moved-as bound m h ∙ ap (λ t. t >>= storeRegister limit (intOf i) (Column null)) (subst (λ z. Tells limit bound ds z (storeRegister limit (intOf j) (found-value p e bound m h .value) m)) r (told bound m h));
+              leaves = tt;
+              frame = stores .frame;
+            }
+
+        pub carry-next : (b : IntMap) → s ≡ stored.Done b → Reached limit cs ds a b (carryOne limit moves (intOf i) (intOf j)) (storeRegister limit (intOf i) (Column null))
+        carry-next b r =
+            let stays = subst (Leaves limit ds a) r (stores .leaves) in
+            record {
+              says = λ bound m le h.
+                  (let w = subst (λ z. Tells limit bound ds z (storeRegister limit (intOf j) (found-value p e bound m h .value) m)) r (told bound m h) in
+                  record { state = w .state; same = moved-as bound m h ∙ ap (λ t. t >>= storeRegister limit (intOf i) (Column null)) (w .answer); holds = w .holds });
+              base = stays .base;
+              current = record { room = stays .room; scratch = omega (arith, stays .base, stores .frame .long, current .scratch) };
+              frame = stores .frame;
+            }
 
 -- ---- turns of the definition's loops
 
@@ -210,43 +208,81 @@ regroup (refused n) f g = refl
 regroup (done v) f g = refl
 
 module _ (limit : ℕ) where
-  pub copies-open : (n i j : ℕ) → 0 < n → (m : MemoryState) → copyMany limit n (intOf i) (intOf j) m ≡ copyTo limit (intOf i) (intOf j) (λ v. v) m >>= copyMany limit (n - 1) (intOf (i + 1)) (intOf (j + 1))
-  unfolding copyMany
-  copies-open zero i j lt m = absurd (omega arith)
-  copies-open (suc n) i j lt m = onward (copyMany limit) (copyTo limit (intOf i) (intOf j) (λ v. v) m) n i j
-
-  pub copies-end : (n i j : ℕ) → n ≤ 0 → (m : MemoryState) → copyMany limit n (intOf i) (intOf j) m ≡ done m
-  unfolding copyMany
-  copies-end zero i j le m = refl
-  copies-end (suc n) i j le m = absurd (omega arith)
-
-  pub moves-open : (n i j : ℕ) → 0 < n → (m : MemoryState) → moveMany limit n (intOf i) (intOf j) m ≡ moveOne limit (intOf i) (intOf j) m >>= moveMany limit (n - 1) (intOf (i + 1)) (intOf (j + 1))
-  unfolding moveMany moveOne
-  moves-open zero i j lt m = absurd (omega arith)
-  moves-open (suc n) i j lt m =
+  pub carries-open : (moves : Bool) (n i j : ℕ) → 0 < n → (m : MemoryState) → carryMany limit moves n (intOf i) (intOf j) m ≡ carryOne limit moves (intOf i) (intOf j) m >>= carryMany limit moves (n - 1) (intOf (i + 1)) (intOf (j + 1))
+  unfolding carryMany carryOne copyMany copyTo moveMany
+  carries-open moves zero i j lt m = absurd (omega arith)
+  carries-open false (suc n) i j lt m = onward (copyMany limit) (copyTo limit (intOf i) (intOf j) (λ v. v) m) n i j
+  carries-open true (suc n) i j lt m =
       regroup (readRegister (intOf i) m) (λ v. moveSome limit (intOf i) (intOf j) v m) (moveMany limit n (sucℤ (intOf i)) (sucℤ (intOf j)))
       ∙ onward (moveMany limit) (readRegister (intOf i) m >>= λ v. moveSome limit (intOf i) (intOf j) v m) n i j
 
-  pub moves-end : (n i j : ℕ) → n ≤ 0 → (m : MemoryState) → moveMany limit n (intOf i) (intOf j) m ≡ done m
-  unfolding moveMany
-  moves-end zero i j le m = refl
-  moves-end (suc n) i j le m = absurd (omega arith)
+  pub carries-end : (moves : Bool) (n i j : ℕ) → n ≤ 0 → (m : MemoryState) → carryMany limit moves n (intOf i) (intOf j) m ≡ done m
+  unfolding carryMany copyMany moveMany
+  carries-end false zero i j le m = refl
+  carries-end true zero i j le m = refl
+  carries-end moves (suc n) i j le m = absurd (omega arith)
+
+  -- the same turns, said otherwise
+  carries-same : (moves : Bool) (n i j k p q : ℕ) → n ≡ k → i ≡ p → j ≡ q → (m : MemoryState) → carryMany limit moves n (intOf i) (intOf j) m ≡ carryMany limit moves k (intOf p) (intOf q) m
+  carries-same moves n i j k p q ne ie je m =
+      ap (λ z. carryMany limit moves z (intOf i) (intOf j) m) ne ∙ ap (λ z. carryMany limit moves k (intOf z) (intOf j) m) ie ∙ ap (λ z. carryMany limit moves k (intOf p) (intOf z) m) je
+
+  -- one that reads nothing does nothing
+  carries-past : (moves : Bool) (n i j : ℕ) (m : MemoryState) → readRegister (intOf i) m ≡ done none → carryMany limit moves (suc n) (intOf i) (intOf j) m ≡ carryMany limit moves n (intOf (i + 1)) (intOf (j + 1)) m
+  unfolding carryOne
+  carries-past moves n i j m e =
+      let less : suc n - 1 ≡ n = omega arith in
+      carries-open moves (suc n) i j (omega arith) m
+      ∙ ap (λ t. t >>= (λ v. carrySome limit moves (intOf i) (intOf j) v m) >>= carryMany limit moves (suc n - 1) (intOf (i + 1)) (intOf (j + 1))) e
+      ∙ ap (λ t. t >>= carryMany limit moves (suc n - 1) (intOf (i + 1)) (intOf (j + 1))) (carries-none limit moves (intOf i) (intOf j) m)
+      ∙ carries-same moves (suc n - 1) (i + 1) (j + 1) n (i + 1) (j + 1) less refl refl m
+
+  -- nor do the turns of a gap
+  carries-gap : (moves : Bool) (n i j r : ℕ) (m : MemoryState) → r ≡ gap n (intOf i) m → carryMany limit moves n (intOf i) (intOf j) m ≡ carryMany limit moves (n - r) (intOf (i + r)) (intOf (j + r)) m
+  unfolding gap
+  carries-gap moves zero i j r m e = carries-same moves zero i j (zero - r) (i + r) (j + r) (omega arith) (omega arith) (omega arith) m
+  carries-gap moves (suc n) i j r m e = go (readRegister (intOf i) m) refl e (carries-gap moves n (i + 1) (j + 1) (gap n (intOf (i + 1)) m) m refl)
+    where
+      go : (t : Tried (Option RegDataType)) → readRegister (intOf i) m ≡ t → r ≡ gapIf t (gap n (sucℤ (intOf i)) m)
+          → carryMany limit moves n (intOf (i + 1)) (intOf (j + 1)) m ≡ carryMany limit moves (n - gap n (intOf (i + 1)) m) (intOf (i + 1 + gap n (intOf (i + 1)) m)) (intOf (j + 1 + gap n (intOf (i + 1)) m)) m
+          → carryMany limit moves (suc n) (intOf i) (intOf j) m ≡ carryMany limit moves (suc n - r) (intOf (i + r)) (intOf (j + r)) m
+      go (refused k) read e ih = carries-same moves (suc n) i j (suc n - r) (i + r) (j + r) (omega arith) (omega arith) (omega arith) m
+      go (done (some v)) read e ih = carries-same moves (suc n) i j (suc n - r) (i + r) (j + r) (omega arith) (omega arith) (omega arith) m
+      go (done none) read e ih =
+          let long : r ≡ suc (gap n (intOf (i + 1)) m) = e ∙ ap (λ z. suc (gap n z m)) (int-suc i) in
+          carries-past moves n i j m read ∙ ih
+          ∙ carries-same moves (n - gap n (intOf (i + 1)) m) (i + 1 + gap n (intOf (i + 1)) m) (j + 1 + gap n (intOf (i + 1)) m) (suc n - r) (i + r) (j + r) (omega arith) (omega arith) (omega arith) m
+
+  -- a turn of the loop, and the gap behind it
+  pub carries-on : {cs ds es : List Cell} {a b : IntMap} (moves : Bool) (n i j k p q : ℕ) {whole : MemoryState → Tried MemoryState} → Reached limit cs ds a b whole (carryMany limit moves n (intOf i) (intOf j)) → 0 < n
+      → (s : Stored) → Leads limit ds es b s (carryOne limit moves (intOf i) (intOf j)) → (c : IntMap) → s ≡ stored.Done c
+      → (r : ℕ) → Gap es c (i + 1) (n - 1) r → k ≡ n - (1 + r) → p ≡ i + (1 + r) → q ≡ j + (1 + r)
+      → Reached limit cs es a c whole (carryMany limit moves k (intOf p) (intOf q))
+  carries-on {es = es} moves n i j k p q reached lt s led c e r gapped ke pe qe =
+      reached-as (reached-next reached es _ _ (carries-open moves n i j lt) s led c e) _
+      (λ bound m h.
+      carries-gap moves (n - 1) (i + 1) (j + 1) r m (gapped .says limit bound m h)
+      ∙ carries-same moves (n - 1 - r) (i + 1 + r) (j + 1 + r) k p q (omega arith) (omega arith) (omega arith) m)
 
 -- ---- the definition's arms
+
+pub carry-copy-one : (limit : ℕ) (i j : ℤ) (m : MemoryState) → carryOne limit false i j m ≡ copyTo limit i j (λ v. v) m
+unfolding carryOne copyTo
+carry-copy-one limit i j m = refl
 
 module _ (limit : ℕ) (meaning : Meaning) (l : Listed) (x : Row) (s : Standard limit meaning) (j : Judged l x) where
   pub arm-copy-one : (m : MemoryState) → copyTo limit (intOf (x .p1)) (intOf (x .p2)) (λ v. v) m ≡ registerArm meaning l m opCopyOne
   unfolding registerArm
   arm-copy-one m = rw (s .cells, j .p1, j .p2)
 
-  pub arm-copy : (n : ℕ) → n ≡ x .p3 + 1 - 9223372036854775808 → (m : MemoryState) → copyMany limit n (intOf (x .p1)) (intOf (x .p2)) m ≡ registerArm meaning l m opCopy
-  unfolding registerArm
+  pub arm-copy : (n : ℕ) → n ≡ x .p3 + 1 - 9223372036854775808 → (m : MemoryState) → carryMany limit false n (intOf (x .p1)) (intOf (x .p2)) m ≡ registerArm meaning l m opCopy
+  unfolding registerArm carryMany
   arm-copy n e m =
       let t : n ≡ turns (sucℤ (l .p3)) = e ∙ sym (int-turns (x .p3 + 1)) ∙ ap turns (sym (int-suc (x .p3))) ∙ ap (λ k. turns (sucℤ k)) (j .p3) in
       ap (λ k. copyMany limit k (intOf (x .p1)) (intOf (x .p2)) m) t ∙ rw (s .cells, j .p1, j .p2)
 
-  pub arm-move : (n : ℕ) → n ≡ x .p3 - 9223372036854775808 → (m : MemoryState) → moveMany limit n (intOf (x .p1)) (intOf (x .p2)) m ≡ registerArm meaning l m opMove
-  unfolding registerArm
+  pub arm-move : (n : ℕ) → n ≡ x .p3 - 9223372036854775808 → (m : MemoryState) → carryMany limit true n (intOf (x .p1)) (intOf (x .p2)) m ≡ registerArm meaning l m opMove
+  unfolding registerArm carryMany
   arm-move n e m =
       let t : n ≡ turns (l .p3) = e ∙ sym (int-turns (x .p3)) ∙ ap turns (j .p3) in
       ap (λ k. moveMany limit k (intOf (x .p1)) (intOf (x .p2)) m) t ∙ rw (s .cells, j .p1, j .p2)

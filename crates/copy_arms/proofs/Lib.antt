@@ -1,2 +1,2 @@
-pub mod LeadsLaws
 pub mod CopyLaws
+pub mod GapLaws

@@ -1,5 +1,7 @@
--- What a store of an entry that the map has leads to, and one turn of Move. Assumes nothing.
+-- What a store of an entry that the map has leads to, and the turns of Copy and Move. Assumes nothing.
 use mathlib.Core.Path.{_≡_}
+use mathlib.Core.Bool.{Bool, true, false}
+use mathlib.Core.Option.{Option}
 use mathlib.Core.List.{List}
 use Prim.Native.Nat.{ℕ, _+_}
 use lib.IntN.{ℤ}
@@ -7,7 +9,7 @@ use Rattle.model.specs.Walk.{Tried}
 use Rattle.model.specs.State.{RegDataType, MemoryState}
 use Rattle.model.specs.Access.{_>>=_, readRegister, storeRegister}
 use Rattle.model.specs.Good.{GoodRegister}
-use Rattle.model.specs.RegisterArms.{moveSome}
+use Rattle.model.specs.RegisterArms.{storeSome, copyMany, moveSome, moveMany}
 use Rattle.area.specs.declared.Cell.{Cell}
 use Rattle.intmap.specs.Map.{levels, Frame}
 use Rattle.intmap.specs.Runs.{size}
@@ -25,6 +27,15 @@ pub record StoresFrom (limit : ℕ) (cs ds : List Cell) (a : IntMap) (at j : ℕ
   pub leaves : Leaves limit ds a r
   pub frame : Frame cs ds (a .base) (limit + limit)
 
--- one turn of Move
-unfoldable pub moveOne : ℕ → ℤ → ℤ → MemoryState → Tried MemoryState
-moveOne limit i j m = readRegister i m >>= λ v. moveSome limit i j v m
+-- Copy and Move are one loop, and `moves` says which: what a turn does with the value of register i, where Move leaves null
+abbrev pub carrySome : ℕ → Bool → ℤ → ℤ → Option RegDataType → MemoryState → Tried MemoryState
+carrySome limit false i j v m = storeSome limit j (λ u. u) v m
+carrySome limit true i j v m = moveSome limit i j v m
+
+-- one turn, and n of them
+unfoldable pub carryOne : ℕ → Bool → ℤ → ℤ → MemoryState → Tried MemoryState
+carryOne limit moves i j m = readRegister i m >>= λ v. carrySome limit moves i j v m
+
+unfoldable pub carryMany : ℕ → Bool → ℕ → ℤ → ℤ → MemoryState → Tried MemoryState
+carryMany limit false n i j m = copyMany limit n i j m
+carryMany limit true n i j m = moveMany limit n i j m

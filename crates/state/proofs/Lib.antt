@@ -1,2 +1,3 @@
 pub mod StoreLeads
 pub mod ReadLaws
+pub mod LeadsLaws

@@ -11,14 +11,14 @@ add-turns c = search needs
 turns-requires : tie.Need-turns-requires
 turns-requires c κs = search needs
 
-copy-many-requires : tie.Need-copy-many-requires
-copy-many-requires c κs = search needs
+carry-many-requires : tie.Need-carry-many-requires
+carry-many-requires c κs = search needs
 
 same-length : tie.Need-same-length
 same-length c = search needs
 
 returns : tie.Need-returns
-returns c = record { leads = λ meaning l s j. leads-as _ (arm-copy _ meaning l _ s j _ (c .before .before .before .turns .ensures)) (c .before .before .copy-many .ensures) }
+returns c = record { leads = λ meaning l s j. leads-as _ (arm-copy _ meaning l _ s j _ (c .before .before .before .turns .ensures)) (c .before .before .carry-many .ensures) }
 
 pub copy-spec : {M : Type 1} → statement M
-copy-spec = tie.close (tie.spec add-turns turns-requires copy-many-requires same-length returns)
+copy-spec = tie.close (tie.spec add-turns turns-requires carry-many-requires same-length returns)

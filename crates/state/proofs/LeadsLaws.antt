@@ -1,5 +1,5 @@
--- Accesses one after the other lead to the definition's, one after the other: of two, and of a loop, whose invariant is that what is still to
--- come from the state now is what the whole gives. Assumes nothing.
+-- Accesses one after the other lead to the definition's, one after the other: what is still to come from the state now is what the whole gives,
+-- which is the invariant of a loop. Assumes nothing.
 use mathlib.Core.Path.{_≡_, refl, sym, ap, subst, _∙_}
 use mathlib.Core.List.{List}
 use Prim.Native.Nat.{ℕ, _+_, _≤_}
@@ -8,16 +8,14 @@ use Rattle.model.specs.Walk.{Tried, done}
 use Rattle.model.specs.State.{MemoryState}
 use Rattle.model.specs.Access.{_>>=_}
 use Rattle.area.specs.declared.Cell.{Cell}
-use Rattle.intmap.specs.Map.{Frame}
+use Rattle.intmap.specs.Map.{IsMap, Frame}
 use Rattle.intmap.specs.declared.IntMap.{IntMap}
 use Rattle.intmap.specs.declared.Stored.{Stored}
 use Rattle.intmap.specs.declared.Stored.the-variants as stored
+use Rattle.intmap.proofs.StoreLaws.{room-map, frame-same}
 use Rattle.state.specs.Leads.{Current, HoldsMap, Tells, Leaves, operands, Leads}
 
 -- ---- frames
-
-pub frame-none : (cs : List Cell) (base n : ℕ) → Frame cs cs base n
-frame-none cs base n = record { long = refl; below = λ j lt. refl; above = λ j le. refl }
 
 pub frame-within : (cs ds : List Cell) (inner few base n : ℕ) → base ≤ inner → inner + few ≤ base + n → Frame cs ds inner few → Frame cs ds base n
 frame-within cs ds inner few base n low high f = record { long = f .long; below = λ j lt. f .below j (omega arith); above = λ j le. f .above j (omega arith) }
@@ -43,7 +41,7 @@ pub record Reached (limit : ℕ) (cs ds : List Cell) (a b : IntMap) (whole rest 
 
 pub reached-first : (limit : ℕ) (cs : List Cell) (a : IntMap) (whole : MemoryState → Tried MemoryState) → Current limit cs a → Reached limit cs cs a a whole whole
 reached-first limit cs a whole c =
-    record { says = λ bound m le h. record { state = m; same = refl; holds = h }; base = refl; current = c; frame = frame-none cs (a .base) (limit + limit) }
+    record { says = λ bound m le h. record { state = m; same = refl; holds = h }; base = refl; current = c; frame = frame-same cs cs (a .base) (limit + limit) refl }
 
 module _ {limit : ℕ} {cs ds : List Cell} {a b : IntMap} {whole rest : MemoryState → Tried MemoryState} (r : Reached limit cs ds a b whole rest) where
   -- the frame of what comes next
@@ -89,6 +87,16 @@ module _ {limit : ℕ} {cs ds : List Cell} {a b : IntMap} {whole rest : MemorySt
           frame = framed es (l .frame);
         }
 
+  -- what is still to come, said otherwise of every state that is held
+  pub reached-as : (other : MemoryState → Tried MemoryState) → ((bound : ℕ) (m : MemoryState) → HoldsMap limit bound ds b m → rest m ≡ other m) → Reached limit cs ds a b whole other
+  reached-as other same =
+      record {
+        says = λ bound m le h. (let w = r .says bound m le h in record { state = w .state; same = w .same ∙ same bound (w .state) (w .holds); holds = w .holds });
+        base = r .base;
+        current = r .current;
+        frame = r .frame;
+      }
+
   -- nothing is still to come
   pub reached-end : ((m : MemoryState) → rest m ≡ done m) → Leads limit cs ds a (stored.Done b) whole
   reached-end ends =
@@ -98,14 +106,6 @@ module _ {limit : ℕ} {cs ds : List Cell} {a b : IntMap} {whole rest : MemorySt
         frame = r .frame;
       }
 
--- ---- two accesses, one after the other
-
-module _ (limit : ℕ) (cs ds : List Cell) (a : IntMap) (f g : MemoryState → Tried MemoryState) (current : Current limit cs a) where
-  here : Reached limit cs cs a a (λ m. f m >>= g) (λ m. f m >>= g)
-  here = reached-first limit cs a (λ m. f m >>= g) current
-
-  pub leads-then : (es : List Cell) (b : IntMap) (r : Stored) → Leads limit cs ds a (stored.Done b) f → Leads limit ds es b r g → Leads limit cs es a r (λ m. f m >>= g)
-  leads-then es b r first second = reached-last (reached-next here ds f g (λ m. refl) (stored.Done b) first b refl) es r second
-
-  pub leads-stop : (n : ℕ) → Leads limit cs ds a (stored.Refused n) f → Leads limit cs ds a (stored.Refused n) (λ m. f m >>= g)
-  leads-stop n first = reached-stop here ds f g (λ m. refl) (stored.Refused n) first n refl
+-- the map that an access leaves
+pub led-map : {limit : ℕ} {cs ds : List Cell} {a : IntMap} {f : MemoryState → Tried MemoryState} (s : Stored) → Leads limit cs ds a s f → (b : IntMap) → s ≡ stored.Done b → IsMap ds b
+led-map {limit} {ds = ds} {a} s led b e = room-map (subst (Leaves limit ds a) e (led .leaves) .room)
