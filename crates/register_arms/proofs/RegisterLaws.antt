@@ -34,7 +34,7 @@ use Rattle.state.specs.Leads.{Current, Leads, HoldsMap, Tells}
 use Rattle.state.specs.Reads.{Reads}
 use Rattle.state.specs.declared.Register.{Register}
 use Rattle.state.specs.declared.Register.the-variants as register
-use Rattle.register_arms.specs.Values.{datatypeOf, nullableOf, IsDatatype, IsNullable, AreNullable, isAbsent, HasAggregate}
+use Rattle.register_arms.specs.Values.{datatypeOf, nullableOf, IsDatatype, IsNullable, AreNullable, isAbsent}
 use Rattle.register_arms.proofs.ValueLaws.{isBad, IsRead, value-read, operands-are, is-absent, IsSome, some-value}
 use Rattle.state.specs.Arms.{Standard}
 
@@ -74,6 +74,9 @@ others-null p2 e = ap (λ b. some (not b)) (sym (int-same p2 offset ∙ ne-eqb p
 
 last-of-five : (n : ℕ) → n < 5 → (n ≡ 0 → ⊥) → (n ≡ 1 → ⊥) → (n ≡ 2 → ⊥) → (n ≡ 3 → ⊥) → n ≡ 4
 last-of-five n h a b c d = omega arith
+
+first-of-five : (n : ℕ) → n < 5 → (n ≡ 1 → ⊥) → (n ≡ 2 → ⊥) → (n ≡ 3 → ⊥) → (n ≡ 4 → ⊥) → n ≡ 0
+first-of-five n h b c d f = omega arith
 
 module _ (limit : ℕ) (meaning : Meaning) (l : Listed) (x : Row) (s : Standard limit meaning) (j : Judged l x) (m : MemoryState) where
   pub integer-arm : storeRegister limit (intOf (x .p2)) (Int (intOf (x .p1))) m ≡ registerArm meaning l m opInteger
@@ -265,11 +268,13 @@ module _ (limit : ℕ) (meaning : Meaning) (l : Listed) (x : Row) (s : Standard 
     unfolding aggregateAt aggregates
     step-sum is = copied summed ∙ sym (step-is 3 is)
 
-    pub step-other : HasAggregate x → (x .aggregate ≡ 1 → ⊥) → (x .aggregate ≡ 2 → ⊥) → (x .aggregate ≡ 3 → ⊥) → copyTo limit (intOf (x .p2)) (intOf (x .p3)) fromOtherRow m ≡ registerArm meaning l m opAggStep
+    pub step-other : x .aggregate ≡ 4 → copyTo limit (intOf (x .p2)) (intOf (x .p3)) fromOtherRow m ≡ registerArm meaning l m opAggStep
     unfolding aggregateAt aggregates
-    step-other has b c d =
-        copied fromOtherRow
-        ∙ sym (step-is 4 (last-of-five (x .aggregate) (j .aggregate (is-text limit meaning l x s j m e) .below) (has .other e) b c d))
+    step-other is = copied fromOtherRow ∙ sym (step-is 4 is)
+
+    pub step-operand : (x .aggregate ≡ 1 → ⊥) → (x .aggregate ≡ 2 → ⊥) → (x .aggregate ≡ 3 → ⊥) → (x .aggregate ≡ 4 → ⊥) → copyTo limit (intOf (x .p2)) (intOf (x .p3)) (λ v. v) m ≡ registerArm meaning l m opAggStep
+    unfolding aggregateAt aggregates
+    step-operand b c d f = copied (λ v. v) ∙ sym (step-is 0 (first-of-five (x .aggregate) (j .aggregate (is-text limit meaning l x s j m e) .below) b c d f))
 
     pub final-integer : x .aggregate ≡ 1 → storeRegister limit (intOf (x .p1)) (neverNull Integer) m ≡ registerArm meaning l m opAggFinal
     unfolding aggregateAt aggregates

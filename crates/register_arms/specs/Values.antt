@@ -12,7 +12,6 @@ use Rattle.model.specs.State.{RegDataType, mapToDatatype, mapToNullable, either
 use Rattle.area.specs.declared.Cell.{Cell}
 use Rattle.intmap.specs.declared.IntMap.{IntMap}
 use Rattle.encoding.specs.Decode.{nullables}
-use Rattle.rows.specs.declared.Row.{Row}
 use Rattle.state.specs.Reads.{TellsRegister}
 use Rattle.state.specs.declared.Register.{Register}
 use Rattle.state.specs.declared.Register.the-variants as register
@@ -49,7 +48,3 @@ isAbsent register.Absent = true
 isAbsent (register.Single k n) = false
 isAbsent (register.Record at) = false
 isAbsent (register.Int w) = false
-
--- a row that is UTF-8 names an aggregate that does not just give its operand
-pub record HasAggregate (x : Row) : Type 0 where
-  pub other : x .text ≡ 1 → x .aggregate ≡ 0 → ⊥

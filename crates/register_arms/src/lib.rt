@@ -16,7 +16,7 @@ ghost use Rattle.encoding.specs.Decode.{datatypes, nullables};
 ghost use Rattle.rows.specs.Rows.{Fits};
 ghost use Rattle.state.specs.Leads.{Current, Leads};
 ghost use Rattle.state.specs.Arms.{RegisterArm};
-ghost use Rattle.register_arms.specs.Values.{IsDatatype, IsNullable, AreNullable, isAbsent, HasAggregate};
+ghost use Rattle.register_arms.specs.Values.{IsDatatype, IsNullable, AreNullable, isAbsent};
 use intmap::IntMap;
 use intmap::Stored;
 use rows::Row;
@@ -253,9 +253,9 @@ fn other_row(map: IntMap, area: &mut [u8], from: u64, to: u64, limit: usize) -> 
     state::store_single(map, area, to, map_to_datatype(v), state::NULLABLE, limit)
 }
 
-// AggStep and AggValue, but for the aggregates that give their operand: what the aggregate gives in register P3.
+// AggStep and AggValue: what the aggregate gives in register P3. An aggregate of code 0 gives its operand, which may be a record.
 pub fn agg_step(map: IntMap, area: &mut [u8], x: Row, limit: usize) -> Stored
-    requires { ⌜ Current limit (cells (now area)) map × Fits x × HasAggregate x ⌝ }
+    requires { ⌜ Current limit (cells (now area)) map × Fits x ⌝ }
     ensures { λ r. ⌜ RegisterArm limit (cells (now (area .entry))) (cells (now (area .exit))) map x opAggStep r ⌝ }
 {
     if x.text != 1 {
@@ -270,7 +270,10 @@ pub fn agg_step(map: IntMap, area: &mut [u8], x: Row, limit: usize) -> Stored
     if x.aggregate == 3 {
         return sum(map, area, x.p2, x.p3, limit);
     }
-    other_row(map, area, x.p2, x.p3, limit)
+    if x.aggregate == 4 {
+        return other_row(map, area, x.p2, x.p3, limit);
+    }
+    copy_arms::copy_register(map, area, x.p2, x.p3, limit)
 }
 
 // AggFinal: an integer goes to register P1, a real to register P3; a sum and an operand stay as they are.
@@ -293,7 +296,8 @@ pub fn agg_final(map: IntMap, area: &mut [u8], x: Row, limit: usize) -> Stored
     Stored::Done(map)
 }
 
-// Null in n registers from `from` on; a refusal ends it.
+// Null in n registers from `from` on; a refusal ends it. Each turn leaves one more register of the range present, which is at least a cell, so
+// that the turns are at most one more than the limit, however many n are.
 fn null_many(map: IntMap, area: &mut [u8], from: u64, n: u64, limit: usize) -> Stored
     requires { ⌜ Current limit (cells (now area)) map × (from + n < 18446744073709551616) ⌝ }
     ensures { λ r. ⌜ Leads limit (cells (now (area .entry))) (cells (now (area .exit))) map r (nullMany limit n (intOf from)) ⌝ }

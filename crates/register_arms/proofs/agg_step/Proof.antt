@@ -1,6 +1,6 @@
 -- `register_arms::agg_step` refuses what is not UTF-8, and stores what the aggregate gives. Assumes nothing.
 use Rattle.state.proofs.StoreLeads.{leads-as}
-use Rattle.register_arms.proofs.RegisterLaws.{refuses-leads, step-refused, step-integer, step-real, step-sum, step-other}
+use Rattle.register_arms.proofs.RegisterLaws.{refuses-leads, step-refused, step-integer, step-real, step-sum, step-other, step-operand}
 use borrow.Author.Needs.{needs}
 use Rattle.register_arms.proofs.agg_step.Statement.{statement}
 use Rattle.register_arms.proofs.agg_step.Tie as tie
@@ -42,7 +42,16 @@ same-length-4 : tie.Need-same-length-4
 same-length-4 c = search needs
 
 returns-5 : tie.Need-returns-5
-returns-5 c = record { leads = λ meaning l s j. leads-as _ (λ m. step-other _ meaning l _ s j m (c .before .before .before .before .before .before .before .before .before .before .if1 .left) (c .before .before .before .before .before .before .before .before .before .before .before .before .before .pre .2) (c .before .before .before .before .before .before .before .before .if2 .left) (c .before .before .before .before .before .before .if3 .left) (c .before .before .before .before .if4 .left)) (c .before .before .other-row .ensures) }
+returns-5 c = record { leads = λ meaning l s j. leads-as _ (λ m. step-other _ meaning l _ s j m (c .before .before .before .before .before .before .before .before .before .before .before .before .if1 .left) (c .before .before .before .before .if5 .taken)) (c .before .before .other-row .ensures) }
+
+copy-register-requires : tie.Need-copy-register-requires
+copy-register-requires c κs = search needs
+
+same-length-5 : tie.Need-same-length-5
+same-length-5 c = search needs
+
+returns-6 : tie.Need-returns-6
+returns-6 c = record { leads = λ meaning l s j. leads-as _ (λ m. step-operand _ meaning l _ s j m (c .before .before .before .before .before .before .before .before .before .before .before .before .if1 .left) (c .before .before .before .before .before .before .before .before .before .before .if2 .left) (c .before .before .before .before .before .before .before .before .if3 .left) (c .before .before .before .before .before .before .if4 .left) (c .before .before .before .before .if5 .left)) (c .before .before .copy-register .ensures) }
 
 pub agg-step-spec : {M : Type 1} → statement M
 agg-step-spec =
@@ -60,4 +69,7 @@ agg-step-spec =
     returns-4
     other-row-requires
     same-length-4
-    returns-5)
+    returns-5
+    copy-register-requires
+    same-length-5
+    returns-6)
