@@ -24,10 +24,8 @@ use Rattle.state.specs.Leads.{Current, HoldsMap}
 use Rattle.state.specs.Steps.{HoldsState, Offered}
 use Rattle.state.specs.declared.MemoryState.{MemoryState}
 use Rattle.state.specs.declared.Way.the-variants as way
-use Rattle.state.specs.declared.Step.{Step}
 use Rattle.state.specs.declared.Step.the-variants as step
 use Rattle.jump_arms.specs.Arms.{at, bothAfter, Puts, BothArm}
-use Rattle.jump_arms.specs.declared.Known.the-variants as known
 use Rattle.jump_arms.proofs.StepLaws.{held-next, branches-and-goes}
 use Rattle.jump_arms.proofs.StoreSteps.{SameRow}
 

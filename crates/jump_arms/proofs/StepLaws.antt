@@ -25,7 +25,6 @@ use Rattle.state.specs.Leads.{Current, HoldsMap}
 use Rattle.state.specs.Steps.{HoldsState, Offered, Lies, JumpArm}
 use Rattle.state.specs.declared.MemoryState.{MemoryState}
 use Rattle.state.specs.declared.Way.the-variants as way
-use Rattle.state.specs.declared.Step.{Step}
 use Rattle.state.specs.declared.Step.the-variants as step
 use Rattle.jump_arms.specs.Arms.{at}
 

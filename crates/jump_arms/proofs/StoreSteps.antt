@@ -1,8 +1,10 @@
 -- An access that changes the map, followed by a step; and the arms that store a number and then name the next row. Assumes nothing.
 use mathlib.Core.Path.{_≡_, refl, sym, ap, ap₂, subst, _∙_}
 use mathlib.Core.Bool.{Bool, true, false}
-use mathlib.Core.List.{List}
+use mathlib.Core.Option.{none}
+use mathlib.Core.List.{List, [], _∷_}
 use Prim.Native.Nat.{ℕ, _+_, _≤_}
+use native.Mathlib.Omega.{arith}
 use lib.Dec.{leb, eqb}
 use lib.IntN.{ℤ}
 use borrow.Author.Tests.{eqb-true, eqb-false}
@@ -12,7 +14,7 @@ use Rattle.model.specs.State.{RegDataType, Int, MemoryState as Defined}
 use Rattle.model.specs.Cells.{cells, registerDepth}
 use Rattle.model.specs.Equality.{isZeroInt}
 use Rattle.model.specs.Operation.{JumpOperation, opGosub, opInitCoroutine}
-use Rattle.model.specs.Offer.{goesOn}
+use Rattle.model.specs.Offer.{offers, goesOn}
 use Rattle.model.specs.Access.{_>>=_, index, judgeDepth, cellsIf, judgeCells, goTo, storeRegister}
 use Rattle.model.specs.JumpArms.{initCoroutineTo, jumpArm}
 use Rattle.model.proofs.Tried.{Kept, refusal, value, _>>_, anything, kept}
@@ -27,9 +29,8 @@ use Rattle.state.specs.Leads.{HoldsMap, operands, Leads}
 use Rattle.state.specs.Steps.{HoldsState, Offered, TellsStep, LeavesStep, JumpArm}
 use Rattle.state.specs.declared.MemoryState.{MemoryState}
 use Rattle.state.specs.declared.Way.the-variants as way
-use Rattle.state.specs.declared.Step.the-variants as step
-use Rattle.jump_arms.specs.Arms.{InitTo, at, stepAfter}
-use Rattle.jump_arms.proofs.StepLaws.{held-at, held-next, goes-on, zero-word, other-word}
+use Rattle.jump_arms.specs.Arms.{InitTo, at, stepAfter, branchAfter}
+use Rattle.jump_arms.proofs.StepLaws.{held-at, held-next, goes-on, branches-only, zero-word, other-word}
 
 -- the state stays on its row
 abbrev pub SameRow : Defined → Defined → Type 0
@@ -58,6 +59,19 @@ goes-after {limit} {ds = ds} (stored.Done b) w bound m le leads keeps h =
 pub leaves-after : {limit : ℕ} {cs ds : List Cell} {f : Defined → Tried Defined} (s : MemoryState) (r : Stored) (w : ℕ) → Leads limit cs ds (s .map) r f → LeavesStep limit ds s (stepAfter w r)
 leaves-after s (stored.Refused k) w leads = tt
 leaves-after s (stored.Done b) w leads = (tt, (leads .leaves .base, leads .leaves .room))
+
+-- the same as a branch
+pub branches-after : {limit : ℕ} {cs ds : List Cell} {a : IntMap} {f : Defined → Tried Defined} (r : Stored) (w bound : ℕ) (m : Defined) → operands ≤ bound → Leads limit cs ds a r f → Kept (SameRow m) (f m) → HoldsState limit bound cs (at w a) m → TellsStep limit bound ds (branchAfter w r) (f m >>= λ n. offers (n ∷ []) none)
+branches-after (stored.Refused k) w bound m le leads keeps h = ap (λ t. t >>= λ n. offers (n ∷ []) none) (leads .says bound m le (h .map))
+branches-after {limit} {ds = ds} (stored.Done b) w bound m le leads keeps h =
+    let t = leads .says bound m le (h .map) in
+    subst (Offered limit bound ds (way.To (at w b)) way.Nowhere) (sym (ap (λ t. t >>= λ n. offers (n ∷ []) none) (t .answer)))
+    (branches-only (record { row = h .row ∙ sym (kept keeps (t .answer)); map = t .holds }))
+
+pub branch-leaves : {limit : ℕ} {cs ds : List Cell} {f : Defined → Tried Defined} (s : MemoryState) (r : Stored) (w : ℕ) → Leads limit cs ds (s .map) r f → LeavesStep limit ds s (branchAfter w r)
+branch-leaves s (stored.Refused k) w leads = tt
+branch-leaves s (stored.Done b) w leads =
+    (record { above = omega (arith, leads .leaves .base); below = omega (arith, leads .leaves .base); room = leads .leaves .room }, tt)
 
 -- the arm is an access f to the map that keeps the row, and then goes to another row, whose word is w
 module _

@@ -10,10 +10,10 @@ use Prim.Native.Nat.{ℕ, _+_, _<_, _≤_}
 use lib.IntN.{ℤ}
 use Rattle.model.specs.Walk.{Tried, refused, done}
 use Rattle.model.specs.Row.{Row as Listed}
-use Rattle.model.specs.State.{RegDataType, MemoryState as Defined}
+use Rattle.model.specs.State.{RegDataType, MemoryState as Defined, toNotNull}
 use Rattle.model.specs.Access.{_>>=_, goTo, next, readRegister}
 use Rattle.model.specs.Offer.{offers}
-use Rattle.model.specs.JumpArms.{knownInt, mayBeNull, hasKind, ifArm}
+use Rattle.model.specs.JumpArms.{knownInt, mayBeNull, hasKind, toDefault, ifArm}
 use Rattle.area.specs.declared.Cell.{Cell}
 use Rattle.intmap.specs.Map.{Frame}
 use Rattle.intmap.specs.Signed.{offset, intOf}
@@ -109,6 +109,11 @@ TellsAsked asked.Either t = IsAsked true true t
 
 pub record Asks (cs : List Cell) (a : IntMap) (i : ℕ) (r : Asked) : Type 0 where
   pub says : (limit bound : ℕ) (m : Defined) → HoldsMap limit bound cs a m → TellsAsked r (readRegister (intOf i) m)
+
+-- how the two change a register, by whether it is null from then on
+abbrev pub changed : Bool → RegDataType → RegDataType
+changed true = toDefault
+changed false = toNotNull
 
 -- If, where a number is known or none is
 pub record IfArm (limit : ℕ) (cs ds : List Cell) (s : MemoryState) (x : Row) (n : Option ℤ) (r : Step) : Type 0 where
