@@ -106,7 +106,7 @@ module _ (limit : ℕ) (cs ds : List Cell) (s : MemoryState) (x : Row) (w : ℕ)
         says = λ l j bound m le h.
             subst (TellsStep limit bound ds (branchAfter (x .p2) r)) (sym (is l j m))
             (branches-after r (x .p2) bound (goTo (l .p2) m) le leads (stores-row limit x one (goTo (l .p2) m)) (held-at (x .p2) (l .p2) (j .p2) (h .map)));
-        leaves = branch-leaves s r (x .p2) leads;
+        leaves = branch-leaves limit ds s r (x .p2) (leads .leaves);
         frame = leads .frame;
       }
     where

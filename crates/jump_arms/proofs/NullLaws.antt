@@ -289,7 +289,7 @@ module _ (limit : ℕ) (cs : List Cell) (s : MemoryState) (x : Row) (o : JumpOpe
             subst (TellsStep limit bound ds (branchAfter (x .p2) r))
             (sym (told-is true false told rows l bound m j h ∙ ways-branch _ _ _ _ (intOf (x .p1)) m (u .value) (u .answer)))
             (branches-after r (x .p2) bound (goTo (l .p2) m) le (put .leads) (update-row _ _ _) (held-at (x .p2) (l .p2) (j .p2) (h .map))));
-        leaves = branch-leaves s r (x .p2) (put .leads);
+        leaves = branch-leaves limit ds s r (x .p2) (put .leads .leaves);
         frame = put .leads .frame;
       }
 

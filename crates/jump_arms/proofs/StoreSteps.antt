@@ -25,7 +25,7 @@ use Rattle.intmap.specs.declared.Stored.{Stored}
 use Rattle.intmap.specs.declared.Stored.the-variants as stored
 use Rattle.rows.specs.Judged.{Judged}
 use Rattle.rows.specs.declared.Row.{Row}
-use Rattle.state.specs.Leads.{HoldsMap, operands, Leads}
+use Rattle.state.specs.Leads.{HoldsMap, Tells, Leaves, operands, Leads}
 use Rattle.state.specs.Steps.{HoldsState, Offered, TellsStep, LeavesStep, JumpArm}
 use Rattle.state.specs.declared.MemoryState.{MemoryState}
 use Rattle.state.specs.declared.Way.the-variants as way
@@ -60,18 +60,19 @@ pub leaves-after : {limit : ℕ} {cs ds : List Cell} {f : Defined → Tried Defi
 leaves-after s (stored.Refused k) w leads = tt
 leaves-after s (stored.Done b) w leads = (tt, (leads .leaves .base, leads .leaves .room))
 
--- the same as a branch
-pub branches-after : {limit : ℕ} {cs ds : List Cell} {a : IntMap} {f : Defined → Tried Defined} (r : Stored) (w bound : ℕ) (m : Defined) → operands ≤ bound → Leads limit cs ds a r f → Kept (SameRow m) (f m) → HoldsState limit bound cs (at w a) m → TellsStep limit bound ds (branchAfter w r) (f m >>= λ n. offers (n ∷ []) none)
-branches-after (stored.Refused k) w bound m le leads keeps h = ap (λ t. t >>= λ n. offers (n ∷ []) none) (leads .says bound m le (h .map))
-branches-after {limit} {ds = ds} (stored.Done b) w bound m le leads keeps h =
-    let t = leads .says bound m le (h .map) in
-    subst (Offered limit bound ds (way.To (at w b)) way.Nowhere) (sym (ap (λ t. t >>= λ n. offers (n ∷ []) none) (t .answer)))
-    (branches-only (record { row = h .row ∙ sym (kept keeps (t .answer)); map = t .holds }))
+-- a branch at the row of a word, where t is what the access answers
+pub branches-told : (limit bound : ℕ) (ds : List Cell) (r : Stored) (w : ℕ) (m : Defined) (t : Tried Defined) → Tells limit bound ds r t → Kept (SameRow m) t → intOf w ≡ m .programI → TellsStep limit bound ds (branchAfter w r) (t >>= λ n. offers (n ∷ []) none)
+branches-told limit bound ds (stored.Refused k) w m t told keeps e = ap (λ t. t >>= λ n. offers (n ∷ []) none) told
+branches-told limit bound ds (stored.Done b) w m t told keeps e =
+    subst (Offered limit bound ds (way.To (at w b)) way.Nowhere) (sym (ap (λ t. t >>= λ n. offers (n ∷ []) none) (told .answer)))
+    (branches-only (record { row = e ∙ sym (kept keeps (told .answer)); map = told .holds }))
 
-pub branch-leaves : {limit : ℕ} {cs ds : List Cell} {f : Defined → Tried Defined} (s : MemoryState) (r : Stored) (w : ℕ) → Leads limit cs ds (s .map) r f → LeavesStep limit ds s (branchAfter w r)
-branch-leaves s (stored.Refused k) w leads = tt
-branch-leaves s (stored.Done b) w leads =
-    (record { above = omega (arith, leads .leaves .base); below = omega (arith, leads .leaves .base); room = leads .leaves .room }, tt)
+pub branches-after : {limit : ℕ} {cs ds : List Cell} {a : IntMap} {f : Defined → Tried Defined} (r : Stored) (w bound : ℕ) (m : Defined) → operands ≤ bound → Leads limit cs ds a r f → Kept (SameRow m) (f m) → HoldsState limit bound cs (at w a) m → TellsStep limit bound ds (branchAfter w r) (f m >>= λ n. offers (n ∷ []) none)
+branches-after {limit} {ds = ds} {f = f} r w bound m le leads keeps h = branches-told limit bound ds r w m (f m) (leads .says bound m le (h .map)) keeps (h .row)
+
+pub branch-leaves : (limit : ℕ) (ds : List Cell) (s : MemoryState) (r : Stored) (w : ℕ) → Leaves limit ds (s .map) r → LeavesStep limit ds s (branchAfter w r)
+branch-leaves limit ds s (stored.Refused k) w leaves = tt
+branch-leaves limit ds s (stored.Done b) w leaves = (record { above = omega (arith, leaves .base); below = omega (arith, leaves .base); room = leaves .room }, tt)
 
 -- the arm is an access f to the map that keeps the row, and then goes to another row, whose word is w
 module _

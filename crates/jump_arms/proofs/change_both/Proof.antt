@@ -28,7 +28,7 @@ enum-known-there-2 : tie.Need-enum-known-there-2
 enum-known-there-2 c = search needs
 
 put-changed-requires-2 : tie.Need-put-changed-requires-2
-put-changed-requires-2 c κs = state-room _ _ _ _ (c .before .before .before .before .before .before .before .before .before .before .before .before .before .before .before .pre .current) _ (c .before .before .before .before .before .before .before .before .before .before .copy-to .ensures) _ _ _ (c .before .before .before .before .before .before .put-changed .ensures)
+put-changed-requires-2 c κs = state-room _ _ _ _ (c .before .before .before .before .before .before .before .before .before .before .before .before .before .before .before .pre .current) _ (c .before .before .before .before .before .before .before .before .before .before .copy-to .ensures) _ (c .before .before .before .before .before .before .put-changed .ensures .frame)
 
 add-branch-and-go : tie.Need-add-branch-and-go
 add-branch-and-go c = search needs
