@@ -54,8 +54,8 @@ fn forget(map: IntMap, area: &mut [u8], i: u64, w: u64, limit: usize) -> Stored
     Stored::Done(map)
 }
 
-// IfPos at a row that is handled again, where the number of the word w is known: both ways, whatever it is. The branch counts down behind the map;
-// what goes on forgets a number of 1 or more.
+// IfPos at a row that is handled again, where the number of the word w is known: both ways, whatever it is. The branch counts down behind the
+// map; what goes on forgets a number of 1 or more.
 fn if_pos_again(s: MemoryState, area: &mut [u8], x: Row, w: u64, limit: usize) -> Step
     requires { ⌜ Ready limit (cells (now area)) s x × KnowsInt (cells (now area)) (s .map) (x .p1) w ⌝ }
     ensures { λ r. ⌜ IfPosArm limit (cells (now (area .entry))) (cells (now (area .exit))) s x true r ⌝ }

@@ -192,36 +192,38 @@ Test = Option RegDataType → Bool
 abbrev ways : (RegDataType → RegDataType) → (RegDataType → RegDataType) → ℤ → ℤ → Bool → Bool → ℤ → Defined → Offer
 ways f g p q b c i m = updateRegister i f (goTo p m) >>= λ branch. updateRegister i g (goTo q m) >>= λ stays. offers (branchIf b branch) (stayIf c stays)
 
--- a register that can be read can be changed
+-- a register that can be read has an index
+record Indexed (i : ℤ) : Type 0 where
+  key : ℕ
+  is : index i ≡ done key
+
+indexed : (i : ℤ) (m : Defined) (o : Option RegDataType) → readRegister i m ≡ done o → Indexed i
+unfolding readRegister
+indexed i m o read = go (index i) refl read
+  where
+    go : (t : Tried ℕ) → index i ≡ t → (t >>= λ k. done (get k (m .r))) ≡ done o → Indexed i
+    go (refused n) is e = absurd (apart n o e)
+    go (done k) is e = record { key = k; is = is }
+
+-- so it can be changed
 module _ (f g : RegDataType → RegDataType) (p q : ℤ) (i : ℤ) (m : Defined) (o : Option RegDataType) (read : readRegister i m ≡ done o) where
+  abbrev changedTo : (RegDataType → RegDataType) → ℤ → Tried ℕ → Tried Defined
+  changedTo h to t = t >>= λ k. done (withRegisters (update k h (m .r)) (goTo to m))
+
+  abbrev waysAt : Bool → Bool → Tried ℕ → Offer
+  waysAt b c t = changedTo f p t >>= λ branch. changedTo g q t >>= λ stays. offers (branchIf b branch) (stayIf c stays)
+
   ways-end : ways f g p q false false i m ≡ ends
-  unfolding readRegister updateRegister
-  ways-end = go (index i) read
-    where
-      go : (t : Tried ℕ) → (t >>= λ k. done (get k (m .r))) ≡ done o
-          → ((t >>= λ k. done (withRegisters (update k f (m .r)) (goTo p m))) >>= λ branch. (t >>= λ k. done (withRegisters (update k g (m .r)) (goTo q m))) >>= λ stays. offers (branchIf false branch) (stayIf false stays)) ≡ ends
-      go (refused n) e = absurd (apart n o e)
-      go (done k) e = refl
+  unfolding updateRegister
+  ways-end = ap (waysAt false false) (indexed i m o read .is)
 
   ways-branch : ways f g p q true false i m ≡ (updateRegister i f (goTo p m) >>= λ n. offers (n ∷ []) none)
-  unfolding readRegister updateRegister
-  ways-branch = go (index i) read
-    where
-      go : (t : Tried ℕ) → (t >>= λ k. done (get k (m .r))) ≡ done o
-          → ((t >>= λ k. done (withRegisters (update k f (m .r)) (goTo p m))) >>= λ branch. (t >>= λ k. done (withRegisters (update k g (m .r)) (goTo q m))) >>= λ stays. offers (branchIf true branch) (stayIf false stays))
-          ≡ ((t >>= λ k. done (withRegisters (update k f (m .r)) (goTo p m))) >>= λ n. offers (n ∷ []) none)
-      go (refused n) e = refl
-      go (done k) e = refl
+  unfolding updateRegister
+  ways-branch = let e = indexed i m o read .is in ap (waysAt true false) e ∙ sym (ap (λ t. changedTo f p t >>= λ n. offers (n ∷ []) none) e)
 
   ways-stay : ways f g p q false true i m ≡ (updateRegister i g (goTo q m) >>= λ n. goesOn n)
-  unfolding readRegister updateRegister
-  ways-stay = go (index i) read
-    where
-      go : (t : Tried ℕ) → (t >>= λ k. done (get k (m .r))) ≡ done o
-          → ((t >>= λ k. done (withRegisters (update k f (m .r)) (goTo p m))) >>= λ branch. (t >>= λ k. done (withRegisters (update k g (m .r)) (goTo q m))) >>= λ stays. offers (branchIf false branch) (stayIf true stays))
-          ≡ ((t >>= λ k. done (withRegisters (update k g (m .r)) (goTo q m))) >>= λ n. goesOn n)
-      go (refused n) e = refl
-      go (done k) e = refl
+  unfolding updateRegister
+  ways-stay = let e = indexed i m o read .is in ap (waysAt false true) e ∙ sym (ap (λ t. changedTo g q t >>= λ n. goesOn n) e)
 
 -- the register as it was asked: whether the row branches, and whether the state goes on
 pub record Decided (test : Test) (b c : Bool) (t : Tried (Option RegDataType)) : Type 0 where

@@ -1,7 +1,7 @@
 -- What an arm asks for: the state's map with room behind it, a row whose operands are numbers of 32 bits, and a state on one of the 2,048 rows
 -- that a listing has at most. And what the arms have in common: a step after an access to the map, the row that InitCoroutine and Return name,
--- whether a register is known to hold a number or may be null, a store that stays within the map's room, If by what is known, and both ways by
--- two accesses. Assumes nothing.
+-- whether a register is known to hold a number or may be null and how it changes then, a store that stays within the map's room, If by what is
+-- known, and both ways by two accesses. Assumes nothing.
 use mathlib.Core.Path.{_≡_}
 use mathlib.Core.Bool.{Bool, true, false}
 use mathlib.Core.Option.{Option, none, some}

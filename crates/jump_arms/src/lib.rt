@@ -370,8 +370,7 @@ fn put_changed(map: IntMap, area: &mut [u8], i: u64, null: bool, limit: usize) -
     put_never(map, area, i, limit)
 }
 
-// IsNull and NotNull, where the register may be null and may not be: both ways, the branch behind the map. `null` says of the branch whether the
-// register is null there.
+// IsNull and NotNull where both ways are taken, the branch behind the map. `null` says whether the register is null at the branch.
 fn change_both(s: MemoryState, area: &mut [u8], x: Row, null: bool, limit: usize) -> Step
     requires { ⌜ Ready limit (cells (now area)) s x ⌝ }
     ensures { λ r. ⌜ BothArm limit (cells (now (area .entry))) (cells (now (area .exit))) s x (updateRegister (intOf (x .p1)) (changed null)) (updateRegister (intOf (x .p1)) (changed (not null))) r ⌝ }
