@@ -4,7 +4,6 @@ use mathlib.Core.Bool.{Bool, true, false}
 use mathlib.Core.Option.{Option, none, some}
 use mathlib.Core.List.{List, [], _∷_}
 use Prim.Native.Nat.{ℕ, _+_}
-use native.Mathlib.Omega.{arith}
 use lib.IntN.{ℤ, pos}
 use Rattle.model.specs.Walk.{Tried, refused}
 use Rattle.model.specs.Row.{Row as Listed}
@@ -14,7 +13,7 @@ use Rattle.model.specs.Operation.{opIf}
 use Rattle.model.specs.Offer.{offers, goesOn}
 use Rattle.model.specs.Access.{_>>=_, goTo, next, readRegister}
 use Rattle.model.specs.JumpArms.{knownInt, storeIf, ifBranch, ifStay, ifKnown, ifArm, jumpArm}
-use Rattle.model.proofs.Tried.{Kept, value, kept}
+use Rattle.model.proofs.Tried.{Kept, value}
 use Rattle.area.specs.Cells.{cell}
 use Rattle.area.specs.declared.Cell.{Cell}
 use Rattle.intmap.specs.Map.{HasRoom}
@@ -23,21 +22,19 @@ use Rattle.intmap.specs.Store.{Stores}
 use Rattle.intmap.specs.declared.IntMap.{IntMap}
 use Rattle.intmap.specs.declared.Stored.{Stored}
 use Rattle.intmap.specs.declared.Stored.the-variants as stored
-use Rattle.encoding.proofs.Held.{held-goTo}
 use Rattle.rows.specs.Rows.{Operand}
 use Rattle.rows.specs.Judged.{Judged}
 use Rattle.rows.specs.declared.Row.{Row}
 use Rattle.state.specs.Leads.{Leads}
-use Rattle.state.specs.Steps.{Offered, TellsStep, JumpArm}
+use Rattle.state.specs.Steps.{TellsStep, JumpArm}
 use Rattle.state.specs.declared.MemoryState.{MemoryState}
-use Rattle.state.specs.declared.Way.the-variants as way
 use Rattle.state.specs.declared.Step.{Step}
 use Rattle.state.specs.declared.Step.the-variants as step
 use Rattle.state.proofs.StoreLeads.{int-leads, leads-as}
-use Rattle.jump_arms.specs.Arms.{at, stepAfter, branchAfter, Knows, Puts, BothArm, IfArm}
+use Rattle.jump_arms.specs.Arms.{stepAfter, branchAfter, Knows, Puts, BothArm, IfArm}
 use Rattle.jump_arms.specs.declared.Known.the-variants as known
-use Rattle.jump_arms.proofs.StepLaws.{unchanged, zero-word, other-word, held-next, branches-only}
-use Rattle.jump_arms.proofs.StoreSteps.{SameRow, store-row, goes-after, leaves-after}
+use Rattle.jump_arms.proofs.StepLaws.{unchanged, zero-word, other-word, held-at, held-next}
+use Rattle.jump_arms.proofs.StoreSteps.{SameRow, store-row, goes-after, leaves-after, branches-after, branch-leaves}
 
 -- ---- a store where P3 is 0
 
@@ -104,27 +101,17 @@ module _ (limit : ℕ) (cs ds : List Cell) (s : MemoryState) (x : Row) (w : ℕ)
 
   pub if-other : (r : Stored) → (w ≡ offset → ⊥) → Leads limit cs ds (s .map) r (stores limit x one) → IfArm limit cs ds s x (some (intOf w)) (branchAfter (x .p2) r)
   unfolding ifArm
-  if-other r z leads = go r leads
+  if-other r z leads =
+      record {
+        says = λ l j bound m le h.
+            subst (TellsStep limit bound ds (branchAfter (x .p2) r)) (sym (is l j m))
+            (branches-after r (x .p2) bound (goTo (l .p2) m) le leads (stores-row limit x one (goTo (l .p2) m)) (held-at (x .p2) (l .p2) (j .p2) (h .map)));
+        leaves = branch-leaves limit ds s r (x .p2) (leads .leaves);
+        frame = leads .frame;
+      }
     where
       is : (l : Listed) → Judged l x → (m : Defined) → ifArm limit l m (some (intOf w)) ≡ (stores limit x one (goTo (l .p2) m) >>= λ n. offers (n ∷ []) none)
       is l j m = ap (ifKnown limit l m) (other-word w (intOf w) refl z) ∙ ap (λ t. t >>= λ n. offers (n ∷ []) none) (branch-is limit x l j m)
-
-      go : (r : Stored) → Leads limit cs ds (s .map) r (stores limit x one) → IfArm limit cs ds s x (some (intOf w)) (branchAfter (x .p2) r)
-      go (stored.Refused k) told =
-          record {
-            says = λ l j bound m le h. is l j m ∙ ap (λ t. t >>= λ n. offers (n ∷ []) none) (told .says bound (goTo (l .p2) m) le (held-goTo limit bound cs _ _ _ m (h .map) (l .p2)));
-            leaves = tt;
-            frame = told .frame;
-          }
-      go (stored.Done b) told =
-          record {
-            says = λ l j bound m le h.
-                (let t = told .says bound (goTo (l .p2) m) le (held-goTo limit bound cs _ _ _ m (h .map) (l .p2)) in
-                subst (Offered limit bound ds (way.To (at (x .p2) b)) way.Nowhere) (sym (is l j m ∙ ap (λ t. t >>= λ n. offers (n ∷ []) none) (t .answer)))
-                (branches-only (record { row = j .p2 ∙ sym (kept (stores-row limit x one (goTo (l .p2) m)) (t .answer)); map = t .holds })));
-            leaves = (record { above = omega (arith, told .leaves .base); below = omega (arith, told .leaves .base); room = told .leaves .room }, tt);
-            frame = told .frame;
-          }
 
 -- ---- both ways
 

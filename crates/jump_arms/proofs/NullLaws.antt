@@ -1,9 +1,9 @@
--- IsNull and NotNull: what is asked of the register, and the two changes to it by a store. Assumes nothing.
-use mathlib.Core.Path.{_≡_, refl, sym, ap, subst, _∙_}
+-- IsNull and NotNull: what is asked of the register, the two changes to it by a store, and the two arms by one law. Assumes nothing.
+use mathlib.Core.Path.{_≡_, refl, sym, ap, ap₂, subst, _∙_}
 use mathlib.Core.Bool.{Bool, true, false, not}
 use mathlib.Core.Option.{Option, none, some}
 use mathlib.Core.List.{List, [], _∷_}
-use Prim.Native.Nat.{ℕ, zero, suc, _<_}
+use Prim.Native.Nat.{ℕ, zero, suc, _+_, _<_}
 use native.Mathlib.Omega.{arith}
 use lib.ListN.{getD}
 use lib.IntN.{ℤ, sucℤ}
@@ -12,10 +12,10 @@ use Rattle.type_info.specs.declared.DataType.the-variants.{Null}
 use Rattle.model.specs.Walk.{Tried, refused, done}
 use Rattle.model.specs.Row.{Row as Listed}
 use Rattle.model.specs.State.{RegDataType, Column, Single, Int, MemoryState as Defined, toNotNull, isFalse, isNullType, datatypeCode}
-use Rattle.model.specs.Operation.{opIsNull}
-use Rattle.model.specs.Offer.{Offer, offers, ends, branchIf, stayIf}
+use Rattle.model.specs.Operation.{JumpOperation, opIsNull, opNotNull}
+use Rattle.model.specs.Offer.{Offer, offers, goesOn, ends, branchIf, stayIf}
 use Rattle.model.specs.Access.{_>>=_, index, goTo, next, withRegisters, readRegister, storeRegister, updateRegister}
-use Rattle.model.specs.JumpArms.{mayBeNull, toDefault, isNullArm, jumpArm}
+use Rattle.model.specs.JumpArms.{mayBeNull, hasKind, toDefault, isNullArm, notNullArm, jumpArm}
 use Rattle.model.proofs.Tried.{Kept, value, _>>_, anything}
 use Rattle.model.proofs.InPlace.{toDefault-noLarger, toNotNull-noLarger}
 use Rattle.area.specs.declared.Cell.{Cell}
@@ -43,10 +43,10 @@ use Rattle.state.specs.declared.Step.{Step}
 use Rattle.state.specs.declared.Step.the-variants as step
 use Rattle.state.proofs.StoreLeads.{single-leads}
 use Rattle.register_arms.specs.Values.{IsDatatype}
-use Rattle.jump_arms.specs.Arms.{Puts, BothArm, IsAsked, Asks}
+use Rattle.jump_arms.specs.Arms.{stepAfter, branchAfter, Puts, BothArm, IsAsked, Asks, changed}
 use Rattle.jump_arms.specs.declared.Asked.the-variants as asked
-use Rattle.jump_arms.proofs.StepLaws.{unchanged, ends-here}
-use Rattle.jump_arms.proofs.StoreSteps.{SameRow}
+use Rattle.jump_arms.proofs.StepLaws.{unchanged, held-at, held-next, ends-here}
+use Rattle.jump_arms.proofs.StoreSteps.{SameRow, goes-after, leaves-after, branches-after, branch-leaves}
 
 -- ---- what is asked
 
@@ -181,75 +181,144 @@ module _ (limit : ℕ) (cs : List Cell) (a : IntMap) (i : ℕ) (x : Register) (r
         (sym (subst (λ y. IsDatatype y d) e isd .says bound cs a _ (record { answer = refl; kind-small = t .kind-small; nullable-small = t .nullable-small })))))
         put
 
--- ---- IsNull
+pub put-changed : (limit : ℕ) (cs ds : List Cell) (a : IntMap) (i : ℕ) (r : Stored) (null b : Bool) → null ≡ b → Puts limit cs ds a r (updateRegister (intOf i) (changed b)) → Puts limit cs ds a r (updateRegister (intOf i) (changed null))
+put-changed limit cs ds a i r null b e put = subst (λ t. Puts limit cs ds a r (updateRegister (intOf i) (changed t))) (sym e) put
 
--- a register that can be read can be changed
-module _ (i : ℤ) (f g : RegDataType → RegDataType) (m : Defined) (o : Option RegDataType) (read : readRegister i m ≡ done o) (p q : ℤ) where
-  pub changes-ends : (updateRegister i f (goTo p m) >>= λ branch. updateRegister i g (goTo q m) >>= λ stays. offers (branchIf false branch) (stayIf false stays)) ≡ ends
-  unfolding readRegister updateRegister
-  changes-ends = go (index i) read
-    where
-      go : (t : Tried ℕ) → (t >>= λ k. done (get k (m .r))) ≡ done o
-          → ((t >>= λ k. done (withRegisters (update k f (m .r)) (goTo p m))) >>= λ branch. (t >>= λ k. done (withRegisters (update k g (m .r)) (goTo q m))) >>= λ stays. offers (branchIf false branch) (stayIf false stays)) ≡ ends
-      go (refused n) e = absurd (apart n o e)
-      go (done k) e = refl
+-- ---- IsNull and NotNull: a branch with one change, where a test says so, and the next row with the other, where the register may be null
 
-module _ (limit : ℕ) (cs : List Cell) (s : MemoryState) (x : Row) where
-  abbrev after : Listed → Defined → Option RegDataType → Offer
-  after l m v =
-      updateRegister (intOf (x .p1)) toDefault (goTo (l .p2) m) >>= λ branch.
-      updateRegister (intOf (x .p1)) toNotNull (next m) >>= λ stays.
-      offers (branchIf (mayBeNull v) branch) (stayIf (mayBeNull v) stays)
+abbrev Test : Type 0
+Test = Option RegDataType → Bool
 
-  null-is : (rows : List Listed) (l : Listed) (m : Defined) → Judged l x → (t : Tried (Option RegDataType)) → readRegister (intOf (x .p1)) m ≡ t → jumpArm limit rows l m opIsNull ≡ (t >>= λ v. after l m v)
-  unfolding jumpArm isNullArm
-  null-is rows l m j t e =
-      ap (λ i. readRegister i m >>= λ v. updateRegister i toDefault (goTo (l .p2) m) >>= λ branch. updateRegister i toNotNull (next m) >>= λ stays. offers (branchIf (mayBeNull v) branch) (stayIf (mayBeNull v) stays)) (sym (j .p1))
-      ∙ ap (λ u. u >>= λ v. after l m v) e
+abbrev ways : (RegDataType → RegDataType) → (RegDataType → RegDataType) → ℤ → ℤ → Bool → Bool → ℤ → Defined → Offer
+ways f g p q b c i m = updateRegister i f (goTo p m) >>= λ branch. updateRegister i g (goTo q m) >>= λ stays. offers (branchIf b branch) (stayIf c stays)
 
-  pub null-bad : (n : ℕ) → Asks cs (s .map) (x .p1) (asked.Bad n) → JumpArm limit cs cs s x opIsNull (step.Refused n)
-  null-bad n k =
-      record { says = λ rows l j bound m le h. null-is rows l m j (refused n) (k .says limit bound m (h .map)); leaves = tt; frame = unchanged cs _ _ }
+-- a register that can be read has an index
+record Indexed (i : ℤ) : Type 0 where
+  key : ℕ
+  is : index i ≡ done key
 
-  -- a register that is never null
-  module _ (kind : Bool) (told : (bound : ℕ) (m : Defined) → HoldsState limit bound cs s m → IsAsked false kind (readRegister (intOf (x .p1)) m)) where
-    pub null-ends : JumpArm limit cs cs s x opIsNull (step.Ways way.Nowhere way.Nowhere)
-    null-ends =
-        record {
-          says = λ rows l j bound m le h.
-              (let u = told bound m h in
-              subst (Offered limit bound cs way.Nowhere way.Nowhere)
-              (sym (null-is rows l m j _ (u .answer)
-              ∙ ap (λ b. updateRegister (intOf (x .p1)) toDefault (goTo (l .p2) m) >>= λ branch. updateRegister (intOf (x .p1)) toNotNull (next m) >>= λ stays. offers (branchIf b branch) (stayIf b stays)) (u .null)
-              ∙ changes-ends (intOf (x .p1)) toDefault toNotNull m (u .value) (u .answer) (l .p2) (sucℤ (m .programI))))
-              ends-here);
-          leaves = (tt, tt);
-          frame = unchanged cs _ _;
-        }
+indexed : (i : ℤ) (m : Defined) (o : Option RegDataType) → readRegister i m ≡ done o → Indexed i
+unfolding readRegister
+indexed i m o read = go (index i) refl read
+  where
+    go : (t : Tried ℕ) → index i ≡ t → (t >>= λ k. done (get k (m .r))) ≡ done o → Indexed i
+    go (refused n) is e = absurd (apart n o e)
+    go (done k) is e = record { key = k; is = is }
 
-  -- one that may be null
-  module _ (kind : Bool) (told : (bound : ℕ) (m : Defined) → HoldsState limit bound cs s m → IsAsked true kind (readRegister (intOf (x .p1)) m)) where
-    pub null-both : (ds : List Cell) (r : Step) → BothArm limit cs ds s x (updateRegister (intOf (x .p1)) toDefault) (updateRegister (intOf (x .p1)) toNotNull) r → JumpArm limit cs ds s x opIsNull r
-    null-both ds r arm =
-        record {
-          says = λ rows l j bound m le h.
-              (let u = told bound m h in
-              subst (TellsStep limit bound ds r)
-              (sym (null-is rows l m j _ (u .answer)
-              ∙ ap (λ b. updateRegister (intOf (x .p1)) toDefault (goTo (l .p2) m) >>= λ branch. updateRegister (intOf (x .p1)) toNotNull (next m) >>= λ stays. offers (branchIf b branch) (stayIf b stays)) (u .null)))
-              (arm .says l j bound m le h));
-          leaves = arm .leaves;
-          frame = arm .frame;
-        }
+-- so it can be changed
+module _ (f g : RegDataType → RegDataType) (p q : ℤ) (i : ℤ) (m : Defined) (o : Option RegDataType) (read : readRegister i m ≡ done o) where
+  abbrev changedTo : (RegDataType → RegDataType) → ℤ → Tried ℕ → Tried Defined
+  changedTo h to t = t >>= λ k. done (withRegisters (update k h (m .r)) (goTo to m))
 
-  pub asked-neither : Asks cs (s .map) (x .p1) asked.Neither → (bound : ℕ) (m : Defined) → HoldsState limit bound cs s m → IsAsked false false (readRegister (intOf (x .p1)) m)
-  asked-neither k bound m h = k .says limit bound m (h .map)
+  abbrev waysAt : Bool → Bool → Tried ℕ → Offer
+  waysAt b c t = changedTo f p t >>= λ branch. changedTo g q t >>= λ stays. offers (branchIf b branch) (stayIf c stays)
 
-  pub asked-kind : Asks cs (s .map) (x .p1) asked.Kind → (bound : ℕ) (m : Defined) → HoldsState limit bound cs s m → IsAsked false true (readRegister (intOf (x .p1)) m)
-  asked-kind k bound m h = k .says limit bound m (h .map)
+  ways-end : ways f g p q false false i m ≡ ends
+  unfolding updateRegister
+  ways-end = ap (waysAt false false) (indexed i m o read .is)
 
-  pub asked-null : Asks cs (s .map) (x .p1) asked.Null → (bound : ℕ) (m : Defined) → HoldsState limit bound cs s m → IsAsked true false (readRegister (intOf (x .p1)) m)
-  asked-null k bound m h = k .says limit bound m (h .map)
+  ways-branch : ways f g p q true false i m ≡ (updateRegister i f (goTo p m) >>= λ n. offers (n ∷ []) none)
+  unfolding updateRegister
+  ways-branch = let e = indexed i m o read .is in ap (waysAt true false) e ∙ sym (ap (λ t. changedTo f p t >>= λ n. offers (n ∷ []) none) e)
 
-  pub asked-either : Asks cs (s .map) (x .p1) asked.Either → (bound : ℕ) (m : Defined) → HoldsState limit bound cs s m → IsAsked true true (readRegister (intOf (x .p1)) m)
-  asked-either k bound m h = k .says limit bound m (h .map)
+  ways-stay : ways f g p q false true i m ≡ (updateRegister i g (goTo q m) >>= λ n. goesOn n)
+  unfolding updateRegister
+  ways-stay = let e = indexed i m o read .is in ap (waysAt false true) e ∙ sym (ap (λ t. changedTo g q t >>= λ n. goesOn n) e)
+
+-- the register as it was asked: whether the row branches, and whether the state goes on
+pub record Decided (test : Test) (b c : Bool) (t : Tried (Option RegDataType)) : Type 0 where
+  pub value : Option RegDataType
+  pub answer : t ≡ done value
+  pub branch : test value ≡ b
+  pub stays : mayBeNull value ≡ c
+
+-- the two arms: at the branch the register is null, or it is not
+pub record ChangeArm (limit : ℕ) (o : JumpOperation) (null : Bool) (test : Test) : Type 0 where
+  pub is : (rows : List Listed) (l : Listed) (m : Defined) → jumpArm limit rows l m o ≡ (readRegister (l .p1) m >>= λ v. ways (changed null) (changed (not null)) (l .p2) (sucℤ (m .programI)) (test v) (mayBeNull v) (l .p1) m)
+
+pub is-null-arm : (limit : ℕ) → ChangeArm limit opIsNull true mayBeNull
+unfolding jumpArm isNullArm
+is-null-arm limit = record { is = λ rows l m. refl }
+
+pub not-null-arm : (limit : ℕ) → ChangeArm limit opNotNull false hasKind
+unfolding jumpArm notNullArm
+not-null-arm limit = record { is = λ rows l m. refl }
+
+module _ (limit : ℕ) (cs : List Cell) (s : MemoryState) (x : Row) (o : JumpOperation) (null : Bool) (test : Test) (arm : ChangeArm limit o null test) where
+  -- the two changes of register P1
+  abbrev atBranch : Defined → Tried Defined
+  atBranch m = updateRegister (intOf (x .p1)) (changed null) m
+
+  abbrev goingOn : Defined → Tried Defined
+  goingOn m = updateRegister (intOf (x .p1)) (changed (not null)) m
+
+  abbrev after : Listed → Defined → Bool → Bool → Offer
+  after l m b c = ways (changed null) (changed (not null)) (l .p2) (sucℤ (m .programI)) b c (intOf (x .p1)) m
+
+  read-is : (rows : List Listed) (l : Listed) (m : Defined) → Judged l x → (t : Tried (Option RegDataType)) → readRegister (intOf (x .p1)) m ≡ t → jumpArm limit rows l m o ≡ (t >>= λ v. after l m (test v) (mayBeNull v))
+  read-is rows l m j t e =
+      arm .is rows l m
+      ∙ ap (λ i. readRegister i m >>= λ v. ways (changed null) (changed (not null)) (l .p2) (sucℤ (m .programI)) (test v) (mayBeNull v) i m) (sym (j .p1))
+      ∙ ap (λ u. u >>= λ v. after l m (test v) (mayBeNull v)) e
+
+  pub change-bad : (n : ℕ) → Asks cs (s .map) (x .p1) (asked.Bad n) → JumpArm limit cs cs s x o (step.Refused n)
+  change-bad n k =
+      record { says = λ rows l j bound m le h. read-is rows l m j (refused n) (k .says limit bound m (h .map)); leaves = tt; frame = unchanged cs _ _ }
+
+  module _ (b c : Bool) (told : (bound : ℕ) (m : Defined) → HoldsState limit bound cs s m → Decided test b c (readRegister (intOf (x .p1)) m)) where
+    told-is : (rows : List Listed) (l : Listed) (bound : ℕ) (m : Defined) → Judged l x → HoldsState limit bound cs s m → jumpArm limit rows l m o ≡ after l m b c
+    told-is rows l bound m j h =
+        let u = told bound m h in
+        read-is rows l m j _ (u .answer) ∙ ap₂ (after l m) (u .branch) (u .stays)
+
+  pub change-ends : ((bound : ℕ) (m : Defined) → HoldsState limit bound cs s m → Decided test false false (readRegister (intOf (x .p1)) m)) → JumpArm limit cs cs s x o (step.Ways way.Nowhere way.Nowhere)
+  change-ends told =
+      record {
+        says = λ rows l j bound m le h.
+            (let u = told bound m h in
+            subst (Offered limit bound cs way.Nowhere way.Nowhere)
+            (sym (told-is false false told rows l bound m j h ∙ ways-end _ _ _ _ (intOf (x .p1)) m (u .value) (u .answer)))
+            ends-here);
+        leaves = (tt, tt);
+        frame = unchanged cs _ _;
+      }
+
+  pub change-branches : ((bound : ℕ) (m : Defined) → HoldsState limit bound cs s m → Decided test true false (readRegister (intOf (x .p1)) m)) → (ds : List Cell) (r : Stored) → Puts limit cs ds (s .map) r atBranch → JumpArm limit cs ds s x o (branchAfter (x .p2) r)
+  change-branches told ds r put =
+      record {
+        says = λ rows l j bound m le h.
+            (let u = told bound m h in
+            subst (TellsStep limit bound ds (branchAfter (x .p2) r))
+            (sym (told-is true false told rows l bound m j h ∙ ways-branch _ _ _ _ (intOf (x .p1)) m (u .value) (u .answer)))
+            (branches-after r (x .p2) bound (goTo (l .p2) m) le (put .leads) (update-row _ _ _) (held-at (x .p2) (l .p2) (j .p2) (h .map))));
+        leaves = branch-leaves limit ds s r (x .p2) (put .leads .leaves);
+        frame = put .leads .frame;
+      }
+
+  pub change-stays : ((bound : ℕ) (m : Defined) → HoldsState limit bound cs s m → Decided test false true (readRegister (intOf (x .p1)) m)) → (ds : List Cell) (r : Stored) → Puts limit cs ds (s .map) r goingOn → JumpArm limit cs ds s x o (stepAfter (s .row + 1) r)
+  change-stays told ds r put =
+      record {
+        says = λ rows l j bound m le h.
+            (let u = told bound m h in
+            subst (TellsStep limit bound ds (stepAfter (s .row + 1) r))
+            (sym (told-is false true told rows l bound m j h ∙ ways-stay _ _ _ _ (intOf (x .p1)) m (u .value) (u .answer)))
+            (goes-after r (s .row + 1) bound (next m) le (put .leads) (update-row _ _ _) (held-next (s .row) (h .row) (h .map))));
+        leaves = leaves-after s r (s .row + 1) (put .leads);
+        frame = put .leads .frame;
+      }
+
+  pub change-both : ((bound : ℕ) (m : Defined) → HoldsState limit bound cs s m → Decided test true true (readRegister (intOf (x .p1)) m)) → (ds : List Cell) (r : Step) → BothArm limit cs ds s x atBranch goingOn r → JumpArm limit cs ds s x o r
+  change-both told ds r both =
+      record {
+        says = λ rows l j bound m le h. subst (TellsStep limit bound ds r) (sym (told-is true true told rows l bound m j h)) (both .says l j bound m le h);
+        leaves = both .leaves;
+        frame = both .frame;
+      }
+
+-- what the answers decide
+module _ {b k : Bool} {t : Tried (Option RegDataType)} (u : IsAsked b k t) where
+  pub decided-null : Decided mayBeNull b b t
+  decided-null = record { value = u .value; answer = u .answer; branch = u .null; stays = u .null }
+
+  pub decided-kind : Decided hasKind k b t
+  decided-kind = record { value = u .value; answer = u .answer; branch = u .kind; stays = u .null }

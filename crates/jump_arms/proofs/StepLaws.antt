@@ -25,7 +25,6 @@ use Rattle.state.specs.Leads.{Current, HoldsMap}
 use Rattle.state.specs.Steps.{HoldsState, Offered, Lies, JumpArm}
 use Rattle.state.specs.declared.MemoryState.{MemoryState}
 use Rattle.state.specs.declared.Way.the-variants as way
-use Rattle.state.specs.declared.Step.{Step}
 use Rattle.state.specs.declared.Step.the-variants as step
 use Rattle.jump_arms.specs.Arms.{at}
 
@@ -42,6 +41,10 @@ pub other-word : (w : ℕ) (i : ℤ) → intOf w ≡ i → (w ≡ offset → ⊥
 unfolding intOf
 other-word w i e h = ap isZeroInt (sym e) ∙ int-same w offset ∙ ne-eqb w offset h
 
+-- the word of the next row
+pub next-row : {i : ℤ} (w : ℕ) → intOf w ≡ i → intOf (w + 1) ≡ sucℤ i
+next-row w e = sym (int-suc w) ∙ ap sucℤ e
+
 -- what a step offers, by the states that are held for it
 module _ {limit bound : ℕ} {ds : List Cell} where
   -- a state at another row
@@ -50,7 +53,7 @@ module _ {limit bound : ℕ} {ds : List Cell} where
 
   -- and at the next
   pub held-next : {a : IntMap} {m : Defined} (w : ℕ) → intOf w ≡ m .programI → HoldsMap limit bound ds a m → HoldsState limit bound ds (at (w + 1) a) (next m)
-  held-next {m = m} w e h = held-at (w + 1) (sucℤ (m .programI)) (sym (int-suc w) ∙ ap sucℤ e) h
+  held-next {m = m} w e h = held-at (w + 1) (sucℤ (m .programI)) (next-row w e) h
 
   pub ends-here : Offered limit bound ds way.Nowhere way.Nowhere ends
   ends-here = record { theBranch = none; theState = none; answer = refl; branches = refl; goesOn = refl }

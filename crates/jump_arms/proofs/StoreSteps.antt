@@ -1,8 +1,10 @@
 -- An access that changes the map, followed by a step; and the arms that store a number and then name the next row. Assumes nothing.
 use mathlib.Core.Path.{_≡_, refl, sym, ap, ap₂, subst, _∙_}
 use mathlib.Core.Bool.{Bool, true, false}
-use mathlib.Core.List.{List}
+use mathlib.Core.Option.{none}
+use mathlib.Core.List.{List, [], _∷_}
 use Prim.Native.Nat.{ℕ, _+_, _≤_}
+use native.Mathlib.Omega.{arith}
 use lib.Dec.{leb, eqb}
 use lib.IntN.{ℤ}
 use borrow.Author.Tests.{eqb-true, eqb-false}
@@ -12,7 +14,7 @@ use Rattle.model.specs.State.{RegDataType, Int, MemoryState as Defined}
 use Rattle.model.specs.Cells.{cells, registerDepth}
 use Rattle.model.specs.Equality.{isZeroInt}
 use Rattle.model.specs.Operation.{JumpOperation, opGosub, opInitCoroutine}
-use Rattle.model.specs.Offer.{goesOn}
+use Rattle.model.specs.Offer.{offers, goesOn}
 use Rattle.model.specs.Access.{_>>=_, index, judgeDepth, cellsIf, judgeCells, goTo, storeRegister}
 use Rattle.model.specs.JumpArms.{initCoroutineTo, jumpArm}
 use Rattle.model.proofs.Tried.{Kept, refusal, value, _>>_, anything, kept}
@@ -23,13 +25,12 @@ use Rattle.intmap.specs.declared.Stored.{Stored}
 use Rattle.intmap.specs.declared.Stored.the-variants as stored
 use Rattle.rows.specs.Judged.{Judged}
 use Rattle.rows.specs.declared.Row.{Row}
-use Rattle.state.specs.Leads.{HoldsMap, operands, Leads}
+use Rattle.state.specs.Leads.{HoldsMap, Tells, Leaves, operands, Leads}
 use Rattle.state.specs.Steps.{HoldsState, Offered, TellsStep, LeavesStep, JumpArm}
 use Rattle.state.specs.declared.MemoryState.{MemoryState}
 use Rattle.state.specs.declared.Way.the-variants as way
-use Rattle.state.specs.declared.Step.the-variants as step
-use Rattle.jump_arms.specs.Arms.{InitTo, at, stepAfter}
-use Rattle.jump_arms.proofs.StepLaws.{held-at, held-next, goes-on, zero-word, other-word}
+use Rattle.jump_arms.specs.Arms.{InitTo, at, stepAfter, branchAfter}
+use Rattle.jump_arms.proofs.StepLaws.{held-at, held-next, goes-on, branches-only, zero-word, other-word}
 
 -- the state stays on its row
 abbrev pub SameRow : Defined → Defined → Type 0
@@ -58,6 +59,20 @@ goes-after {limit} {ds = ds} (stored.Done b) w bound m le leads keeps h =
 pub leaves-after : {limit : ℕ} {cs ds : List Cell} {f : Defined → Tried Defined} (s : MemoryState) (r : Stored) (w : ℕ) → Leads limit cs ds (s .map) r f → LeavesStep limit ds s (stepAfter w r)
 leaves-after s (stored.Refused k) w leads = tt
 leaves-after s (stored.Done b) w leads = (tt, (leads .leaves .base, leads .leaves .room))
+
+-- a branch at the row of a word, where t is what the access answers
+pub branches-told : (limit bound : ℕ) (ds : List Cell) (r : Stored) (w : ℕ) (m : Defined) (t : Tried Defined) → Tells limit bound ds r t → Kept (SameRow m) t → intOf w ≡ m .programI → TellsStep limit bound ds (branchAfter w r) (t >>= λ n. offers (n ∷ []) none)
+branches-told limit bound ds (stored.Refused k) w m t told keeps e = ap (λ t. t >>= λ n. offers (n ∷ []) none) told
+branches-told limit bound ds (stored.Done b) w m t told keeps e =
+    subst (Offered limit bound ds (way.To (at w b)) way.Nowhere) (sym (ap (λ t. t >>= λ n. offers (n ∷ []) none) (told .answer)))
+    (branches-only (record { row = e ∙ sym (kept keeps (told .answer)); map = told .holds }))
+
+pub branches-after : {limit : ℕ} {cs ds : List Cell} {a : IntMap} {f : Defined → Tried Defined} (r : Stored) (w bound : ℕ) (m : Defined) → operands ≤ bound → Leads limit cs ds a r f → Kept (SameRow m) (f m) → HoldsState limit bound cs (at w a) m → TellsStep limit bound ds (branchAfter w r) (f m >>= λ n. offers (n ∷ []) none)
+branches-after {limit} {ds = ds} {f = f} r w bound m le leads keeps h = branches-told limit bound ds r w m (f m) (leads .says bound m le (h .map)) keeps (h .row)
+
+pub branch-leaves : (limit : ℕ) (ds : List Cell) (s : MemoryState) (r : Stored) (w : ℕ) → Leaves limit ds (s .map) r → LeavesStep limit ds s (branchAfter w r)
+branch-leaves limit ds s (stored.Refused k) w leaves = tt
+branch-leaves limit ds s (stored.Done b) w leaves = (record { above = omega (arith, leaves .base); below = omega (arith, leaves .base); room = leaves .room }, tt)
 
 -- the arm is an access f to the map that keeps the row, and then goes to another row, whose word is w
 module _

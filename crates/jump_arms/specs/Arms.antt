@@ -1,7 +1,7 @@
 -- What an arm asks for: the state's map with room behind it, a row whose operands are numbers of 32 bits, and a state on one of the 2,048 rows
 -- that a listing has at most. And what the arms have in common: a step after an access to the map, the row that InitCoroutine and Return name,
--- whether a register is known to hold a number or may be null, a store that stays within the map's room, If by what is known, and both ways by
--- two accesses. Assumes nothing.
+-- whether a register is known to hold a number or may be null and how it changes then, a store that stays within the map's room, If by what is
+-- known, and both ways by two accesses. Assumes nothing.
 use mathlib.Core.Path.{_≡_}
 use mathlib.Core.Bool.{Bool, true, false}
 use mathlib.Core.Option.{Option, none, some}
@@ -10,10 +10,10 @@ use Prim.Native.Nat.{ℕ, _+_, _<_, _≤_}
 use lib.IntN.{ℤ}
 use Rattle.model.specs.Walk.{Tried, refused, done}
 use Rattle.model.specs.Row.{Row as Listed}
-use Rattle.model.specs.State.{RegDataType, MemoryState as Defined}
+use Rattle.model.specs.State.{RegDataType, MemoryState as Defined, toNotNull}
 use Rattle.model.specs.Access.{_>>=_, goTo, next, readRegister}
 use Rattle.model.specs.Offer.{offers}
-use Rattle.model.specs.JumpArms.{knownInt, mayBeNull, hasKind, ifArm}
+use Rattle.model.specs.JumpArms.{knownInt, mayBeNull, hasKind, toDefault, ifArm}
 use Rattle.area.specs.declared.Cell.{Cell}
 use Rattle.intmap.specs.Map.{Frame}
 use Rattle.intmap.specs.Signed.{offset, intOf}
@@ -109,6 +109,11 @@ TellsAsked asked.Either t = IsAsked true true t
 
 pub record Asks (cs : List Cell) (a : IntMap) (i : ℕ) (r : Asked) : Type 0 where
   pub says : (limit bound : ℕ) (m : Defined) → HoldsMap limit bound cs a m → TellsAsked r (readRegister (intOf i) m)
+
+-- how the two change a register, by whether it is null from then on
+abbrev pub changed : Bool → RegDataType → RegDataType
+changed true = toDefault
+changed false = toNotNull
 
 -- If, where a number is known or none is
 pub record IfArm (limit : ℕ) (cs ds : List Cell) (s : MemoryState) (x : Row) (n : Option ℤ) (r : Step) : Type 0 where

@@ -1,8 +1,9 @@
 // The arms of `explain` that name the next row, add a branch or end the branch: sqlx-sqlite 0.9.0, src/connection/explain.rs.
 ghost use mathlib.Core.Path.{_≡_};
+ghost use mathlib.Core.Bool.{not};
 ghost use mathlib.Core.Option.{none, some};
 ghost use Prim.Native.Nat.{_<_};
-ghost use Rattle.model.specs.Operation.{opGoto, opGosub, opBranch, opMustBeInt, opIsNull, opIf, opInitCoroutine, opReturn, opHalt};
+ghost use Rattle.model.specs.Operation.{opGoto, opGosub, opBranch, opMustBeInt, opIsNull, opNotNull, opIf, opInitCoroutine, opReturn, opHalt};
 ghost use Rattle.model.specs.Equality.{isZeroInt};
 ghost use Rattle.model.specs.Access.{removeRegister, storeRegister, updateRegister};
 ghost use Rattle.model.specs.JumpArms.{storeIf, toDefault};
@@ -15,7 +16,7 @@ ghost use Rattle.intmap.specs.Signed.{intOf};
 ghost use Rattle.rows.specs.Rows.{Operand};
 ghost use Rattle.state.specs.Leads.{Current, Leads};
 ghost use Rattle.state.specs.Steps.{JumpArm};
-ghost use Rattle.jump_arms.specs.Arms.{Ready, InitTo, RowAfter, stepAfter, branchAfter, bothAfter, Knows, Puts, BothArm, IfArm, Asks};
+ghost use Rattle.jump_arms.specs.Arms.{Ready, InitTo, RowAfter, stepAfter, branchAfter, bothAfter, Knows, Puts, BothArm, IfArm, Asks, changed};
 use area::Cell;
 use intmap::IntMap;
 use intmap::Stored;
@@ -78,7 +79,7 @@ pub fn must_be_int(s: MemoryState, area: &[u8], x: Row, limit: usize) -> Step
 }
 
 // What follows an access to the map: the state goes on at a row.
-fn go_on(x: Stored, row: u64) -> Step
+pub fn go_on(x: Stored, row: u64) -> Step
     ensures { λ r. ⌜ r ≡ stepAfter row x ⌝ }
 {
     match x {
@@ -125,7 +126,7 @@ pub enum Known {
 }
 
 // Reads whether register i is known to hold a number.
-fn known_int(map: IntMap, area: &[u8], i: u64) -> Known
+pub fn known_int(map: IntMap, area: &[u8], i: u64) -> Known
     requires { ⌜ IsMap (cells (now area)) map ⌝ }
     ensures { λ r. ⌜ Knows (cells (now (area .entry))) map i r ⌝ }
 {
@@ -140,7 +141,7 @@ fn known_int(map: IntMap, area: &[u8], i: u64) -> Known
 }
 
 // The row after one that a register told. No known number is the last word, which stays as it is.
-fn row_after(w: u64) -> u64
+pub fn row_after(w: u64) -> u64
     ensures { λ r. ⌜ RowAfter w r ⌝ }
 {
     if w < 18446744073709551615 {
@@ -150,7 +151,7 @@ fn row_after(w: u64) -> u64
 }
 
 // Removes register i.
-fn remove_register(map: IntMap, area: &mut [u8], i: u64, limit: usize) -> Stored
+pub fn remove_register(map: IntMap, area: &mut [u8], i: u64, limit: usize) -> Stored
     requires { ⌜ Current limit (cells (now area)) map ⌝ }
     ensures { λ r. ⌜ Leads limit (cells (now (area .entry))) (cells (now (area .exit))) map r (removeRegister (intOf i)) ⌝ }
 {
@@ -186,7 +187,7 @@ pub fn return_(s: MemoryState, area: &mut [u8], x: Row, limit: usize) -> Step
 }
 
 // What follows an access to the map: a branch at a row, and nothing goes on.
-fn branch_at(x: Stored, row: u64) -> Step
+pub fn branch_at(x: Stored, row: u64) -> Step
     ensures { λ r. ⌜ r ≡ branchAfter row x ⌝ }
 {
     match x {
@@ -196,7 +197,7 @@ fn branch_at(x: Stored, row: u64) -> Step
 }
 
 // What follows an access to the map, where there is a branch: the state goes on at a row.
-fn branch_and_go(branch: MemoryState, x: Stored, row: u64) -> Step
+pub fn branch_and_go(branch: MemoryState, x: Stored, row: u64) -> Step
     ensures { λ r. ⌜ r ≡ bothAfter branch row x ⌝ }
 {
     match x {
@@ -309,7 +310,7 @@ fn ask(map: IntMap, area: &[u8], i: u64) -> Asked
 }
 
 // Stores a plain column in register i, within the map's room alone.
-fn put_single(
+pub fn put_single(
     map: IntMap,
     area: &mut [u8],
     i: u64,
@@ -358,19 +359,34 @@ fn put_never(map: IntMap, area: &mut [u8], i: u64, limit: usize) -> Stored
     }
 }
 
-// IsNull, where the register may be null: both ways, the branch behind the map.
-fn is_null_both(s: MemoryState, area: &mut [u8], x: Row, limit: usize) -> Step
+// Register i at its default if it is null, else never null.
+fn put_changed(map: IntMap, area: &mut [u8], i: u64, null: bool, limit: usize) -> Stored
+    requires { ⌜ HasRoom (cells (now area)) limit map ⌝ }
+    ensures { λ r. ⌜ Puts limit (cells (now (area .entry))) (cells (now (area .exit))) map r (updateRegister (intOf i) (changed null)) ⌝ }
+{
+    if null {
+        return put_default(map, area, i, limit);
+    }
+    put_never(map, area, i, limit)
+}
+
+// IsNull and NotNull where both ways are taken, the branch behind the map. `null` says whether the register is null at the branch.
+fn change_both(s: MemoryState, area: &mut [u8], x: Row, null: bool, limit: usize) -> Step
     requires { ⌜ Ready limit (cells (now area)) s x ⌝ }
-    ensures { λ r. ⌜ BothArm limit (cells (now (area .entry))) (cells (now (area .exit))) s x (updateRegister (intOf (x .p1)) toDefault) (updateRegister (intOf (x .p1)) toNotNull) r ⌝ }
+    ensures { λ r. ⌜ BothArm limit (cells (now (area .entry))) (cells (now (area .exit))) s x (updateRegister (intOf (x .p1)) (changed null)) (updateRegister (intOf (x .p1)) (changed (not null))) r ⌝ }
 {
     let map = s.map;
     let behind = map.copy_to(area, map.base + limit);
-    let there = put_default(behind, area, x.p1, limit);
+    let there = put_changed(behind, area, x.p1, null, limit);
     match there {
         Stored::Refused(n) => Step::Refused(n),
         Stored::Done(b) => {
             let branch = MemoryState { row: x.p2, map: b };
-            branch_and_go(branch, put_never(map, area, x.p1, limit), s.row + 1)
+            branch_and_go(
+                branch,
+                put_changed(map, area, x.p1, !null, limit),
+                s.row + 1,
+            )
         }
     }
 }
@@ -386,7 +402,23 @@ pub fn is_null(s: MemoryState, area: &mut [u8], x: Row, limit: usize) -> Step
         Asked::Bad(n) => Step::Refused(n),
         Asked::Neither => Step::Ways(Way::Nowhere, Way::Nowhere),
         Asked::Kind => Step::Ways(Way::Nowhere, Way::Nowhere),
-        Asked::Null => is_null_both(s, area, x, limit),
-        Asked::Either => is_null_both(s, area, x, limit),
+        Asked::Null => change_both(s, area, x, true, limit),
+        Asked::Either => change_both(s, area, x, true, limit),
+    }
+}
+
+// NotNull
+pub fn not_null(s: MemoryState, area: &mut [u8], x: Row, limit: usize) -> Step
+    requires { ⌜ Ready limit (cells (now area)) s x ⌝ }
+    ensures { λ r. ⌜ JumpArm limit (cells (now (area .entry))) (cells (now (area .exit))) s x opNotNull r ⌝ }
+{
+    let map = s.map;
+    let v = ask(map, area, x.p1);
+    match v {
+        Asked::Bad(n) => Step::Refused(n),
+        Asked::Neither => Step::Ways(Way::Nowhere, Way::Nowhere),
+        Asked::Kind => branch_at(put_never(map, area, x.p1, limit), x.p2),
+        Asked::Null => go_on(put_default(map, area, x.p1, limit), s.row + 1),
+        Asked::Either => change_both(s, area, x, false, limit),
     }
 }

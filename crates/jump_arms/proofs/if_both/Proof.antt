@@ -24,7 +24,7 @@ enum-known-there-2 : tie.Need-enum-known-there-2
 enum-known-there-2 c = search needs
 
 store-if-requires-2 : tie.Need-store-if-requires-2
-store-if-requires-2 c κs = (state-room _ _ _ _ (c .before .before .before .before .before .before .before .before .before .before .before .before .before .before .before .pre .current) _ (c .before .before .before .before .before .before .before .before .before .before .copy-to .ensures) _ _ _ (c .before .before .before .before .before .before .store-if .ensures), record { above = omega arith; below = omega arith })
+store-if-requires-2 c κs = (state-room _ _ _ _ (c .before .before .before .before .before .before .before .before .before .before .before .before .before .before .before .pre .current) _ (c .before .before .before .before .before .before .before .before .before .before .copy-to .ensures) _ (c .before .before .before .before .before .before .store-if .ensures .frame), record { above = omega arith; below = omega arith })
 
 add-branch-and-go : tie.Need-add-branch-and-go
 add-branch-and-go c = search needs

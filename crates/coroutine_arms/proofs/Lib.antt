@@ -1,0 +1,2 @@
+pub mod YieldLaws
+pub mod CoroutineLaws
