@@ -1,8 +1,6 @@
 // The arms of `explain` that open a cursor on a table of their own: a table from its run, for those whose columns stand there, and OpenEphemeral,
 // OpenAutoindex, SorterOpen. Translated from sqlx-sqlite 0.9.0, src/connection/explain.rs.
-ghost use mathlib.Core.Path.{_≡_};
 ghost use Prim.Native.Nat.{_+_, _<_, _≤_};
-ghost use lib.ListN.{length};
 ghost use Rattle.model.specs.Operation.{opOpenEphemeral};
 ghost use Rattle.area.specs.Cells.{cells, Inside};
 ghost use Rattle.intmap.specs.Store.{RunAbove};
