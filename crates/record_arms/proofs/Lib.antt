@@ -1,0 +1,4 @@
+pub mod RangeLaws
+pub mod DeepLaws
+pub mod BuildLaws
+pub mod RecordLaws
