@@ -14,7 +14,7 @@ use Rattle.type_info.specs.Ascii.{startsWith}
 use Rattle.model.specs.Reader.{_then_, onlyIf, _>>=_}
 use Rattle.model.specs.Fields.{takeLine, takeKey, takeValue}
 use Rattle.model.proofs.TestLaws.{cases}
-use Rattle.text.specs.ReadAt.{restAt, Behind, part, lineAt, LineAt, ValueAt}
+use Rattle.text.specs.ReadAt.{restAt, Behind, part, lineAt, LineAt, PartAt}
 use Rattle.text.specs.declared.Line.{Line}
 use Rattle.text.proofs.ReadLaws.{then-then, then-same}
 use Rattle.text.specs.declared.Line.the-variants.{Ends, Open}
@@ -125,17 +125,17 @@ module _ (t key : List ℕ) (at : ℕ) {r : Bool} (is : r ≡ startsWith (drop a
   value-is test e =
       ap andLine (key-taken key (drop at t) ∙ ap (λ b. keyIf b (drop (length key) (drop at t))) (sym is ∙ e) ∙ ap (keyIf test) (drop-drop (length key) at t))
 
-  pub no-key : r ≡ false → ValueAt t at key Absent
+  pub no-key : r ≡ false → PartAt (takeValue key) t at Absent
   no-key e = record { reads = record { is = sym (value-is false e); behind = tt }; ordered = tt }
 
   pub key-inside : at ≤ length t → r ≡ true → at + length key ≤ length t
   key-inside h e = omega (arith, key-fits key (drop at t) (sym is ∙ e), length-drop at t)
 
   module _ (here : r ≡ true) {l : Line} (line : LineAt t (at + length key) l) where
-    pub value-open : l ≡ Open → ValueAt t at key Absent
+    pub value-open : l ≡ Open → PartAt (takeValue key) t at Absent
     value-open e = record { reads = record { is = ap (λ x. restAt t (lineAt t (at + length key) x)) (sym e) ∙ line .reads .is ∙ sym (value-is true here); behind = tt }; ordered = tt }
 
-    pub value-ends : {to : ℕ} → l ≡ Ends to → ValueAt t at key (Is (at + length key) to)
+    pub value-ends : {to : ℕ} → l ≡ Ends to → PartAt (takeValue key) t at (Is (at + length key) to)
     value-ends {to} e =
         let ends = subst (λ x. Behind (at + length key) t (lineAt t (at + length key) x)) e (line .reads .behind) in
         record {

@@ -1,13 +1,14 @@
 -- Readers in a row, at offsets: the second reads where the first ended. Assumes nothing.
 use mathlib.Core.Path.{_≡_, refl, sym, ap, _∙_, subst}
+use mathlib.Core.Bool.{Bool, true, false}
 use mathlib.Core.Option.{Option, none, some}
 use mathlib.Core.List.{List}
 use Prim.Native.Nat.{ℕ, _+_, _-_, _≤_, _<_}
 use native.Mathlib.Omega.{arith}
 use lib.ListN.{length, drop}
-use Rattle.model.specs.Reader.{_then_, Reader, _>>=_, given, give}
-use Rattle.model.specs.Fields.{takeField}
-use Rattle.text.specs.ReadAt.{restAt, Behind, ReadsAt, part, valueAt, Ordered, ValueAt}
+use Rattle.model.specs.Reader.{_then_, onlyIf, readIf, Reader, _>>=_, given, give}
+use Rattle.model.specs.Fields.{takeValue, takeField}
+use Rattle.text.specs.ReadAt.{restAt, Behind, ReadsAt, part, valueAt, Ordered, PartAt}
 use Rattle.text.specs.declared.Value.{Value}
 use Rattle.text.specs.declared.Value.the-variants.{Is, Absent}
 
@@ -56,19 +57,39 @@ module _ {A : Type 0} {r : Reader A} {t : List ℕ} {at : ℕ} {o : Option (A ×
         ends none = tt
         ends (some x) = read-ends e
 
--- a field's value by where it stands
-module _ {t key : List ℕ} {at : ℕ} {r : Value} (h : ValueAt t at key r) where
-  pub value-ends : {from to : ℕ} → r ≡ Is from to → (at ≤ from) × (from ≤ to) × (to < length t)
-  value-ends {from} {to} e =
+-- bytes by where they stand
+module _ {q : Reader (List ℕ)} {t : List ℕ} {at : ℕ} {r : Value} (h : PartAt q t at r) where
+  pub part-ends : {from to : ℕ} → r ≡ Is from to → (at ≤ from) × (from ≤ to) × (to < length t)
+  part-ends {from} {to} e =
       let order = subst (λ x. Ordered at x) e (h .ordered) in
       let inside = subst (λ x. Behind at t (valueAt t x)) e (h .reads .behind) in
       (order .0, order .1, omega (arith, inside))
 
-  module _ {A : Type 0} (read : List ℕ → Option A) where
-    pub no-value : r ≡ Absent → ReadsAt (takeField key read) t at none
-    unfolding takeField
-    no-value e = read-none (h .reads) _ (ap (valueAt t) e)
+-- what is read of a field's value
+module _ (key : List ℕ) {t : List ℕ} {at : ℕ} {r : Value} (h : PartAt (takeValue key) t at r) {A : Type 0} (read : List ℕ → Option A) where
+  pub no-value : r ≡ Absent → ReadsAt (takeField key read) t at none
+  unfolding takeField
+  no-value e = read-none (h .reads) _ (ap (valueAt t) e)
 
-    pub value-read : {from to : ℕ} (o : Option A) → r ≡ Is from to → o ≡ read (part t from to) → ReadsAt (takeField key read) t at (o then λ a. some (a, to + 1))
-    unfolding takeField
-    value-read {from} {to} o e k = read-given (h .reads) (λ value. given (read value)) o (ap (valueAt t) e) (ap given (sym k))
+  pub value-read : {from to : ℕ} (o : Option A) → r ≡ Is from to → o ≡ read (part t from to) → ReadsAt (takeField key read) t at (o then λ a. some (a, to + 1))
+  unfolding takeField
+  value-read {from} {to} o e k = read-given (h .reads) (λ value. given (read value)) o (ap (valueAt t) e) (ap given (sym k))
+
+-- bytes that pass a test
+module _ (key : List ℕ) {t : List ℕ} {at : ℕ} {r : Value} (h : PartAt (takeValue key) t at r) (test : List ℕ → Bool) where
+  pub no-part : r ≡ Absent → PartAt (takeField key (readIf test some)) t at Absent
+  no-part e = record { reads = no-value key h (readIf test some) e; ordered = tt }
+
+  pub part-bad : {from to : ℕ} → r ≡ Is from to → test (part t from to) ≡ false → PartAt (takeField key (readIf test some)) t at Absent
+  unfolding readIf
+  part-bad {from} {to} e k = record {
+    reads = value-read key h (readIf test some) none e (ap (λ b. onlyIf b (some (part t from to))) (sym k));
+    ordered = tt;
+  }
+
+  pub part-good : {from to : ℕ} → r ≡ Is from to → test (part t from to) ≡ true → PartAt (takeField key (readIf test some)) t at (Is from to)
+  unfolding readIf
+  part-good {from} {to} e k = record {
+    reads = value-read key h (readIf test some) (some (part t from to)) e (ap (λ b. onlyIf b (some (part t from to))) (sym k));
+    ordered = subst (λ x. Ordered at x) e (h .ordered);
+  }

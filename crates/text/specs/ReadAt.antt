@@ -6,7 +6,7 @@ use mathlib.Core.List.{List}
 use Prim.Native.Nat.{ℕ, _+_, _-_, _<_, _≤_}
 use lib.ListN.{length, take, drop}
 use Rattle.model.specs.Reader.{Reader, _then_}
-use Rattle.model.specs.Fields.{takeLine, takeValue}
+use Rattle.model.specs.Fields.{takeLine}
 use Rattle.text.specs.declared.Number.{Number}
 use Rattle.text.specs.declared.Number.the-variants.{Is, Bad}
 use Rattle.text.specs.declared.Line.{Line}
@@ -49,10 +49,10 @@ abbrev pub Ordered : ℕ → Value → Type 0
 Ordered at (Stands from to) = (at ≤ from) × (from ≤ to)
 Ordered at Absent = Unit
 
--- a field's value, by where it stands
-pub record ValueAt (t : List ℕ) (at : ℕ) (key : List ℕ) (r : Value) : Type 0 where
-  pub reads : ReadsAt (takeValue key) t at (valueAt t r)
-  pub ordered : Ordered at r
+-- bytes that were read, by where they stand
+pub record PartAt (r : Reader (List ℕ)) (t : List ℕ) (at : ℕ) (v : Value) : Type 0 where
+  pub reads : ReadsAt r t at (valueAt t v)
+  pub ordered : Ordered at v
 
 abbrev pub lineAt : List ℕ → ℕ → Line → Option (List ℕ × ℕ)
 lineAt t from (Ends to) = some (part t from to, to + 1)

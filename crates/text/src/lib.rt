@@ -3,9 +3,9 @@ ghost use mathlib.Core.Path.{_≡_};
 ghost use Prim.Native.Nat.{_≤_};
 ghost use lib.ListN.{length, drop};
 ghost use Rattle.type_info.specs.Ascii.{startsWith};
-ghost use Rattle.model.specs.Fields.{takeField};
+ghost use Rattle.model.specs.Fields.{takeValue, takeField};
 ghost use Rattle.model.specs.Numbers.{readUpTo};
-ghost use Rattle.text.specs.ReadAt.{ReadsAt, numberOf, numberAt, LineAt, ValueAt};
+ghost use Rattle.text.specs.ReadAt.{ReadsAt, numberOf, numberAt, LineAt, PartAt};
 ghost use Rattle.text.specs.Digits.{digitsUpTo};
 
 // What a number's text says.
@@ -123,7 +123,7 @@ fn find_lf(t: &[u8], from: usize) -> Line
 // The value behind the key at `at`.
 pub fn value_at(t: &[u8], at: usize, key: &[u8]) -> Value
     requires { ⌜ at ≤ length (now t) ⌝ }
-    ensures { λ r. ⌜ ValueAt (now (t .entry)) at (now (key .entry)) r ⌝ }
+    ensures { λ r. ⌜ PartAt (takeValue (now (key .entry))) (now (t .entry)) at r ⌝ }
 {
     if !starts(t, at, key) {
         return Value::Absent;
