@@ -1,0 +1,4 @@
+pub mod NameLaws
+pub mod OperandLaws
+pub mod HexLaws
+pub mod LoadLaws

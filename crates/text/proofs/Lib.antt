@@ -1,0 +1,4 @@
+pub mod NumberLaws
+pub mod ReadLaws
+pub mod LineLaws
+pub mod ItemLaws

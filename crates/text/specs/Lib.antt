@@ -1,0 +1,3 @@
+pub mod ReadAt
+pub mod Digits
+pub mod Counts
