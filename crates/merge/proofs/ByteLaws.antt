@@ -86,10 +86,6 @@ nullable-few none = omega arith
 nullable-few (some false) = omega arith
 nullable-few (some true) = omega arith
 
-pub byte-small : (c : ResultColumn) → columnByte c < 256
-unfolding columnByte
-byte-small c = omega (arith, code-few (c .datatype), nullable-few (c .nullable))
-
 -- the codes in a column's byte
 pub byte-kind : (c : ResultColumn) → columnByte c / 4 ≡ datatypeCode (c .datatype)
 unfolding columnByte

@@ -81,16 +81,17 @@ absent-byte : (o : Option RegDataType) (x : ℕ) → o ≡ none → mergeByte (r
 unfolding columnByte
 absent-byte o x e = ap (λ y. mergeByte (registerByte y) x) e ∙ merge-nothing x
 
-module _ (i n : ℕ) (rest : Runs) (above : From (i + n) rest) where
-  past-all : (bytes : List ℕ) (es : Runs) → From (i + n) es → mergeRuns i n es bytes ≡ bytes
-  unfolding mergeRuns
-  past-all bytes [] f = refl
-  past-all bytes (e ∷ es) f = runs-past i n e es bytes f
+-- runs past the columns are not merged
+past-all : (i n : ℕ) (bytes : List ℕ) (es : Runs) → From (i + n) es → mergeRuns i n es bytes ≡ bytes
+unfolding mergeRuns
+past-all i n bytes [] f = refl
+past-all i n bytes (e ∷ es) f = runs-past i n e es bytes f
 
+module _ (i n : ℕ) (rest : Runs) (above : From (i + n) rest) where
   module _ (P : ℕ → RegDataType → Type 0) (j : ℕ) (lt : j < n) where
     registers-at : (low : ℕ) (rs : List (Entry RegDataType)) → Rising P low rs → (bytes : List ℕ) → n ≤ length bytes → getD (mergeRuns i n (runMap runRegister 0 rs ++ rest) bytes) j 0 ≡ mergeByte (registerByte (get (i + j) rs)) (getD bytes j 0)
     unfolding runMap
-    registers-at low [] s bytes fits = ap (λ l. getD l j 0) (past-all bytes rest above) ∙ sym (absent-byte (get (i + j) []) (getD bytes j 0) (get-past P (i + j) (suc (i + j)) [] (omega arith) tt))
+    registers-at low [] s bytes fits = ap (λ l. getD l j 0) (past-all i n bytes rest above) ∙ sym (absent-byte (get (i + j) []) (getD bytes j 0) (get-past P (i + j) (suc (i + j)) [] (omega arith) tt))
     registers-at low (e ∷ rs) s bytes fits =
         cases (ltb (e .key) (i + n))
         (λ t. ap (λ l. getD l j 0) (runs-on i n run _ bytes (omega (arith, key, ltb-true (e .key) (i + n) t))) ∙ registers-at (suc (e .key)) rs (s .2) (mergeCell i (headRun run) bytes) (omega (arith, cell-long i (headRun run) bytes)) ∙ turn)
