@@ -1,0 +1,5 @@
+pub mod PatchLaws
+pub mod DigitLaws
+pub mod FieldLaws
+pub mod ColumnLaws
+pub mod AnswerLaws
