@@ -1,0 +1,4 @@
+pub mod Header
+pub mod Hash
+pub mod Entries
+pub mod Lists
