@@ -67,10 +67,10 @@ pub record Later (ks : List Kept) (p q : ℕ) : Type 0 where
 abbrev pub Links : List Cell → List Kept → ℕ → Type 0
 Links cs ks p = (bits : ℕ) → (child cs p bits ≡ 0) ⊎ Later ks p (child cs p bits)
 
--- those that wait, from a link on
+-- those that wait, from a link on; what waits behind one lies before it, so that taking them up comes to an end
 abbrev pub Waiting : List Cell → ℕ → List Kept → Type 0
 Waiting cs link [] = link ≡ 0
-Waiting cs link (k ∷ ks) = (link ≡ k .at) × Waiting cs (nextAt cs (k .at)) ks
+Waiting cs link (k ∷ ks) = (link ≡ k .at) × (nextAt cs (k .at) < k .at) × Waiting cs (nextAt cs (k .at)) ks
 
 pub record Remembers (limit bound n : ℕ) (xs : List ℕ) (b : BranchList) (ks ws : List Kept) : Type 0 where
   pub blocks : Blocks (cells xs) n (b .first) (b .top) ks

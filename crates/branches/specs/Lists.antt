@@ -75,6 +75,7 @@ pub record Taken (limit bound n : ℕ) (xs : List ℕ) (ks ws : List Kept) (b c 
   pub at : taken .at ≡ p
   pub first : c .first ≡ b .first
   pub top : c .top ≡ b .top
+  pub last : c .last < b .last
   pub remembers : Remembers limit bound n xs c ks rest
 
 abbrev pub TellsPop : ℕ → ℕ → ℕ → List ℕ → List Kept → List Kept → BranchList → Popped → Type 0
