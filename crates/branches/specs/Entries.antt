@@ -55,7 +55,7 @@ Blocks cs n first top (k ∷ ks) = (k .at + 2 + usedAt cs (k .at) + countCells n
 -- the search tree: from a place, by the bits of a hash, to another
 pub data Path (cs : List Cell) (first top : ℕ) : ℕ → ℕ → ℕ → Type 0 where
   here : {p bits : ℕ} → Path cs first top p bits p
-  down : {p bits to : ℕ} → first ≤ p → p < top → (child cs p bits ≡ 0 → ⊥) → Path cs first top (child cs p bits) (bits / 2) to → Path cs first top p bits to
+  down : {p bits to : ℕ} → first ≤ p → p + 2 ≤ top → (child cs p bits ≡ 0 → ⊥) → Path cs first top (child cs p bits) (bits / 2) to → Path cs first top p bits to
 
 -- a link leads nowhere or to a later one
 pub record Later (ks : List Kept) (p q : ℕ) : Type 0 where
@@ -90,3 +90,7 @@ pub record Remembering (limit n : ℕ) (xs : List ℕ) (b : BranchList) : Type 0
   pub all : List Kept
   pub wait : List Kept
   pub remembers : Remembers limit bound n xs b all wait
+
+-- none from `first` on
+abbrev pub none : ℕ → BranchList
+none first = record { first = first; top = first; last = 0 }
