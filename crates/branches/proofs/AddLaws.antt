@@ -10,25 +10,23 @@ use native.Mathlib.Decide.{ℕ-discrete}
 use lib.Dec.{leb}
 use lib.ListN.{length, getD}
 use borrow.Author.Tests.{le-leb, lt-leb}
-use Rattle.model.specs.Walk.{_∈_, Verdict, dropped, kept, noSpace, verdict, known, judge}
+use Rattle.model.specs.Walk.{_∈_, kept, verdict, known, judge}
 use Rattle.model.specs.State.{MemoryState as Defined}
 use Rattle.model.specs.Equality.{eqState}
 use Rattle.area.specs.Cells.{blank, cells}
 use Rattle.area.specs.declared.Cell.{Cell}
 use Rattle.area.proofs.CellLaws.{length-cells, cells-kept}
 use Rattle.intmap.specs.Runs.{Agree}
-use Rattle.intmap.specs.Map.{levels, runsAt, IsMap}
-use Rattle.intmap.proofs.EntryLaws.{entries-few}
+use Rattle.intmap.specs.Map.{runsAt, IsMap}
 use Rattle.intmap.proofs.MapLaws.{placed, placed-map, placed-runs}
 use Rattle.encoding.proofs.Held.{held-used}
-use Rattle.state.specs.Leads.{HoldsMap}
 use Rattle.state.specs.Steps.{HoldsState}
 use Rattle.state.specs.declared.MemoryState.{MemoryState}
 use Rattle.branches.specs.Header.{half, sizesWord, hashAt, sizesAt, child, usedAt, nextAt, stateAt}
 use Rattle.branches.specs.Hash.{hashOf}
 use Rattle.branches.specs.Entries.{Kept, states, Counted, countCells, IsKept, Blocks, Path, here, down, Later, Links, Waiting, Remembers}
-use Rattle.branches.specs.Lists.{unitsFor, Offers, Added, Pushes}
-use Rattle.branches.specs.Search.{Reaches, Known, Ends, Unknown, Searches}
+use Rattle.branches.specs.Lists.{unitsFor, Pushes}
+use Rattle.branches.specs.Search.{Known, Ends, Searches}
 use Rattle.branches.specs.Changes as changes
 use Rattle.branches.specs.Changes.{Pushable, Savable, Saves, Linkable, Linked}
 use Rattle.branches.specs.declared.BranchList.{BranchList}
@@ -40,7 +38,7 @@ use Rattle.branches.proofs.BlockLaws.{endAt, Apart, blocks-low, blocks-
 use Rattle.branches.proofs.PathLaws.{Adds, path-kept, trail-kept, trail-path}
 use Rattle.branches.proofs.RememberLaws.{Bytes, counted-kept, SameBlock, kept-same}
 use Rattle.branches.proofs.SaveLaws.{map-few}
-use Rattle.branches.proofs.SearchLaws.{twin-equal, equal-twin, known-true, known-false}
+use Rattle.branches.proofs.SearchLaws.{at-equal, equal-at, known-true, known-false}
 
 -- ---- the definition's verdict
 judged : (n : ℕ) (m : Defined) (ks : List Kept) (space : ℕ) (t u : Bool) → known eqState m (states ks) ≡ t → leb (unitsFor n m) space ≡ u → judge eqState (unitsFor n) m (states ks) space ≡ verdict t u
@@ -54,7 +52,7 @@ module _ (limit n counts : ℕ) (xs : List ℕ) (b : BranchList) (s : MemoryStat
       record {
         says = λ bound ks ws m past r held counted.
             let f = found .says limit bound n ks ws r in
-            let e = known-true m ks (f .kept) (f .among) (twin-equal limit bound n xs s m (f .kept) (ok .offers .map) held (r .kept (f .kept) (f .among)) (f .twin)) in
+            let e = known-true m ks (f .kept) (f .among) (at-equal limit bound n xs s m (f .kept) (ok .offers .map) held (r .kept (f .kept) (f .among)) (f .there)) in
             inl (judged n m ks (length (cells xs) - b .top) true _ e refl, record { same = refl; remembers = r });
         below = record { long = refl; same = λ j lt. refl };
         bytes = refl;
@@ -63,7 +61,7 @@ module _ (limit n counts : ℕ) (xs : List ℕ) (b : BranchList) (s : MemoryStat
   module _ (at bits : ℕ) (found : Searches xs b s (place.Free at bits)) where
     unknown : (bound : ℕ) (ks ws : List Kept) (m : Defined) → Remembers limit bound n xs b ks ws → HoldsState limit bound (cells xs) s m → known eqState m (states ks) ≡ false
     unknown bound ks ws m r held =
-        known-false m ks (λ k e h. found .says limit bound n ks ws r .none k e (equal-twin limit bound n xs s m k (ok .offers .map) held (r .kept k e) h))
+        known-false m ks (λ k e h. found .says limit bound n ks ws r .none k e (equal-at limit bound n xs s m k (ok .offers .map) held (r .kept k e) h))
 
     -- no space
     pub push-full : length xs / 16 < b .top + 2 + s .map .used + countCells n → Pushes limit n counts xs xs b s pushed.Full
@@ -348,7 +346,7 @@ module _ (limit n counts : ℕ) (xs : List ℕ) (b : BranchList) (s : MemoryStat
               let used = held-used limit bound (cells xs) _ _ _ m (held .map) in
               inr (
                 judged n m ks (length (cells xs) - b .top) false true (unknown limit n counts xs b s ok at bits found bound ks ws m r held)
-                (le-leb (unitsFor n m) (length (cells xs) - b .top) (omega (arith, used, fits))),
+                    (le-leb (unitsFor n m) (length (cells xs) - b .top) (omega (arith, used, fits))),
                 record {
                   first = refl;
                   top = omega (arith, used);

@@ -2,16 +2,16 @@
 use mathlib.Core.Path.{_≡_, refl, sym, ap, subst, _∙_}
 use mathlib.Core.Logic.{inl, inr}
 use mathlib.Core.List.{List, [], _∷_}
-use Prim.Native.Nat.{ℕ, _+_, _/_, _<_, _≤_}
+use Prim.Native.Nat.{ℕ, _+_, _/_, _≤_}
 use native.Mathlib.Omega.{arith}
-use lib.ListN.{length, getD}
+use lib.ListN.{getD}
 use Rattle.model.specs.Walk.{_∈_}
 use Rattle.area.specs.Cells.{blank, cells}
 use Rattle.area.specs.declared.Cell.{Cell}
 use Rattle.encoding.proofs.Held.{held-fits}
 use Rattle.branches.specs.Header.{half, nextAt}
 use Rattle.branches.specs.Entries.{Kept, countCells, Waiting, Remembers}
-use Rattle.branches.specs.Lists.{Taken, TellsPop}
+use Rattle.branches.specs.Lists.{Taken}
 use Rattle.branches.specs.Changes.{Latest, PopsAny, Loadable}
 use Rattle.branches.specs.declared.BranchList.{BranchList}
 use Rattle.branches.specs.declared.Popped.the-variants as popped

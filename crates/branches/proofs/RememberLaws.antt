@@ -1,8 +1,8 @@
 -- What is remembered stays so: where the cells of a remembered state are as they were, but for its links, it is the same state; so with all
 -- of them, under a larger bound too; and none are remembered at first. Counts are kept or copied with their cells. Assumes nothing.
 use mathlib.Core.Path.{_≡_, refl, sym, ap, subst, _∙_}
-use mathlib.Core.Logic.{_⊎_, inl, inr}
-use mathlib.Core.List.{List, [], _∷_}
+use mathlib.Core.Logic.{_⊎_}
+use mathlib.Core.List.{List, []}
 use Prim.Native.Nat.{ℕ, _+_, _/_, _%_, _<_, _≤_}
 use native.Mathlib.Omega.{arith}
 use lib.ListN.{length, getD}
@@ -64,7 +64,7 @@ module _ (limit bound n : ℕ) (xs ys : List ℕ) (small : Bytes xs) (less : Byt
       let there : HoldsState limit bound ds (stateAt cs p) (k .mem) = record { row = is .holds .row; map = held-elsewhere limit bound cs (p + 2) _ _ (k .mem) (is .holds .map) ds (p + 2) agree } in
       let map : IsMap ds (stateAt cs p .map) = placed-map cs ds (stateAt cs p .map) (p + 2) (is .map) agree len (omega arith) in
       let counts : Agree cs (p + 2 + usedAt cs p) ds (p + 2 + usedAt cs p) (countCells n) =
-          λ j lt. let a : p + 2 + usedAt cs p + j ≡ p + 2 + (usedAt cs p + j) = omega arith in rw a (same .rest (usedAt cs p + j) (omega arith)) in
+      λ j lt. let a : p + 2 + usedAt cs p + j ≡ p + 2 + (usedAt cs p + j) = omega arith in rw a (same .rest (usedAt cs p + j) (omega arith)) in
       record {
         map = subst (λ (s : MemoryState). IsMap ds (s .map)) (sym e) map;
         holds = subst (λ (s : MemoryState). HoldsState limit bound ds s (k .mem)) (sym e) there;
@@ -85,7 +85,7 @@ remembers-kept limit bound n xs ys b ks ws small less long same r =
     let len : length ds ≡ length cs = cells-kept xs ys long in
     let lies : (k : Kept) → k ∈ ks → (b .first ≤ k .at) × (endAt cs n (k .at) ≤ b .top) = blocks-span cs n (b .first) (b .top) ks (r .blocks) in
     let block : (k : Kept) → k ∈ ks → SameBlock cs ds n (k .at) =
-        λ k e. let t = lies k e in record { head = same (k .at) (t .0); sizes = ap (λ (c : Cell). c .payload) (same (k .at + 1) (omega (arith, t .0))); rest = λ j lt. same (k .at + 2 + j) (omega (arith, t .0)) } in
+    λ k e. let t = lies k e in record { head = same (k .at) (t .0); sizes = ap (λ (c : Cell). c .payload) (same (k .at + 1) (omega (arith, t .0))); rest = λ j lt. same (k .at + 2 + j) (omega (arith, t .0)) } in
     let child : (p bits : ℕ) → b .first ≤ p → child ds p bits ≡ child cs p bits = λ p bits le. child-same cs ds p bits (same (p + 1) (omega arith)) in
     record {
       blocks = blocks-same cs ds n (b .first) (b .top) ks (λ k e. ap (λ (x : ℕ). x / 65536 % 65536) (block k e .sizes)) (r .blocks);

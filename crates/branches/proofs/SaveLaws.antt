@@ -5,15 +5,13 @@ use mathlib.Core.Logic.{_⊎_, inl, inr}
 use mathlib.Core.List.{List}
 use Prim.Native.Nat.{ℕ, _+_, _*_, _/_, _%_, _<_, _≤_}
 use native.Mathlib.Omega.{arith}
-use native.Mathlib.Decide.{decLt}
-use lib.ListN.{length, getD, set, length-set}
+use lib.ListN.{length, getD, set}
 use lib.Seq.{getD-set-same, getD-set-other}
 use Rattle.area.specs.Cells.{cell, blank, cells, CellsNow}
-use Rattle.area.specs.Counts.{count as countAt}
 use Rattle.area.specs.Moves.{moved}
 use Rattle.area.specs.declared.Cell.{Cell}
 use Rattle.area.proofs.CellLaws.{cells-kept}
-use Rattle.area.proofs.MoveLaws.{moved-below, moved-above, moved-in, length-moved}
+use Rattle.area.proofs.MoveLaws.{moved-below, moved-above, moved-in}
 use Rattle.area.proofs.CountLaws.{count-same}
 use Rattle.intmap.specs.Runs.{Agree}
 use Rattle.intmap.specs.Map.{levels, runsAt, IsMap, HasRoom, CopiedMap}
@@ -23,12 +21,11 @@ use Rattle.intmap.proofs.EntryLaws.{entries-few}
 use Rattle.intmap.proofs.MapLaws.{placed, placed-map, placed-runs, placed-room}
 use Rattle.encoding.proofs.Held.{held-copied, held-elsewhere}
 use Rattle.state.specs.Leads.{HoldsMap}
-use Rattle.state.specs.Steps.{HoldsState}
 use Rattle.state.specs.declared.MemoryState.{MemoryState}
-use Rattle.branches.specs.Header.{half, sizesWord, linksAt, sizesAt, rowAt, child, usedAt, stateAt}
-use Rattle.branches.specs.Entries.{Kept, Counted, countCells, IsKept}
+use Rattle.branches.specs.Header.{half, sizesWord, linksAt, rowAt, child, usedAt, stateAt}
+use Rattle.branches.specs.Entries.{Counted, countCells}
 use Rattle.branches.specs.Lists.{Loads}
-use Rattle.branches.specs.Changes.{Savable, Saves, Linkable, Linked, Links, Loadable}
+use Rattle.branches.specs.Changes.{Savable, Saves, Linkable, Links, Loadable}
 use Rattle.branches.proofs.HeaderLaws.{child-even, child-odd}
 use Rattle.branches.proofs.RememberLaws.{Bytes, counted-same}
 
@@ -199,18 +196,18 @@ module _
         let e = copied .map in
         record {
           says = λ bound k at is. (
-              record {
-                row = subst (λ (q : ℕ). intOf (rowAt (cells xs) q) ≡ k .mem .programI) at (is .holds .row);
-                map = subst (λ (m : IntMap). HoldsMap limit bound (cells ys) m (k .mem)) (sym e)
-                    (held-elsewhere limit bound (cells bs) base _ _ (k .mem)
-                    (held-copied limit bound (cells xs) (cells bs) base (stateAt (cells xs) p .map) (placed base (stateAt (cells xs) p .map)) (k .mem)
-                    (subst (CopiedMap (cells xs) (cells bs) (stateAt (cells xs) p .map) base) e copied)
-                    (subst (λ (q : ℕ). HoldsMap limit bound (cells xs) (stateAt (cells xs) q .map) (k .mem)) at (is .holds .map)))
-                    (cells ys) base low);
-              },
-              counted-same xs ys n (p + 2 + usedAt (cells xs) p) counts (k .past) small less (moves .bytes ∙ long) (ok .map .small) (ok .whole) (omega (arith, ok .whole, ok .below)) high
-              (subst (λ (q : ℕ). Counted xs n (q + 2 + usedAt (cells xs) q) (k .past)) at (is .counts)),
-            );
+            record {
+              row = subst (λ (q : ℕ). intOf (rowAt (cells xs) q) ≡ k .mem .programI) at (is .holds .row);
+              map = subst (λ (m : IntMap). HoldsMap limit bound (cells ys) m (k .mem)) (sym e)
+                  (held-elsewhere limit bound (cells bs) base _ _ (k .mem)
+                  (held-copied limit bound (cells xs) (cells bs) base (stateAt (cells xs) p .map) (placed base (stateAt (cells xs) p .map)) (k .mem)
+                  (subst (CopiedMap (cells xs) (cells bs) (stateAt (cells xs) p .map) base) e copied)
+                  (subst (λ (q : ℕ). HoldsMap limit bound (cells xs) (stateAt (cells xs) q .map) (k .mem)) at (is .holds .map)))
+                  (cells ys) base low);
+            },
+            counted-same xs ys n (p + 2 + usedAt (cells xs) p) counts (k .past) small less (moves .bytes ∙ long) (ok .map .small) (ok .whole) (omega (arith, ok .whole, ok .below)) high
+                (subst (λ (q : ℕ). Counted xs n (q + 2 + usedAt (cells xs) q) (k .past)) at (is .counts)),
+          );
           row = refl;
           lies = ap (λ (m : IntMap). m .base) e;
           room = subst (HasRoom (cells ys) limit) (sym e) (placed-room (cells bs) (cells ys) (placed base (stateAt (cells xs) p .map)) base kept-map low (moves .same) limit (ok .most) (omega (arith, all, ok .whole, ok .apart, ok .below)));

@@ -1,5 +1,5 @@
--- The search: a state is equal to a remembered one exactly where that is its twin, and each turn goes down the way of the hash, on which every
--- twin lies. Assumes nothing.
+-- The search: a state equals a remembered one exactly where it is the state there, and each turn goes down the way of the hash, on which every
+-- place lies where the state is. Assumes nothing.
 use mathlib.Core.Path.{_≡_, refl, sym, ap, subst, _∙_}
 use mathlib.Core.Logic.{_⊎_, inl, inr}
 use mathlib.Core.Bool.{Bool, true, false, _||_, false≢true}
@@ -21,25 +21,25 @@ use Rattle.encoding.specs.Encode.{runsOf}
 use Rattle.encoding.proofs.Held.{held-states}
 use Rattle.state.specs.Steps.{HoldsState}
 use Rattle.state.specs.declared.MemoryState.{MemoryState}
-use Rattle.branches.specs.Header.{hashAt, rowAt, child, stateAt}
+use Rattle.branches.specs.Header.{rowAt, child, stateAt}
 use Rattle.branches.specs.Hash.{hashOf}
-use Rattle.branches.specs.Entries.{Kept, states, IsKept, Path, Later, Remembers, Remembering}
-use Rattle.branches.specs.Search.{HasMap, Twin, Tests, Trail, start, Reaches, Known, Ends, Unknown, Searches, SomeRemembering}
+use Rattle.branches.specs.Entries.{Kept, states, IsKept, Path, Later, Remembers}
+use Rattle.branches.specs.Search.{HasMap, IsAt, Tests, start, Reaches, Known, Searches, SomeRemembering}
 use Rattle.branches.specs.declared.BranchList.{BranchList}
 use Rattle.branches.specs.declared.Place.the-variants as place
 use Rattle.branches.proofs.HashLaws.{hash-equal}
-use Rattle.branches.proofs.BlockLaws.{endAt, blocks-span, blocks-root, blocks-none}
+use Rattle.branches.proofs.BlockLaws.{blocks-span, blocks-root, blocks-none}
 use Rattle.branches.proofs.PathLaws.{trail-more, path-on}
 
--- ---- equal states are twins, and twins are equal
+-- ---- a remembered state that is equal is the state, and the other way round
 
 module _ (limit bound n : ℕ) (xs : List ℕ) (s : MemoryState) (m : Defined) (k : Kept) (map : IsMap (cells xs) (s .map)) (held : HoldsState limit bound (cells xs) s m) (is : IsKept limit bound n xs k) where
-  pub twin-equal : Twin (cells xs) s (k .at) → eqState (k .mem) m ≡ true
-  twin-equal t =
+  pub at-equal : IsAt (cells xs) s (k .at) → eqState (k .mem) m ≡ true
+  at-equal t =
       held-states limit bound (k .mem) m (cells xs) (cells xs) _ _ _ _ _ _ (is .holds .map) (held .map) (sym (is .holds .row) ∙ ap intOf (t .row) ∙ held .row) .0 (sym (t .runs))
 
-  pub equal-twin : eqState (k .mem) m ≡ true → Twin (cells xs) s (k .at)
-  equal-twin h =
+  pub equal-at : eqState (k .mem) m ≡ true → IsAt (cells xs) s (k .at)
+  equal-at h =
       let cs : List Cell = cells xs in
       let e : k .mem ≡ m = state-decides .sound (k .mem) m h in
       let row : rowAt cs (k .at) ≡ s .row = int-injective _ _ (is .holds .row ∙ ap (λ (x : Defined). x .programI) e ∙ sym (held .row)) in
@@ -68,10 +68,10 @@ known-false m (j ∷ ks) h = go (eqState (j .mem) m) refl (known-false m ks (λ 
 
 -- ---- the turns
 
--- the way has led to p, and every twin lies on the way from there
+-- the way has led to p, and every place where the state is lies on the way from there
 pub record Descends (cs : List Cell) (b : BranchList) (ks : List Kept) (s : MemoryState) (p bits : ℕ) : Type 0 where
   pub reaches : Reaches cs b ks (hashOf cs s) p bits
-  pub left : (k : Kept) → k ∈ ks → Twin cs s (k .at) → Path cs (b .first) (b .top) p bits (k .at)
+  pub left : (k : Kept) → k ∈ ks → IsAt cs s (k .at) → Path cs (b .first) (b .top) p bits (k .at)
 
 -- of all that are remembered between two places
 pub record Searching (xs : List ℕ) (first top : ℕ) (s : MemoryState) (p bits : ℕ) : Type 0 where
@@ -85,8 +85,8 @@ pub record Lies (xs : List ℕ) (first top p : ℕ) : Type 0 where
   pub small : length (cells xs) ≤ 1048576
 
 -- the test's answer
-no-twin : (cs : List Cell) (s : MemoryState) (p : ℕ) (r : Bool) → Tests cs s p r → r ≡ false → Twin cs s p → ⊥
-no-twin cs s p r t e w = false≢true (sym e ∙ t .complete w)
+not-there : (cs : List Cell) (s : MemoryState) (p : ℕ) (r : Bool) → Tests cs s p r → r ≡ false → IsAt cs s p → ⊥
+not-there cs s p r t e w = false≢true (sym e ∙ t .complete w)
 
 module _ (xs : List ℕ) (first top : ℕ) (s : MemoryState) where
   pub search-first : (h : ℕ) → h ≡ hashOf (cells xs) s → first < top → Searching xs first top s first h
@@ -154,7 +154,7 @@ module _ (xs : List ℕ) (first top : ℕ) (s : MemoryState) where
                         at = l .at;
                         trail = trail-more cs (b .first) (b .top) (d .reaches .trail) (omega (arith, lies .0)) (omega (arith, lies .1)) some;
                       };
-                  left = λ k m w. path-on cs (b .first) (b .top) (d .left k m w) (λ q. no-twin cs s p test tests not (subst (Twin cs s) (sym q) w)) .1;
+                  left = λ k m w. path-on cs (b .first) (b .top) (d .left k m w) (λ q. not-there cs s p test tests not (subst (IsAt cs s) (sym q) w)) .1;
                 });
           }
 
@@ -164,7 +164,7 @@ module _ (xs : List ℕ) (first top : ℕ) (s : MemoryState) where
             record {
               says = λ limit bound n ks ws r.
                   let d = so .says limit bound n b ks ws f t r .reaches in
-                  record { kept = d .kept; among = d .among; twin = subst (Twin (cells xs) s) (sym (d .at)) (tests .sound is) };
+                  record { kept = d .kept; among = d .among; there = subst (IsAt (cells xs) s) (sym (d .at)) (tests .sound is) };
             }
 
         pub search-free : test ≡ false → 0 ≡ child (cells xs) p bits → Searches xs b s (place.Free p bits)
@@ -174,7 +174,7 @@ module _ (xs : List ℕ) (first top : ℕ) (s : MemoryState) where
                   let cs : List Cell = cells xs in
                   let d = so .says limit bound n b ks ws f t r in
                   record {
-                    none = λ k m w. path-on cs (b .first) (b .top) (d .left k m w) (λ q. no-twin cs s p test tests not (subst (Twin cs s) (sym q) w)) .0 (sym free);
+                    none = λ k m w. path-on cs (b .first) (b .top) (d .left k m w) (λ q. not-there cs s p test tests not (subst (IsAt cs s) (sym q) w)) .0 (sym free);
                     place = inr (record { reaches = d .reaches; free = sym free });
                   };
             }

@@ -24,15 +24,15 @@ pub record HasMap (xs : List ℕ) (p : ℕ) : Type 0 where
   pub map : IsMap (cells xs) (stateAt (cells xs) p .map)
 
 -- the state at p is s
-pub record Twin (cs : List Cell) (s : MemoryState) (p : ℕ) : Type 0 where
+pub record IsAt (cs : List Cell) (s : MemoryState) (p : ℕ) : Type 0 where
   pub hash : hashAt cs p ≡ hashOf cs s
   pub row : rowAt cs p ≡ s .row
   pub runs : runsAt cs (s .map) ≡ runsAt cs (stateAt cs p .map)
 
 -- the answer is whether it is
 pub record Tests (cs : List Cell) (s : MemoryState) (p : ℕ) (r : Bool) : Type 0 where
-  pub sound : r ≡ true → Twin cs s p
-  pub complete : Twin cs s p → r ≡ true
+  pub sound : r ≡ true → IsAt cs s p
+  pub complete : IsAt cs s p → r ≡ true
 
 -- the way down from a place by the bits of a hash, to another, with the bits that are left there
 pub data Trail (cs : List Cell) (first top : ℕ) : ℕ → ℕ → ℕ → ℕ → Type 0 where
@@ -50,7 +50,7 @@ pub record Reaches (cs : List Cell) (b : BranchList) (ks : List Kept) (h p bits 
 pub record Known (cs : List Cell) (ks : List Kept) (s : MemoryState) : Type 0 where
   pub kept : Kept
   pub among : kept ∈ ks
-  pub twin : Twin cs s (kept .at)
+  pub there : IsAt cs s (kept .at)
 
 -- none is, and the way ends here
 pub record Ends (cs : List Cell) (b : BranchList) (ks : List Kept) (h p bits : ℕ) : Type 0 where
@@ -58,7 +58,7 @@ pub record Ends (cs : List Cell) (b : BranchList) (ks : List Kept) (h p bits : �
   pub free : child cs p bits ≡ 0
 
 pub record Unknown (cs : List Cell) (b : BranchList) (ks : List Kept) (s : MemoryState) (p bits : ℕ) : Type 0 where
-  pub none : (k : Kept) → k ∈ ks → Twin cs s (k .at) → ⊥
+  pub none : (k : Kept) → k ∈ ks → IsAt cs s (k .at) → ⊥
   pub place : ((p ≡ 0) × (ks ≡ [])) ⊎ Ends cs b ks (hashOf cs s) p bits
 
 abbrev pub TellsSearch : List Cell → BranchList → List Kept → MemoryState → Place → Type 0

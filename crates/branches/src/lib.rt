@@ -127,15 +127,7 @@ fn is_at(area: &[u8], p: usize, s: MemoryState, h: u64) -> bool
 }
 
 // Copies a state with its counts to p, under its hash, with `next` behind it among those that wait.
-fn save(
-    area: &mut [u8],
-    p: usize,
-    s: MemoryState,
-    h: u64,
-    next: usize,
-    counts: usize,
-    n: usize,
-)
+fn save(area: &mut [u8], p: usize, s: MemoryState, h: u64, next: usize, counts: usize, n: usize)
     requires { ⌜ Savable n (cells (now area)) p s next counts ⌝ }
     ensures { λ _. ⌜ Saves n (now (area .entry)) (now (area .exit)) p s h next counts ⌝ }
 {

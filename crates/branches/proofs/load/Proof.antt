@@ -1,49 +1,37 @@
+-- `branches::load` copies the map, then the counts, and the second copy leaves the first as it is. Assumes nothing.
 use mathlib.Core.Path.{sym, ap, subst}
 use native.Mathlib.Omega.{arith}
+use borrow.Author.Needs.{needs}
 use Rattle.area.specs.Cells.{cells}
 use Rattle.intmap.specs.Map.{IsMap}
 use Rattle.state.specs.declared.MemoryState.{MemoryState}
 use Rattle.branches.proofs.SaveLaws.{loaded-as}
-use borrow.Author.Needs.{needs}
 use Rattle.branches.proofs.load.Statement.{statement}
 use Rattle.branches.proofs.load.Tie as tie
-use Rattle.branches.proofs.load.Reads as reads
-use Rattle.branches.proofs.load.Lts as lts
-use Rattle.area.proofs.move_cells.Reads as move-cells-reads
-use Rattle.branches.proofs.state_at.Reads as state-at-reads
-use Rattle.intmap.proofs.IntMap.copy_to.Reads as copy-to-reads
 
--- src/lib.rt:210:9
 state-at-requires : tie.Need-state-at-requires
 state-at-requires c κs = search needs
 
--- src/lib.rt:214:9
 copy-to-requires : tie.Need-copy-to-requires
 copy-to-requires c κs = (subst (λ (s : MemoryState). IsMap (cells (c .before .before .before .before .before .args .area .now)) (s .map)) (sym (c .before .before .state-at .ensures)) (c .before .before .before .before .before .pre .map), omega (arith, ap (λ (s : MemoryState). s .map .used) (c .before .before .state-at .ensures), c .before .before .before .before .before .pre .most, c .before .before .before .before .before .pre .whole, c .before .before .before .before .before .pre .apart, c .before .before .before .before .before .pre .below))
 
--- src/lib.rt:215:28
 add-move-cells : tie.Need-add-move-cells
 add-move-cells c = search needs
 
--- src/lib.rt:215:28
 add-move-cells-2 : tie.Need-add-move-cells-2
 add-move-cells-2 c = omega (arith, ap (λ (s : MemoryState). s .map .used) (c .before .before .before .before .before .before .state-at .ensures), c .before .before .before .before .before .before .before .before .before .pre .most, c .before .before .before .before .before .before .before .before .before .pre .whole, c .before .before .before .before .before .before .before .before .before .pre .map .small)
 
--- src/lib.rt:215:51
 add-move-cells-3 : tie.Need-add-move-cells-3
 add-move-cells-3 c = search needs
 
--- src/lib.rt:215:5
 move-cells-requires : tie.Need-move-cells-requires
 move-cells-requires c κs = let u = ap (λ (s : MemoryState). s .map .used) (c .before .before .before .before .before .before .state-at .ensures) in
     let l = c .before .before .before .copy-to .ensures .frame .long in
     (record { within = omega (arith, u, l, c .before .before .before .before .before .before .before .before .before .pre .whole); small = omega (arith, l, c .before .before .before .before .before .before .before .before .before .pre .map .small) }, record { within = omega (arith, l, c .before .before .before .before .before .before .before .before .before .pre .whole, c .before .before .before .before .before .before .before .before .before .pre .below); small = omega (arith, l, c .before .before .before .before .before .before .before .before .before .pre .map .small) })
 
--- src/lib.rt:199:1
 same-length : tie.Need-same-length
 same-length c = search needs
 
--- src/lib.rt:199:1
 returns : tie.Need-returns
 returns c = loaded-as _ _ _ _ _ _ _ _ _ _ (c .before .before .before .before .before .before .before .before .before .before .before .before .pre) (c .before .before .before .before .before .before .before .before .before .state-at .ensures) (c .before .before .before .before .before .before .copy-to .kept .1 .0) (c .before .before .before .before .before .before .copy-to .ensures) (c .before .before .move-cells .ensures) (c .before .before .before .before .before .before .before .before .before .before .before .slice-known .given) (c .slice-known3 .given)
 

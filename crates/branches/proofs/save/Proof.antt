@@ -1,72 +1,52 @@
-use Rattle.branches.proofs.SaveLaws.{map-few}
+-- `branches::save` copies the map and the counts, then writes the header before them. Assumes nothing.
 use native.Mathlib.Omega.{arith}
-use Rattle.branches.proofs.SaveLaws.{saved}
 use borrow.Author.Needs.{needs}
+use Rattle.branches.proofs.SaveLaws.{map-few, saved}
 use Rattle.branches.proofs.save.Statement.{statement}
 use Rattle.branches.proofs.save.Tie as tie
-use Rattle.branches.proofs.save.Reads as reads
-use Rattle.branches.proofs.save.Lts as lts
-use Rattle.area.proofs.move_cells.Reads as move-cells-reads
-use Rattle.area.proofs.put_cell.Reads as put-cell-reads
-use Rattle.intmap.proofs.IntMap.copy_to.Reads as copy-to-reads
 
--- src/lib.rt:146:23
 add-copy-to : tie.Need-add-copy-to
 add-copy-to c = search needs
 
--- src/lib.rt:146:5
 copy-to-requires : tie.Need-copy-to-requires
 copy-to-requires c κs = search needs
 
--- src/lib.rt:147:36
 add-move-cells : tie.Need-add-move-cells
 add-move-cells c = search needs
 
--- src/lib.rt:147:36
 add-move-cells-2 : tie.Need-add-move-cells-2
 add-move-cells-2 c = search needs
 
--- src/lib.rt:147:51
 add-move-cells-3 : tie.Need-add-move-cells-3
 add-move-cells-3 c = search needs
 
--- src/lib.rt:147:5
 move-cells-requires : tie.Need-move-cells-requires
 move-cells-requires c κs = search needs
 
--- src/lib.rt:148:5
 put-cell-requires : tie.Need-put-cell-requires
 put-cell-requires c κs = search needs
 
--- src/lib.rt:158:9
 add-put-cell : tie.Need-add-put-cell
 add-put-cell c = search needs
 
--- src/lib.rt:161:28
 mul-t28 : tie.Need-mul-t28
 mul-t28 c = search needs
 
--- src/lib.rt:161:22
 add-t29 : tie.Need-add-t29
 add-t29 c = omega (arith, map-few _ _ (c .before .before .before .before .before .before .before .before .before .before .before .before .before .before .before .pre .map), c .before .before .before .before .before .before .before .before .before .before .before .before .before .before .before .pre .few)
 
--- src/lib.rt:161:52
 mul-t31 : tie.Need-mul-t31
 mul-t31 c = search needs
 
--- src/lib.rt:161:22
 add-t32 : tie.Need-add-t32
 add-t32 c = omega (arith, map-few _ _ (c .before .before .before .before .before .before .before .before .before .before .before .before .before .before .before .pre .map), c .before .before .before .before .before .before .before .before .before .before .before .before .before .before .before .pre .few, c .before .before .before .before .before .before .before .before .before .before .before .before .before .before .before .pre .later)
 
--- src/lib.rt:156:5
 put-cell-requires-2 : tie.Need-put-cell-requires-2
 put-cell-requires-2 c κs = search needs
 
--- src/lib.rt:130:1
 same-length : tie.Need-same-length
 same-length c = search needs
 
--- src/lib.rt:130:1
 returns : tie.Need-returns
 returns c = saved _ _ _ _ _ _ _ _ _ _ _ _ (c .before .before .before .before .before .before .before .before .before .before .before .before .before .before .before .before .before .before .pre) (c .before .before .before .before .before .before .before .before .before .before .before .before .before .before .copy-to .kept .1 .0) (c .before .before .before .before .before .before .before .before .before .before .before .before .before .before .copy-to .ensures) (c .before .before .before .before .before .before .before .before .before .before .move-cells .ensures) (c .before .before .before .before .before .before .put-cell .ensures) (c .before .before .put-cell2 .ensures) (c .before .before .before .before .before .before .before .before .before .before .before .before .before .before .before .before .before .slice-known .given) (c .slice-known5 .given)
 

@@ -1,31 +1,23 @@
+-- `branches::state_at` reads both header cells. Assumes nothing.
 use mathlib.Core.Path.{ap}
 use Prim.Native.Nat.{_+_, _/_, _%_}
-use Rattle.area.specs.declared.Cell.{Cell}
 use borrow.Author.Needs.{needs}
+use Rattle.area.specs.declared.Cell.{Cell}
 use Rattle.branches.proofs.state_at.Statement.{statement}
 use Rattle.branches.proofs.state_at.Tie as tie
-use Rattle.branches.proofs.state_at.Reads as reads
-use Rattle.branches.proofs.state_at.Lts as lts
-use Rattle.area.proofs.cell_at.Reads as cell-at-reads
-use Rattle.branches.proofs.row_at.Reads as row-at-reads
 
--- src/lib.rt:85:33
 add-cell-at : tie.Need-add-cell-at
 add-cell-at c = search needs
 
--- src/lib.rt:85:9
 cell-at-requires : tie.Need-cell-at-requires
 cell-at-requires c κs = search needs
 
--- src/lib.rt:88:15
 add-t6 : tie.Need-add-t6
 add-t6 c = search needs
 
--- src/lib.rt:93:14
 row-at-requires : tie.Need-row-at-requires
 row-at-requires c κs = search needs
 
--- src/lib.rt:81:1
 returns : tie.Need-returns
 returns c = let e = c .row-at .ensures in
     let f = ap (λ (x : Cell). x .payload) (c .before .cell-at .ensures) in

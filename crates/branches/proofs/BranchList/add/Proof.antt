@@ -1,48 +1,35 @@
-use mathlib.Core.Path.{refl}
+-- `BranchList::add` saves the state at the top, if there is space, and links it. Assumes nothing.
 use native.Mathlib.Omega.{arith}
+use borrow.Author.Needs.{needs}
 use Rattle.area.proofs.CellLaws.{length-cells}
 use Rattle.branches.proofs.AddLaws.{push-full, save-ready, link-ready, push-added}
-use borrow.Author.Needs.{needs}
 use Rattle.branches.proofs.BranchList.add.Statement.{statement}
 use Rattle.branches.proofs.BranchList.add.Tie as tie
-use Rattle.branches.proofs.BranchList.add.Reads as reads
-use Rattle.branches.proofs.BranchList.add.Lts as lts
-use Rattle.branches.proofs.link.Reads as link-reads
-use Rattle.branches.proofs.save.Reads as save-reads
 
--- src/lib.rt:260:19
 add-end : tie.Need-add-end
 add-end c = search needs
 
--- src/lib.rt:260:19
 add-end-2 : tie.Need-add-end-2
 add-end-2 c = search needs
 
--- src/lib.rt:260:43
 add-end-3 : tie.Need-add-end-3
 add-end-3 c = search needs
 
--- src/lib.rt:260:19
 add-end-4 : tie.Need-add-end-4
 add-end-4 c = search needs
 
--- src/lib.rt:262:13
 returns : tie.Need-returns
 returns c = push-full _ _ _ _ _ _ (c .before .before .before .pre .0) _ _ (c .before .before .before .pre .2) (c .if1 .taken)
 
--- src/lib.rt:264:9
 save-requires : tie.Need-save-requires
 save-requires c κs = save-ready _ _ _ _ _ _ (c .before .before .before .before .pre .0) (omega (arith, length-cells (c .before .before .before .before .args .area .now), c .before .if1 .left))
 
--- src/lib.rt:265:9
 link-requires : tie.Need-link-requires
 link-requires c κs = link-ready _ _ _ _ _ _ (c .before .before .before .before .before .before .before .before .pre .0) _ _ _ _ (c .before .before .before .save .ensures) (c .before .before .before .before .before .before .before .before .pre .2) (omega (arith, length-cells (c .before .before .before .before .before .before .before .before .args .area .now), c .before .before .before .before .before .if1 .left))
 
--- src/lib.rt:243:5
 same-length : tie.Need-same-length
 same-length c = search needs
 
--- src/lib.rt:243:5
 returns-2 : tie.Need-returns-2
 returns-2 c = push-added _ _ _ _ _ _ (c .before .before .before .before .before .before .before .before .before .before .before .pre .0) _ _ _ _ (c .before .before .before .before .before .before .save .ensures) (c .before .before .before .before .before .before .before .before .before .before .before .pre .2) _ (c .before .before .before .before .before .before .before .before .before .before .before .pre .1) (omega (arith, c .before .before .before .before .before .before .before .before .if1 .left)) (c .before .before .link .ensures) (c .before .before .before .before .before .before .before .before .before .before .slice-known .given) (c .before .before .before .before .slice-known2 .given) (c .slice-known3 .given)
 

@@ -1,48 +1,35 @@
+-- `BranchList::push` looks for the state, and adds it where it is not known. Assumes nothing.
 use mathlib.Core.Path.{subst}
+use borrow.Author.Needs.{needs}
 use Rattle.branches.specs.Search.{Searches}
 use Rattle.branches.proofs.AddLaws.{push-known}
-use borrow.Author.Needs.{needs}
 use Rattle.branches.proofs.BranchList.push.Statement.{statement}
 use Rattle.branches.proofs.BranchList.push.Tie as tie
-use Rattle.branches.proofs.BranchList.push.Reads as reads
-use Rattle.branches.proofs.BranchList.push.Lts as lts
-use Rattle.branches.proofs.BranchList.add.Reads as add-reads
-use Rattle.branches.proofs.BranchList.search.Reads as search-reads
-use Rattle.branches.proofs.hash.Reads as hash-reads
 
--- src/lib.rt:285:13
 hash-requires : tie.Need-hash-requires
 hash-requires c κs = search needs
 
--- src/lib.rt:286:13
 search-requires : tie.Need-search-requires
 search-requires c κs = search needs
 
--- src/lib.rt:288:29
 enum-told : tie.Need-enum-told
 enum-told c = search needs
 
--- src/lib.rt:289:25
 enum-known-found : tie.Need-enum-known-found
 enum-known-found c = search needs
 
--- src/lib.rt:289:38
 add-requires : tie.Need-add-requires
 add-requires c κs = (c .before .before .before .before .before .before .before .before .before .pre, c .before .before .before .before .before .before .hash .ensures, subst (Searches _ _ _) (c .before .before .found .given .1) (c .before .before .before .before .search .ensures))
 
--- src/lib.rt:274:5
 same-length : tie.Need-same-length
 same-length c = search needs
 
--- src/lib.rt:274:5
 returns : tie.Need-returns
 returns c = push-known _ _ _ _ _ _ (c .before .before .before .before .before .before .before .pre) (subst (Searches _ _ _) (c .enum-told .given .1) (c .before .before .search .ensures))
 
--- src/lib.rt:274:5
 same-length-2 : tie.Need-same-length-2
 same-length-2 c = search needs
 
--- src/lib.rt:274:5
 returns-2 : tie.Need-returns-2
 returns-2 c = search needs
 
