@@ -40,6 +40,16 @@ use Rattle.branches.proofs.RememberLaws.{Bytes, counted-kept, SameBlock
 use Rattle.branches.proofs.SaveLaws.{map-few}
 use Rattle.branches.proofs.SearchLaws.{at-equal, equal-at, known-true, known-false}
 
+-- where a state ends that is added, the list with it, and what is kept of it
+abbrev pub endOf : ℕ → BranchList → MemoryState → ℕ
+endOf n b s = b .top + 2 + s .map .used + countCells n
+
+abbrev pub grown : ℕ → BranchList → MemoryState → BranchList
+grown n b s = record { first = b .first; top = endOf n b s; last = b .top }
+
+abbrev pub newest : BranchList → Defined → List ℕ → Kept
+newest b m past = record { at = b .top; mem = m; past = past }
+
 -- ---- the definition's verdict
 judged : (n : ℕ) (m : Defined) (ks : List Kept) (space : ℕ) (t u : Bool) → known eqState m (states ks) ≡ t → leb (unitsFor n m) space ≡ u → judge eqState (unitsFor n) m (states ks) space ≡ verdict t u
 unfolding judge
@@ -64,7 +74,7 @@ module _ (limit n counts : ℕ) (xs : List ℕ) (b : BranchList) (s : MemoryStat
         known-false m ks (λ k e h. found .says limit bound n ks ws r .none k e (equal-at limit bound n xs s m k (ok .offers .map) held (r .kept k e) h))
 
     -- no space
-    pub push-full : length xs / 16 < b .top + 2 + s .map .used + countCells n → Pushes limit n counts xs xs b s pushed.Full
+    pub push-full : length xs / 16 < endOf n b s → Pushes limit n counts xs xs b s pushed.Full
     push-full over =
         record {
           says = λ bound ks ws m past r held counted.
@@ -99,7 +109,7 @@ module _
     (h at bits : ℕ)
     (ok : Pushable limit n counts xs b s)
     (is : h ≡ hashOf (cells xs) s)
-    (fits : b .top + 2 + s .map .used + countCells n ≤ length (cells xs))
+    (fits : endOf n b s ≤ length (cells xs))
     (saves : Saves n xs us (b .top) s h (b .last) counts)
     (links : changes.Links us ys at bits (b .top))
     (small : Bytes xs)
@@ -154,7 +164,7 @@ module _
       holds-new : HoldsState limit bound (cells ys) (record { row = s .row; map = placed (b .top + 2) (s .map) }) m
       holds-new = record { row = held .row; map = record { runs = runs-new ∙ held .map .runs; takes = map-new .used; good = held .map .good; small = held .map .small } }
 
-      kept-new : IsKept limit bound n ys (record { at = b .top; mem = m; past = past })
+      kept-new : IsKept limit bound n ys (newest b m past)
       kept-new =
           record {
             map = subst (λ (x : MemoryState). IsMap (cells ys) (x .map)) (sym state-new) map-new;
@@ -171,28 +181,28 @@ module _
           (old : (k : Kept) → k ∈ ks → SameBlock (cells xs) (cells ys) n (k .at))
           (adds : Adds (cells xs) (cells ys) (b .first) (b .top))
           (leads : (k : Kept) → k ∈ ks → (q : ℕ) → (child (cells ys) (k .at) q ≡ child (cells xs) (k .at) q) ⊎ (child (cells ys) (k .at) q ≡ b .top))
-          (path : Path (cells ys) (b .first) (b .top + 2 + s .map .used + countCells n) (b .first) (hashOf (cells xs) s) (b .top))
+          (path : Path (cells ys) (b .first) (endOf n b s) (b .first) (hashOf (cells xs) s) (b .top))
         where
           lies : (k : Kept) → k ∈ ks → (b .first ≤ k .at) × (endAt (cells xs) n (k .at) ≤ b .top)
           lies = blocks-span (cells xs) n (b .first) (b .top) ks (r .blocks)
 
-          links-old : (p : ℕ) → p < b .top → (q : ℕ) → (child (cells ys) p q ≡ child (cells xs) p q) ⊎ (child (cells ys) p q ≡ b .top) → (child (cells xs) p q ≡ 0) ⊎ Later ks p (child (cells xs) p q) → (child (cells ys) p q ≡ 0) ⊎ Later (record { at = b .top; mem = m; past = past } ∷ ks) p (child (cells ys) p q)
+          links-old : (p : ℕ) → p < b .top → (q : ℕ) → (child (cells ys) p q ≡ child (cells xs) p q) ⊎ (child (cells ys) p q ≡ b .top) → (child (cells xs) p q ≡ 0) ⊎ Later ks p (child (cells xs) p q) → (child (cells ys) p q ≡ 0) ⊎ Later (newest b m past ∷ ks) p (child (cells ys) p q)
           links-old p lt q (inl e) (inl z) = inl (e ∙ z)
           links-old p lt q (inl e) (inr l) = inr (record { kept = l .kept; among = inr (l .among); at = l .at ∙ sym e; after = omega (arith, l .after) })
-          links-old p lt q (inr e) z = inr (record { kept = record { at = b .top; mem = m; past = past }; among = inl refl; at = sym e; after = omega arith })
+          links-old p lt q (inr e) z = inr (record { kept = newest b m past; among = inl refl; at = sym e; after = omega arith })
 
-          pub assembled : Remembers limit bound n ys (record { first = b .first; top = b .top + 2 + s .map .used + countCells n; last = b .top }) (record { at = b .top; mem = m; past = past } ∷ ks) (record { at = b .top; mem = m; past = past } ∷ ws)
+          pub assembled : Remembers limit bound n ys (grown n b s) (newest b m past ∷ ks) (newest b m past ∷ ws)
           assembled =
               record {
                 blocks = (omega (arith, used-new), blocks-same (cells xs) (cells ys) n (b .first) (b .top) ks (λ k e. ap (λ (x : ℕ). x / 65536 % 65536) (old k e .sizes)) (r .blocks));
                 kept = among-cons (IsKept limit bound n ys) _ ks kept-new (λ k e. kept-same limit bound n xs ys small few (links .bytes ∙ saves .bytes) (r .small) k (omega (arith, lies k e .1, r .inside)) (old k e) (r .kept k e));
                 paths =
-                    among-cons (λ (k : Kept). Path (cells ys) (b .first) (b .top + 2 + s .map .used + countCells n) (b .first) (hashAt (cells ys) (k .at)) (k .at)) _ ks
-                    (subst (λ (x : ℕ). Path (cells ys) (b .first) (b .top + 2 + s .map .used + countCells n) (b .first) x (b .top)) (sym (hash-new ∙ is)) path)
-                    (λ k e. subst (λ (x : ℕ). Path (cells ys) (b .first) (b .top + 2 + s .map .used + countCells n) (b .first) x (k .at)) (ap (λ (c : Cell). c .head) (sym (old k e .head)))
-                    (path-kept (cells xs) (cells ys) (b .first) (b .top) (b .top + 2 + s .map .used + countCells n) (omega arith) adds (r .paths k e)));
+                    among-cons (λ (k : Kept). Path (cells ys) (b .first) (endOf n b s) (b .first) (hashAt (cells ys) (k .at)) (k .at)) _ ks
+                    (subst (λ (x : ℕ). Path (cells ys) (b .first) (endOf n b s) (b .first) x (b .top)) (sym (hash-new ∙ is)) path)
+                    (λ k e. subst (λ (x : ℕ). Path (cells ys) (b .first) (endOf n b s) (b .first) x (k .at)) (ap (λ (c : Cell). c .head) (sym (old k e .head)))
+                    (path-kept (cells xs) (cells ys) (b .first) (b .top) (endOf n b s) (omega arith) adds (r .paths k e)));
                 links =
-                    among-cons (λ (k : Kept). Links (cells ys) (record { at = b .top; mem = m; past = past } ∷ ks) (k .at)) _ ks
+                    among-cons (λ (k : Kept). Links (cells ys) (newest b m past ∷ ks) (k .at)) _ ks
                     (λ q. inl (child-none (cells ys) (b .top) q (ap (λ (c : Cell). c .head) (above (b .top + 1) (omega arith) ∙ saves .second))))
                     (λ k e q. links-old (k .at) (omega (arith, lies k e .1)) q (leads k e q) (r .links k e q));
                 waiting = (
@@ -200,7 +210,7 @@ module _
                   omega (arith, next-new, waiting-low (cells xs) (b .last) (b .top) ws (omega (arith, r .positive, blocks-low (cells xs) n (b .first) (b .top) ks (r .blocks))) (λ k e. omega (arith, lies k (r .among k e) .1)) (r .waiting)),
                   subst (λ (x : ℕ). Waiting (cells ys) x ws) (sym next-new) (waiting-same (cells xs) (cells ys) (b .last) ws (λ k e. ap (λ (x : ℕ). x / half) (old k (r .among k e) .sizes)) (r .waiting)),
                 );
-                among = among-cons (λ (k : Kept). k ∈ (record { at = b .top; mem = m; past = past } ∷ ks)) _ ws (inl refl) (λ k e. inr (r .among k e));
+                among = among-cons (λ (k : Kept). k ∈ (newest b m past ∷ ks)) _ ws (inl refl) (λ k e. inr (r .among k e));
                 positive = r .positive;
                 inside = omega (arith, long);
                 small = omega (arith, long, r .small);
@@ -208,7 +218,7 @@ module _
               }
 
     -- it is the first
-    alone : at ≡ 0 → ks ≡ [] → Remembers limit bound n ys (record { first = b .first; top = b .top + 2 + s .map .used + countCells n; last = b .top }) (record { at = b .top; mem = m; past = past } ∷ ks) (record { at = b .top; mem = m; past = past } ∷ ws)
+    alone : at ≡ 0 → ks ≡ [] → Remembers limit bound n ys (grown n b s) (newest b m past ∷ ks) (newest b m past ∷ ws)
     alone z e =
         let same : cells ys ≡ cells us = links .none z in
         let root : b .top ≡ b .first = subst (Blocks (cells xs) n (b .first) (b .top)) e (r .blocks) in
@@ -217,7 +227,7 @@ module _
         (λ k a. absurd (subst (λ (l : List Kept). k ∈ l) e a))
         (λ p q f t ne. absurd (omega arith))
         (λ k a q. absurd (subst (λ (l : List Kept). k ∈ l) e a))
-        (subst (λ (x : ℕ). Path (cells ys) (b .first) (b .top + 2 + s .map .used + countCells n) (b .first) (hashOf (cells xs) s) x) (sym root) here)
+        (subst (λ (x : ℕ). Path (cells ys) (b .first) (endOf n b s) (b .first) (hashOf (cells xs) s) x) (sym root) here)
 
     -- the way of its hash ended at a free link
     module _ (ends : Ends (cells xs) b ks (hashOf (cells xs) s) at bits) where
@@ -269,18 +279,18 @@ module _
             | inr z ↦ inr (z .1)
           ]
 
-      path-new : Path (cells ys) (b .first) (b .top + 2 + s .map .used + countCells n) (b .first) (hashOf (cells xs) s) (b .top)
+      path-new : Path (cells ys) (b .first) (endOf n b s) (b .first) (hashOf (cells xs) s) (b .top)
       path-new =
           let to = linked .alike bits refl in
-          trail-path (cells ys) (b .first) (b .top + 2 + s .map .used + countCells n)
-          (trail-kept (cells xs) (cells ys) (b .first) (b .top) (b .top + 2 + s .map .used + countCells n) (omega arith) adds-link (ends .reaches .trail))
+          trail-path (cells ys) (b .first) (endOf n b s)
+          (trail-kept (cells xs) (cells ys) (b .first) (b .top) (endOf n b s) (omega arith) adds-link (ends .reaches .trail))
           (down (place-lies .0) (omega (arith, place-lies .1)) (λ z. omega (arith, to, place-lies .1))
-          (subst (λ (x : ℕ). Path (cells ys) (b .first) (b .top + 2 + s .map .used + countCells n) x (bits / 2) (b .top)) (sym to) here))
+          (subst (λ (x : ℕ). Path (cells ys) (b .first) (endOf n b s) x (bits / 2) (b .top)) (sym to) here))
 
-      under : Remembers limit bound n ys (record { first = b .first; top = b .top + 2 + s .map .used + countCells n; last = b .top }) (record { at = b .top; mem = m; past = past } ∷ ks) (record { at = b .top; mem = m; past = past } ∷ ws)
+      under : Remembers limit bound n ys (grown n b s) (newest b m past ∷ ks) (newest b m past ∷ ws)
       under = assembled (λ j le. linked .elsewhere j (λ z. omega (arith, place-lies .1))) old-block adds-link leads-old path-new
 
-    pub added : Searches xs b s (place.Free at bits) → Remembers limit bound n ys (record { first = b .first; top = b .top + 2 + s .map .used + countCells n; last = b .top }) (record { at = b .top; mem = m; past = past } ∷ ks) (record { at = b .top; mem = m; past = past } ∷ ws)
+    pub added : Searches xs b s (place.Free at bits) → Remembers limit bound n ys (grown n b s) (newest b m past ∷ ks) (newest b m past ∷ ws)
     added found = elim (found .says limit bound n ks ws r .place) [ inl z ↦ alone (z .0) (z .1) | inr e ↦ under e ]
 
 -- ---- what the parts ask for
@@ -288,7 +298,7 @@ module _ (limit n counts : ℕ) (xs : List ℕ) (b : BranchList) (s : MemoryStat
   pub low-top : b .first ≤ b .top
   low-top = let q = ok .remembering in blocks-low (cells xs) n (b .first) (b .top) (q .all) (q .remembers .blocks)
 
-  pub save-ready : b .top + 2 + s .map .used + countCells n ≤ length (cells xs) → Savable n (cells xs) (b .top) s (b .last) counts
+  pub save-ready : endOf n b s ≤ length (cells xs) → Savable n (cells xs) (b .top) s (b .last) counts
   save-ready fits =
       let q = ok .remembering in
       let r = q .remembers in
@@ -324,7 +334,7 @@ module _ (limit n counts : ℕ) (xs : List ℕ) (b : BranchList) (s : MemoryStat
               }
         ]
 
-    pub link-ready : b .top + 2 + s .map .used + countCells n ≤ length (cells xs) → Linkable us at bits (b .top)
+    pub link-ready : endOf n b s ≤ length (cells xs) → Linkable us at bits (b .top)
     link-ready fits =
         let len = cells-kept xs us (saves .bytes) in
         let small = ok .offers .map .small in
@@ -333,14 +343,14 @@ module _ (limit n counts : ℕ) (xs : List ℕ) (b : BranchList) (s : MemoryStat
     pub push-added :
         (ys : List ℕ) →
         h ≡ hashOf (cells xs) s →
-        b .top + 2 + s .map .used + countCells n ≤ length xs / 16 →
+        endOf n b s ≤ length xs / 16 →
         changes.Links us ys at bits (b .top) →
         Bytes xs →
         Bytes us →
         Bytes ys →
-        Pushes limit n counts xs ys b s (pushed.Done (record { first = b .first; top = b .top + 2 + s .map .used + countCells n; last = b .top }))
+        Pushes limit n counts xs ys b s (pushed.Done (grown n b s))
     push-added ys is room links small less few =
-        let fits : b .top + 2 + s .map .used + countCells n ≤ length (cells xs) = omega (arith, length-cells xs) in
+        let fits : endOf n b s ≤ length (cells xs) = omega (arith, length-cells xs) in
         record {
           says = λ bound ks ws m past r held counted.
               let used = held-used limit bound (cells xs) _ _ _ m (held .map) in

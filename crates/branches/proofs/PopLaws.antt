@@ -6,7 +6,7 @@ use Prim.Native.Nat.{ℕ, _+_, _/_, _≤_}
 use native.Mathlib.Omega.{arith}
 use lib.ListN.{getD}
 use Rattle.model.specs.Walk.{_∈_}
-use Rattle.area.specs.Cells.{blank, cells}
+use Rattle.area.specs.Cells.{blank, cells, Inside}
 use Rattle.area.specs.declared.Cell.{Cell}
 use Rattle.encoding.proofs.Held.{held-fits}
 use Rattle.branches.specs.Header.{half, nextAt}
@@ -23,6 +23,10 @@ latest limit bound n xs b ks [] r = record { header = λ ne. absurd (ne (r .wait
 latest limit bound n xs b ks (k ∷ ws) r =
     let lies = blocks-span (cells xs) n (b .first) (b .top) ks (r .blocks) k (r .among k (inl refl)) in
     record { header = λ ne. omega (arith, lies .1, r .waiting .0, r .inside); small = r .small }
+
+-- so does the header of each
+pub kept-inside : (limit bound n : ℕ) (xs : List ℕ) (b : BranchList) (ks ws : List Kept) (k : Kept) → Remembers limit bound n xs b ks ws → k ∈ ks → Inside xs (k .at) 2
+kept-inside limit bound n xs b ks ws k r e = record { within = omega (arith, blocks-span (cells xs) n (b .first) (b .top) ks (r .blocks) k e .1, r .inside); small = r .small }
 
 -- a remembered state can be loaded
 pub loadable : (limit bound n : ℕ) (xs : List ℕ) (b : BranchList) (ks ws : List Kept) (k : Kept) (base counts : ℕ) → Remembers limit bound n xs b ks ws → k ∈ ks → n ≤ 2048 → base + limit ≤ counts → counts + countCells n ≤ b .first → Loadable limit n (cells xs) (k .at) base counts

@@ -28,10 +28,7 @@ linksAt cs p = getD cs (p + 1) blank .head
 abbrev pub sizesAt : List Cell → ℕ → ℕ
 sizesAt cs p = getD cs (p + 1) blank .payload
 
--- the links as a word, and one of them by the lowest bit of what is left of a hash
-abbrev pub links : ℕ → ℕ → ℕ
-links left right = left + half * right
-
+-- one of the links by the lowest bit of what is left of a hash: the lower half of their word, or the upper
 unfoldable pub child : List Cell → ℕ → ℕ → ℕ
 child cs p bits = pick (eqb (bits % 2) 0) (linksAt cs p % half) (linksAt cs p / half)
 
