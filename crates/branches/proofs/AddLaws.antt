@@ -24,7 +24,7 @@ use Rattle.state.specs.Steps.{HoldsState}
 use Rattle.state.specs.declared.MemoryState.{MemoryState}
 use Rattle.branches.specs.Header.{half, sizesWord, hashAt, sizesAt, child, usedAt, nextAt, stateAt}
 use Rattle.branches.specs.Hash.{hashOf}
-use Rattle.branches.specs.Entries.{Kept, states, Counted, countCells, IsKept, Blocks, Path, here, down, Later, Links, Waiting, Remembers}
+use Rattle.branches.specs.Entries.{Kept, states, Counted, countCells, IsKept, Blocks, here, OnPath, Later, Links, Waiting, Remembers}
 use Rattle.branches.specs.Lists.{unitsFor, Pushes}
 use Rattle.branches.specs.Search.{Known, Ends, Searches}
 use Rattle.branches.specs.Changes as changes
@@ -35,7 +35,7 @@ use Rattle.branches.specs.declared.Place.the-variants as place
 use Rattle.branches.proofs.HeaderLaws.{child-same, child-alike, child-none, len-part, used-part, next-part, state-parts}
 use Rattle.branches.proofs.HashLaws.{hash-equal}
 use Rattle.branches.proofs.BlockLaws.{endAt, Apart, blocks-low, blocks-span, blocks-apart, blocks-same, waiting-same, waiting-low}
-use Rattle.branches.proofs.PathLaws.{Adds, path-kept, trail-kept, trail-path}
+use Rattle.branches.proofs.PathLaws.{Adds, path-kept, on-kept, path-more}
 use Rattle.branches.proofs.RememberLaws.{Bytes, counted-kept, SameBlock, kept-same}
 use Rattle.branches.proofs.SaveLaws.{map-few}
 use Rattle.branches.proofs.SearchLaws.{at-equal, equal-at, known-true, known-false}
@@ -181,7 +181,7 @@ module _
           (old : (k : Kept) → k ∈ ks → SameBlock (cells xs) (cells ys) n (k .at))
           (adds : Adds (cells xs) (cells ys) (b .first) (b .top))
           (leads : (k : Kept) → k ∈ ks → (q : ℕ) → (child (cells ys) (k .at) q ≡ child (cells xs) (k .at) q) ⊎ (child (cells ys) (k .at) q ≡ b .top))
-          (path : Path (cells ys) (b .first) (endOf n b s) (b .first) (hashOf (cells xs) s) (b .top))
+          (path : OnPath (cells ys) (b .first) (endOf n b s) (b .first) (hashOf (cells xs) s) (b .top))
         where
           lies : (k : Kept) → k ∈ ks → (b .first ≤ k .at) × (endAt (cells xs) n (k .at) ≤ b .top)
           lies = blocks-span (cells xs) n (b .first) (b .top) ks (r .blocks)
@@ -197,10 +197,10 @@ module _
                 blocks = (omega (arith, used-new), blocks-same (cells xs) (cells ys) n (b .first) (b .top) ks (λ k e. ap (λ (x : ℕ). x / 65536 % 65536) (old k e .sizes)) (r .blocks));
                 kept = among-cons (IsKept limit bound n ys) _ ks kept-new (λ k e. kept-same limit bound n xs ys small few (links .bytes ∙ saves .bytes) (r .small) k (omega (arith, lies k e .1, r .inside)) (old k e) (r .kept k e));
                 paths =
-                    among-cons (λ (k : Kept). Path (cells ys) (b .first) (endOf n b s) (b .first) (hashAt (cells ys) (k .at)) (k .at)) _ ks
-                    (subst (λ (x : ℕ). Path (cells ys) (b .first) (endOf n b s) (b .first) x (b .top)) (sym (hash-new ∙ is)) path)
-                    (λ k e. subst (λ (x : ℕ). Path (cells ys) (b .first) (endOf n b s) (b .first) x (k .at)) (ap (λ (c : Cell). c .head) (sym (old k e .head)))
-                    (path-kept (cells xs) (cells ys) (b .first) (b .top) (endOf n b s) (omega arith) adds (r .paths k e)));
+                    among-cons (λ (k : Kept). OnPath (cells ys) (b .first) (endOf n b s) (b .first) (hashAt (cells ys) (k .at)) (k .at)) _ ks
+                    (subst (λ (x : ℕ). OnPath (cells ys) (b .first) (endOf n b s) (b .first) x (b .top)) (sym (hash-new ∙ is)) path)
+                    (λ k e. subst (λ (x : ℕ). OnPath (cells ys) (b .first) (endOf n b s) (b .first) x (k .at)) (ap (λ (c : Cell). c .head) (sym (old k e .head)))
+                    (on-kept (cells xs) (cells ys) (b .first) (b .top) (endOf n b s) (omega arith) adds (r .paths k e)));
                 links =
                     among-cons (λ (k : Kept). Links (cells ys) (newest b m past ∷ ks) (k .at)) _ ks
                     (λ q. inl (child-none (cells ys) (b .top) q (ap (λ (c : Cell). c .head) (above (b .top + 1) (omega arith) ∙ saves .second))))
@@ -227,7 +227,7 @@ module _
         (λ k a. absurd (subst (λ (l : List Kept). k ∈ l) e a))
         (λ p q f t ne. absurd (omega arith))
         (λ k a q. absurd (subst (λ (l : List Kept). k ∈ l) e a))
-        (subst (λ (x : ℕ). Path (cells ys) (b .first) (endOf n b s) (b .first) (hashOf (cells xs) s) x) (sym root) here)
+        (subst (λ (x : ℕ). OnPath (cells ys) (b .first) (endOf n b s) (b .first) (hashOf (cells xs) s) x) (sym root) (record { left = hashOf (cells xs) s; path = here }))
 
     -- the way of its hash ended at a free link
     module _ (ends : Ends (cells xs) b ks (hashOf (cells xs) s) at bits) where
@@ -279,13 +279,12 @@ module _
             | inr z ↦ inr (z .1)
           ]
 
-      path-new : Path (cells ys) (b .first) (endOf n b s) (b .first) (hashOf (cells xs) s) (b .top)
+      path-new : OnPath (cells ys) (b .first) (endOf n b s) (b .first) (hashOf (cells xs) s) (b .top)
       path-new =
           let to = linked .alike bits refl in
-          trail-path (cells ys) (b .first) (endOf n b s)
-          (trail-kept (cells xs) (cells ys) (b .first) (b .top) (endOf n b s) (omega arith) adds-link (ends .reaches .trail))
-          (down (place-lies .0) (omega (arith, place-lies .1)) (λ z. omega (arith, to, place-lies .1))
-          (subst (λ (x : ℕ). Path (cells ys) (b .first) (endOf n b s) x (bits / 2) (b .top)) (sym to) here))
+          let way = path-kept (cells xs) (cells ys) (b .first) (b .top) (endOf n b s) (omega arith) adds-link (ends .reaches .path) in
+          let more = path-more (cells ys) (b .first) (endOf n b s) way (place-lies .0) (omega (arith, place-lies .1)) (λ z. omega (arith, to, place-lies .1)) in
+          subst (λ (x : ℕ). OnPath (cells ys) (b .first) (endOf n b s) (b .first) (hashOf (cells xs) s) x) to (record { left = bits / 2; path = more })
 
       under : Remembers limit bound n ys (grown n b s) (newest b m past ∷ ks) (newest b m past ∷ ws)
       under = assembled (λ j le. linked .elsewhere j (λ z. omega (arith, place-lies .1))) old-block adds-link leads-old path-new

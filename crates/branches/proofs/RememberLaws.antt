@@ -23,11 +23,11 @@ use Rattle.state.specs.Steps.{HoldsState}
 use Rattle.state.specs.declared.MemoryState.{MemoryState}
 use Rattle.branches.specs.Header.{half, sizesAt, usedAt, child, stateAt}
 use Rattle.branches.specs.Hash.{mix, mixCells, hashOf}
-use Rattle.branches.specs.Entries.{Kept, Counted, countCells, IsKept, Path, Later, Links, Remembers, none}
+use Rattle.branches.specs.Entries.{Kept, Counted, countCells, IsKept, OnPath, Later, Links, Remembers, none}
 use Rattle.branches.specs.declared.BranchList.{BranchList}
 use Rattle.branches.proofs.HeaderLaws.{child-same, state-same}
 use Rattle.branches.proofs.BlockLaws.{endAt, blocks-span, blocks-same, waiting-same}
-use Rattle.branches.proofs.PathLaws.{path-kept}
+use Rattle.branches.proofs.PathLaws.{on-kept}
 
 -- these are bytes
 abbrev pub Bytes : List ℕ → Type 0
@@ -90,8 +90,8 @@ remembers-kept limit bound n xs ys b ks ws small less long same r =
     record {
       blocks = blocks-same cs ds n (b .first) (b .top) ks (λ k e. ap (λ (x : ℕ). x / 65536 % 65536) (block k e .sizes)) (r .blocks);
       kept = λ k e. kept-same limit bound n xs ys small less long (r .small) k (omega (arith, lies k e .1, r .inside)) (block k e) (r .kept k e);
-      paths = λ k e. subst (λ (h : ℕ). Path ds (b .first) (b .top) (b .first) h (k .at)) (ap (λ (c : Cell). c .head) (sym (block k e .head)))
-          (path-kept cs ds (b .first) (b .top) (b .top) (omega arith) (λ p bits f t ne. child p bits f) (r .paths k e));
+      paths = λ k e. subst (λ (h : ℕ). OnPath ds (b .first) (b .top) (b .first) h (k .at)) (ap (λ (c : Cell). c .head) (sym (block k e .head)))
+          (on-kept cs ds (b .first) (b .top) (b .top) (omega arith) (λ p bits f t ne. child p bits f) (r .paths k e));
       links = λ k e. links-same cs ds ks (k .at) (λ bits. child (k .at) bits (lies k e .0)) (r .links k e);
       waiting = waiting-same cs ds (b .last) ws (λ k e. ap (λ (x : ℕ). x / half) (block k (r .among k e) .sizes)) (r .waiting);
       among = r .among;

@@ -23,13 +23,13 @@ use Rattle.state.specs.Steps.{HoldsState}
 use Rattle.state.specs.declared.MemoryState.{MemoryState}
 use Rattle.branches.specs.Header.{rowAt, child, stateAt}
 use Rattle.branches.specs.Hash.{hashOf}
-use Rattle.branches.specs.Entries.{Kept, states, IsKept, Path, Later, Remembers}
-use Rattle.branches.specs.Search.{HasMap, IsAt, Tests, start, Reaches, Known, Searches, SomeRemembering}
+use Rattle.branches.specs.Entries.{Kept, states, IsKept, here, OnPath, Later, Remembers}
+use Rattle.branches.specs.Search.{HasMap, IsAt, Tests, Reaches, Known, Searches, SomeRemembering}
 use Rattle.branches.specs.declared.BranchList.{BranchList}
 use Rattle.branches.specs.declared.Place.the-variants as place
 use Rattle.branches.proofs.HashLaws.{hash-equal}
 use Rattle.branches.proofs.BlockLaws.{blocks-span, blocks-root, blocks-none}
-use Rattle.branches.proofs.PathLaws.{trail-more, path-on}
+use Rattle.branches.proofs.PathLaws.{path-more, on-next}
 
 -- ---- a remembered state that is equal is the state, and the other way round
 
@@ -71,7 +71,7 @@ known-false m (j ∷ ks) h = go (eqState (j .mem) m) refl (known-false m ks (λ 
 -- the way has led to p, and every place where the state is lies on the way from there
 pub record Descends (cs : List Cell) (b : BranchList) (ks : List Kept) (s : MemoryState) (p bits : ℕ) : Type 0 where
   pub reaches : Reaches cs b ks (hashOf cs s) p bits
-  pub left : (k : Kept) → k ∈ ks → IsAt cs s (k .at) → Path cs (b .first) (b .top) p bits (k .at)
+  pub left : (k : Kept) → k ∈ ks → IsAt cs s (k .at) → OnPath cs (b .first) (b .top) p bits (k .at)
 
 -- of all that are remembered between two places
 pub record Searching (xs : List ℕ) (first top : ℕ) (s : MemoryState) (p bits : ℕ) : Type 0 where
@@ -98,8 +98,8 @@ module _ (xs : List ℕ) (first top : ℕ) (s : MemoryState) where
             subst (λ (q : ℕ). Descends cs b ks s q h) f
             (subst (λ (q : ℕ). Descends cs b ks s (b .first) q) (sym e)
             (record {
-              reaches = record { kept = root .kept; among = root .among; at = root .at; trail = start };
-              left = λ k m w. subst (λ (q : ℕ). Path cs (b .first) (b .top) (b .first) q (k .at)) (w .hash) (r .paths k m);
+              reaches = record { kept = root .kept; among = root .among; at = root .at; path = here };
+              left = λ k m w. subst (λ (q : ℕ). OnPath cs (b .first) (b .top) (b .first) q (k .at)) (w .hash) (r .paths k m);
             }));
       }
 
@@ -152,9 +152,9 @@ module _ (xs : List ℕ) (first top : ℕ) (s : MemoryState) where
                         kept = l .kept;
                         among = l .among;
                         at = l .at;
-                        trail = trail-more cs (b .first) (b .top) (d .reaches .trail) (omega (arith, lies .0)) (omega (arith, lies .1)) some;
+                        path = path-more cs (b .first) (b .top) (d .reaches .path) (omega (arith, lies .0)) (omega (arith, lies .1)) some;
                       };
-                  left = λ k m w. path-on cs (b .first) (b .top) (d .left k m w) (λ q. not-there cs s p test tests not (subst (IsAt cs s) (sym q) w)) .1;
+                  left = λ k m w. on-next cs (b .first) (b .top) (d .left k m w) (λ q. not-there cs s p test tests not (subst (IsAt cs s) (sym q) w)) .1;
                 });
           }
 
@@ -174,7 +174,7 @@ module _ (xs : List ℕ) (first top : ℕ) (s : MemoryState) where
                   let cs : List Cell = cells xs in
                   let d = so .says limit bound n b ks ws f t r in
                   record {
-                    none = λ k m w. path-on cs (b .first) (b .top) (d .left k m w) (λ q. not-there cs s p test tests not (subst (IsAt cs s) (sym q) w)) .0 (sym free);
+                    none = λ k m w. on-next cs (b .first) (b .top) (d .left k m w) (λ q. not-there cs s p test tests not (subst (IsAt cs s) (sym q) w)) .0 (sym free);
                     place = inr (record { reaches = d .reaches; free = sym free });
                   };
             }

@@ -52,10 +52,14 @@ abbrev pub Blocks : List Cell → ℕ → ℕ → ℕ → List Kept → Type 0
 Blocks cs n first top [] = top ≡ first
 Blocks cs n first top (k ∷ ks) = (k .at + 2 + usedAt cs (k .at) + countCells n ≡ top) × Blocks cs n first (k .at) ks
 
--- the search tree: from a place, by the bits of a hash, to another
-pub data Path (cs : List Cell) (first top : ℕ) : ℕ → ℕ → ℕ → Type 0 where
-  here : {p bits : ℕ} → Path cs first top p bits p
-  down : {p bits to : ℕ} → first ≤ p → p + 2 ≤ top → (child cs p bits ≡ 0 → ⊥) → Path cs first top (child cs p bits) (bits / 2) to → Path cs first top p bits to
+-- the search tree: the way from a place, by the bits of a hash, to another, with the bits that are left there
+pub data Path (cs : List Cell) (first top : ℕ) : ℕ → ℕ → ℕ → ℕ → Type 0 where
+  here : {p bits : ℕ} → Path cs first top p bits p bits
+  down : {p bits to left : ℕ} → first ≤ p → p + 2 ≤ top → (child cs p bits ≡ 0 → ⊥) → Path cs first top (child cs p bits) (bits / 2) to left → Path cs first top p bits to left
+
+pub record OnPath (cs : List Cell) (first top p bits to : ℕ) : Type 0 where
+  pub left : ℕ
+  pub path : Path cs first top p bits to left
 
 -- a link leads nowhere or to a later one
 pub record Later (ks : List Kept) (p q : ℕ) : Type 0 where
@@ -75,7 +79,7 @@ Waiting cs link (k ∷ ks) = (link ≡ k .at) × (nextAt cs (k .at) < k .at) × 
 pub record Remembers (limit bound n : ℕ) (xs : List ℕ) (b : BranchList) (ks ws : List Kept) : Type 0 where
   pub blocks : Blocks (cells xs) n (b .first) (b .top) ks
   pub kept : (k : Kept) → k ∈ ks → IsKept limit bound n xs k
-  pub paths : (k : Kept) → k ∈ ks → Path (cells xs) (b .first) (b .top) (b .first) (hashAt (cells xs) (k .at)) (k .at)
+  pub paths : (k : Kept) → k ∈ ks → OnPath (cells xs) (b .first) (b .top) (b .first) (hashAt (cells xs) (k .at)) (k .at)
   pub links : (k : Kept) → k ∈ ks → Links (cells xs) ks (k .at)
   pub waiting : Waiting (cells xs) (b .last) ws
   pub among : (k : Kept) → k ∈ ws → k ∈ ks

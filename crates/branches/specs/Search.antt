@@ -4,7 +4,7 @@ use mathlib.Core.Path.{_≡_}
 use mathlib.Core.Logic.{_⊎_}
 use mathlib.Core.Bool.{Bool, true}
 use mathlib.Core.List.{List, []}
-use Prim.Native.Nat.{ℕ, _+_, _/_, _≤_}
+use Prim.Native.Nat.{ℕ, _+_, _≤_}
 use lib.ListN.{length}
 use Rattle.model.specs.Walk.{_∈_}
 use Rattle.area.specs.Cells.{cells}
@@ -13,7 +13,7 @@ use Rattle.intmap.specs.Map.{runsAt, IsMap}
 use Rattle.state.specs.declared.MemoryState.{MemoryState}
 use Rattle.branches.specs.Header.{hashAt, rowAt, child, stateAt}
 use Rattle.branches.specs.Hash.{hashOf}
-use Rattle.branches.specs.Entries.{Kept, Remembers, Remembering}
+use Rattle.branches.specs.Entries.{Kept, Path, Remembers, Remembering}
 use Rattle.branches.specs.declared.BranchList.{BranchList}
 use Rattle.branches.specs.declared.Place.{Place}
 use Rattle.branches.specs.declared.Place.the-variants as place
@@ -34,17 +34,12 @@ pub record Tests (cs : List Cell) (s : MemoryState) (p : ℕ) (r : Bool) : Type 
   pub sound : r ≡ true → IsAt cs s p
   pub complete : IsAt cs s p → r ≡ true
 
--- the way down from a place by the bits of a hash, to another, with the bits that are left there
-pub data Trail (cs : List Cell) (first top : ℕ) : ℕ → ℕ → ℕ → ℕ → Type 0 where
-  start : {p bits : ℕ} → Trail cs first top p bits p bits
-  on : {p bits q left : ℕ} → first ≤ p → p + 2 ≤ top → (child cs p bits ≡ 0 → ⊥) → Trail cs first top (child cs p bits) (bits / 2) q left → Trail cs first top p bits q left
-
 -- the way of a hash h leads to the one at p
 pub record Reaches (cs : List Cell) (b : BranchList) (ks : List Kept) (h p bits : ℕ) : Type 0 where
   pub kept : Kept
   pub among : kept ∈ ks
   pub at : kept .at ≡ p
-  pub trail : Trail cs (b .first) (b .top) (b .first) h p bits
+  pub path : Path cs (b .first) (b .top) (b .first) h p bits
 
 -- one of them is s
 pub record Known (cs : List Cell) (ks : List Kept) (s : MemoryState) : Type 0 where
