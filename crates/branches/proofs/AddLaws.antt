@@ -27,8 +27,7 @@ use Rattle.branches.specs.Hash.{hashOf}
 use Rattle.branches.specs.Entries.{Kept, states, Counted, countCells, IsKept, Blocks, here, OnPath, Later, Links, Waiting, Remembers}
 use Rattle.branches.specs.Lists.{unitsFor, Pushes}
 use Rattle.branches.specs.Search.{Known, Ends, Searches}
-use Rattle.branches.specs.Changes as changes
-use Rattle.branches.specs.Changes.{Pushable, Savable, Saves, Linkable, Linked}
+use Rattle.branches.specs.Changes.{Pushable, Savable, Saves, Linkable, Linked, Connects}
 use Rattle.branches.specs.declared.BranchList.{BranchList}
 use Rattle.branches.specs.declared.Pushed.the-variants as pushed
 use Rattle.branches.specs.declared.Place.the-variants as place
@@ -111,7 +110,7 @@ module _
     (is : h ≡ hashOf (cells xs) s)
     (fits : endOf n b s ≤ length (cells xs))
     (saves : Saves n xs us (b .top) s h (b .last) counts)
-    (links : changes.Links us ys at bits (b .top))
+    (links : Connects us ys at bits (b .top))
     (small : Bytes xs)
     (less : Bytes us)
     (few : Bytes ys)
@@ -343,7 +342,7 @@ module _ (limit n counts : ℕ) (xs : List ℕ) (b : BranchList) (s : MemoryStat
         (ys : List ℕ) →
         h ≡ hashOf (cells xs) s →
         endOf n b s ≤ length xs / 16 →
-        changes.Links us ys at bits (b .top) →
+        Connects us ys at bits (b .top) →
         Bytes xs →
         Bytes us →
         Bytes ys →

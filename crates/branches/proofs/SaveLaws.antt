@@ -25,7 +25,7 @@ use Rattle.state.specs.declared.MemoryState.{MemoryState}
 use Rattle.branches.specs.Header.{half, sizesWord, linksAt, rowAt, child, usedAt, stateAt}
 use Rattle.branches.specs.Entries.{Counted, countCells}
 use Rattle.branches.specs.Lists.{Loads}
-use Rattle.branches.specs.Changes.{Savable, Saves, Linkable, Links, Loadable}
+use Rattle.branches.specs.Changes.{Savable, Saves, Linkable, Connects, Loadable}
 use Rattle.branches.proofs.HeaderLaws.{child-even, child-odd}
 use Rattle.branches.proofs.RememberLaws.{Bytes, counted-same}
 
@@ -103,6 +103,14 @@ module _
         }
 
 -- ---- link
+
+-- the half of the links' word that is free is 0
+pub even-free : (xs : List ℕ) (p bits q : ℕ) (c : Cell) → Linkable xs p bits q → (p ≡ 0 → ⊥) → c ≡ getD (cells xs) (p + 1) blank → bits % 2 ≡ 0 → c .head % half ≡ 0
+even-free xs p bits q c ok some read even = ap (λ (d : Cell). d .head % half) read ∙ sym (child-even (cells xs) p bits even) ∙ ok .free some
+
+pub odd-free : (xs : List ℕ) (p bits q : ℕ) (c : Cell) → Linkable xs p bits q → (p ≡ 0 → ⊥) → c ≡ getD (cells xs) (p + 1) blank → (bits % 2 ≡ 0 → ⊥) → c .head / half ≡ 0
+odd-free xs p bits q c ok some read odd = ap (λ (d : Cell). d .head / half) read ∙ sym (child-odd (cells xs) p bits odd) ∙ ok .free some
+
 module _ (xs ys : List ℕ) (p bits q w : ℕ) (c : Cell) (ok : Linkable xs p bits q) (some : p ≡ 0 → ⊥) (read : c ≡ getD (cells xs) (p + 1) blank) (put : CellsNow xs ys (set (cells xs) (p + 1) (cell w (c .payload)))) where
   written : getD (cells ys) (p + 1) blank ≡ cell w (c .payload)
   written = ap (λ (l : List Cell). getD l (p + 1) blank) (put .cells) ∙ getD-set-same (cells xs) (p + 1) _ blank (omega (arith, ok .header))
@@ -113,7 +121,7 @@ module _ (xs ys : List ℕ) (p bits q w : ℕ) (c : Cell) (ok : Linkable xs p bi
   links-then : linksAt (cells xs) p ≡ c .head
   links-then = ap (λ (d : Cell). d .head) (sym read)
 
-  finish : ((b : ℕ) → (b % 2 ≡ bits % 2 → ⊥) → child (cells ys) p b ≡ child (cells xs) p b) → ((b : ℕ) → b % 2 ≡ bits % 2 → child (cells ys) p b ≡ q) → Links xs ys p bits q
+  finish : ((b : ℕ) → (b % 2 ≡ bits % 2 → ⊥) → child (cells ys) p b ≡ child (cells xs) p b) → ((b : ℕ) → b % 2 ≡ bits % 2 → child (cells ys) p b ≡ q) → Connects xs ys p bits q
   finish other alike =
       record {
         none = λ e. absurd (some e);
@@ -128,30 +136,23 @@ module _ (xs ys : List ℕ) (p bits q w : ℕ) (c : Cell) (ok : Linkable xs p bi
         bytes = put .bytes;
       }
 
-  pub linked-even : bits % 2 ≡ 0 → w ≡ c .head + q → Links xs ys p bits q
+  pub linked-even : bits % 2 ≡ 0 → w ≡ c .head + q → Connects xs ys p bits q
   linked-even even e =
-      let free : c .head % half ≡ 0 = ap (λ (x : ℕ). x % half) (sym links-then) ∙ sym (child-even (cells xs) p bits even) ∙ ok .free some in
+      let free : c .head % half ≡ 0 = even-free xs p bits q c ok some read even in
       let small = ok .place in
       finish
       (λ b ne. child-odd (cells ys) p b (λ z. ne (z ∙ sym even)) ∙ ap (λ (x : ℕ). x / half) (links-now ∙ e) ∙ omega arith ∙ ap (λ (x : ℕ). x / half) (sym links-then) ∙ sym (child-odd (cells xs) p b (λ z. ne (z ∙ sym even))))
       (λ b z. child-even (cells ys) p b (z ∙ even) ∙ ap (λ (x : ℕ). x % half) (links-now ∙ e) ∙ omega arith)
 
-  pub linked-odd : (bits % 2 ≡ 0 → ⊥) → w ≡ c .head + half * q → Links xs ys p bits q
+  pub linked-odd : (bits % 2 ≡ 0 → ⊥) → w ≡ c .head + half * q → Connects xs ys p bits q
   linked-odd odd e =
-      let free : c .head / half ≡ 0 = ap (λ (x : ℕ). x / half) (sym links-then) ∙ sym (child-odd (cells xs) p bits odd) ∙ ok .free some in
+      let free : c .head / half ≡ 0 = odd-free xs p bits q c ok some read odd in
       finish
       (λ b ne. let z : b % 2 ≡ 0 = omega (arith, ne) in child-even (cells ys) p b z ∙ ap (λ (x : ℕ). x % half) (links-now ∙ e) ∙ omega arith ∙ ap (λ (x : ℕ). x % half) (sym links-then) ∙ sym (child-even (cells xs) p b z))
       (λ b z. child-odd (cells ys) p b (λ y. odd (sym z ∙ y)) ∙ ap (λ (x : ℕ). x / half) (links-now ∙ e) ∙ omega arith)
 
-pub linked-none : (xs : List ℕ) (p bits q : ℕ) → p ≡ 0 → Links xs xs p bits q
+pub linked-none : (xs : List ℕ) (p bits q : ℕ) → p ≡ 0 → Connects xs xs p bits q
 linked-none xs p bits q e = record { none = λ z. refl; linked = λ ne. absurd (ne e); bytes = refl }
-
--- the word does not overflow
-pub even-fits : (xs : List ℕ) (p bits q : ℕ) (c : Cell) → Linkable xs p bits q → (p ≡ 0 → ⊥) → c ≡ getD (cells xs) (p + 1) blank → bits % 2 ≡ 0 → c .head % half ≡ 0
-even-fits xs p bits q c ok some read even = ap (λ (d : Cell). d .head % half) read ∙ sym (child-even (cells xs) p bits even) ∙ ok .free some
-
-pub odd-fits : (xs : List ℕ) (p bits q : ℕ) (c : Cell) → Linkable xs p bits q → (p ≡ 0 → ⊥) → c ≡ getD (cells xs) (p + 1) blank → (bits % 2 ≡ 0 → ⊥) → c .head / half ≡ 0
-odd-fits xs p bits q c ok some read odd = ap (λ (d : Cell). d .head / half) read ∙ sym (child-odd (cells xs) p bits odd) ∙ ok .free some
 
 -- ---- load: bs is the area with the map copied
 module _

@@ -84,6 +84,11 @@ pub record Lies (xs : List ℕ) (first top p : ℕ) : Type 0 where
   pub map : HasMap xs p
   pub small : length (cells xs) ≤ 1048576
 
+-- a link that leads somewhere leads to a later place
+later : (ks : List Kept) (p q : ℕ) → (q ≡ 0 → ⊥) → (q ≡ 0) ⊎ Later ks p q → Later ks p q
+later ks p q ne (inl e) = absurd (ne e)
+later ks p q ne (inr l) = l
+
 -- the test's answer
 not-there : (cs : List Cell) (s : MemoryState) (p : ℕ) (r : Bool) → Tests cs s p r → r ≡ false → IsAt cs s p → ⊥
 not-there cs s p r t e w = false≢true (sym e ∙ t .complete w)
@@ -118,16 +123,12 @@ module _ (xs : List ℕ) (first top : ℕ) (s : MemoryState) where
           small = r .small;
         }
 
-    -- a link leads to a later place
-    later : (cs : List Cell) (ks : List Kept) (q : ℕ) → (q ≡ 0 → ⊥) → (q ≡ 0) ⊎ Later ks p q → Later ks p q
-    later cs ks q ne (inl e) = absurd (ne e)
-    later cs ks q ne (inr l) = l
-
     module _ (limit bound n : ℕ) (b : BranchList) (ks ws : List Kept) (f : b .first ≡ first) (t : b .top ≡ top) (r : Remembers limit bound n xs b ks ws) (ne : child (cells xs) p bits ≡ 0 → ⊥) where
+      -- the link of the place leads to a later one
       pub link-later : Later ks p (child (cells xs) p bits)
       link-later =
           let d = so .says limit bound n b ks ws f t r .reaches in
-          later (cells xs) ks (child (cells xs) p bits) ne
+          later ks p (child (cells xs) p bits) ne
           (subst (λ (q : ℕ). (child (cells xs) q bits ≡ 0) ⊎ Later ks q (child (cells xs) q bits)) (d .at) (r .links (d .kept) (d .among) bits))
 
     pub search-later : (b : BranchList) → b .first ≡ first → b .top ≡ top → SomeRemembering xs b → (next : ℕ) → next ≡ child (cells xs) p bits → (next ≡ 0 → ⊥) → p < next

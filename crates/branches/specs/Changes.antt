@@ -57,7 +57,7 @@ pub record Linked (cs ds : List Cell) (p bits q : ℕ) : Type 0 where
   pub long : length ds ≡ length cs
 
 -- at place 0 there is none, and nothing is changed
-pub record Links (xs ys : List ℕ) (p bits q : ℕ) : Type 0 where
+pub record Connects (xs ys : List ℕ) (p bits q : ℕ) : Type 0 where
   pub none : p ≡ 0 → cells ys ≡ cells xs
   pub linked : (p ≡ 0 → ⊥) → Linked (cells xs) (cells ys) p bits q
   pub bytes : length ys ≡ length xs

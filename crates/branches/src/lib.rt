@@ -9,7 +9,7 @@ ghost use Rattle.branches.specs.Entries.{none};
 ghost use Rattle.branches.specs.Lists.{Pushes, Loads};
 ghost use Rattle.branches.specs.Search.{HasMap, Tests, Searches, SomeRemembering};
 ghost use Rattle.branches.specs.declared.Place.the-variants as place;
-ghost use Rattle.branches.specs.Changes.{Pushable, Savable, Saves, Linkable, Links, Latest, PopsAny, Loadable};
+ghost use Rattle.branches.specs.Changes.{Pushable, Savable, Saves, Linkable, Connects, Latest, PopsAny, Loadable};
 use area::Cell;
 use intmap::IntMap;
 use state::MemoryState;
@@ -158,7 +158,7 @@ fn save(area: &mut [u8], p: usize, s: MemoryState, h: u64, next: usize, counts: 
 // Makes the free link of the state at p, by the lowest of the bits, lead to q. At 0 there is none.
 fn link(area: &mut [u8], p: usize, bits: u64, q: usize)
     requires { ⌜ Linkable (now area) p bits q ⌝ }
-    ensures { λ _. ⌜ Links (now (area .entry)) (now (area .exit)) p bits q ⌝ }
+    ensures { λ _. ⌜ Connects (now (area .entry)) (now (area .exit)) p bits q ⌝ }
 {
     if p == 0 {
         return;

@@ -2,7 +2,7 @@
 use mathlib.Core.Path.{refl}
 use native.Mathlib.Omega.{arith}
 use borrow.Author.Needs.{needs}
-use Rattle.branches.proofs.SaveLaws.{linked-even, linked-odd, linked-none, even-fits, odd-fits}
+use Rattle.branches.proofs.SaveLaws.{linked-even, linked-odd, linked-none, even-free, odd-free}
 use Rattle.branches.proofs.link.Statement.{statement}
 use Rattle.branches.proofs.link.Tie as tie
 
@@ -19,7 +19,7 @@ add-put-cell : tie.Need-add-put-cell
 add-put-cell c = search needs
 
 add-t17 : tie.Need-add-t17
-add-t17 c = omega (arith, even-fits (c .before .before .before .before .before .before .args .area .now) _ _ _ _ (c .before .before .before .before .before .before .pre) (c .before .before .before .before .if1 .left) (c .before .before .cell-at .ensures) (c .before .if2 .taken), c .before .before .before .before .before .before .pre .place)
+add-t17 c = omega (arith, even-free (c .before .before .before .before .before .before .args .area .now) _ _ _ _ (c .before .before .before .before .before .before .pre) (c .before .before .before .before .if1 .left) (c .before .before .cell-at .ensures) (c .before .if2 .taken), c .before .before .before .before .before .before .pre .place)
 
 put-cell-requires : tie.Need-put-cell-requires
 put-cell-requires c κs = search needs
@@ -37,7 +37,7 @@ mul-t12 : tie.Need-mul-t12
 mul-t12 c = search needs
 
 add-t22 : tie.Need-add-t22
-add-t22 c = omega (arith, odd-fits (c .before .before .before .before .before .before .args .area .now) _ _ _ _ (c .before .before .before .before .before .before .pre) (c .before .before .before .before .if1 .left) (c .before .before .cell-at .ensures) (c .before .if2 .left), c .before .before .before .before .before .before .pre .place)
+add-t22 c = omega (arith, odd-free (c .before .before .before .before .before .before .args .area .now) _ _ _ _ (c .before .before .before .before .before .before .pre) (c .before .before .before .before .if1 .left) (c .before .before .cell-at .ensures) (c .before .if2 .left), c .before .before .before .before .before .before .pre .place)
 
 put-cell-requires-2 : tie.Need-put-cell-requires-2
 put-cell-requires-2 c κs = search needs
