@@ -1,0 +1,9 @@
+pub mod HeaderLaws
+pub mod HashLaws
+pub mod BlockLaws
+pub mod PathLaws
+pub mod RememberLaws
+pub mod SearchLaws
+pub mod SaveLaws
+pub mod AddLaws
+pub mod PopLaws

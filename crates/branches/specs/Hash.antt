@@ -1,0 +1,23 @@
+-- A hash of a state: its row and the cells of its map, word after word. Nothing is claimed of it but that it is a function of them: it only
+-- decides where a state is looked for. Assumes nothing.
+use mathlib.Core.List.{List, [], _∷_}
+use Prim.Native.Nat.{ℕ, _+_, _*_, _/_, _%_}
+use Rattle.area.specs.declared.Cell.{Cell}
+use Rattle.intmap.specs.Entries.{span}
+use Rattle.state.specs.declared.MemoryState.{MemoryState}
+use Rattle.branches.specs.Header.{half}
+
+-- one step of a multiplication with carry
+abbrev pub stir : ℕ → ℕ
+stir s = s % half * 4294967291 + s / half
+
+-- a word goes in
+unfoldable pub mix : ℕ → ℕ → ℕ
+mix h x = stir ((h + x) % 18446744073709551616)
+
+unfoldable pub mixCells : ℕ → List Cell → ℕ
+mixCells h [] = h
+mixCells h (c ∷ cs) = mixCells (mix (mix h (c .head)) (c .payload)) cs
+
+unfoldable pub hashOf : List Cell → MemoryState → ℕ
+hashOf cs s = mixCells (mix 0 (s .row)) (span cs (s .map .base) (s .map .used))
