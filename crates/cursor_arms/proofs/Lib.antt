@@ -3,3 +3,4 @@ pub mod CursorLaws
 pub mod DupLaws
 pub mod TableLaws
 pub mod DeleteLaws
+pub mod StandsLaws
