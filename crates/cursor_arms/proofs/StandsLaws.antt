@@ -69,7 +69,7 @@ module _ (cs : List Cell) (a : IntMap) (class k key : ℕ) (ke : key ≡ classKe
   entry-none e = ap (λ b. pick b (slot.At (w .at)) slot.Absent) (sym e) ∙ ap (λ (v : Found). pick (v .present) (slot.At (v .at)) slot.Absent) same-found
 
 -- which of a slot's cases it is, as a number
-abbrev case : Slot → ℕ
+abbrev pub case : Slot → ℕ
 case (slot.Bad n) = 0
 case slot.Absent = 1
 case (slot.At p) = 2
@@ -91,13 +91,16 @@ module _ (cs : List Cell) (a : IntMap) (class k : ℕ) where
       go true h s = record { present = h; at = cc }
       go false h s = absurd (omega (arith, ap case s))
 
-  pub led-nowhere : entrySlot cs a class k ≡ slot.Absent → seek cs levels (classKey class k) (a .len) (a .base) .present ≡ false
+  pub not-led : (case (entrySlot cs a class k) ≡ 2 → ⊥) → seek cs levels (classKey class k) (a .len) (a .base) .present ≡ false
   unfolding entrySlot
-  led-nowhere e = go (search-led .present) refl e
+  not-led h = go (search-led .present) refl h
     where
-      go : (b : Bool) → search-led .present ≡ b → pick b (slot.At (search-led .at)) slot.Absent ≡ slot.Absent → search-led .present ≡ false
-      go true h s = absurd (omega (arith, ap case s))
-      go false h s = h
+      go : (b : Bool) → search-led .present ≡ b → (case (pick b (slot.At (search-led .at)) slot.Absent) ≡ 2 → ⊥) → search-led .present ≡ false
+      go true e h = absurd (h refl)
+      go false e h = e
+
+  pub led-nowhere : entrySlot cs a class k ≡ slot.Absent → seek cs levels (classKey class k) (a .len) (a .base) .present ≡ false
+  led-nowhere e = not-led (λ q. omega (arith, ap case e, q))
 
   pub led-bad : (n : ℕ) → entrySlot cs a class k ≡ slot.Bad n → ⊥
   unfolding entrySlot
@@ -158,7 +161,7 @@ module _ (cs : List Cell) (x : Slot) where
 
 -- ---- of a state that the map holds
 
-done-same : {A : Type 0} {u v : A} → done u ≡ done v → u ≡ v
+pub done-same : {A : Type 0} {u v : A} → done u ≡ done v → u ≡ v
 done-same e = cc
 
 opened : (cs : List Cell) (p n : ℕ) → 0 < n → getD cs p blank ∷ span cs (p + 1) (n - 1) ≡ span cs p n

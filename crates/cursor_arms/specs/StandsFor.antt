@@ -12,12 +12,12 @@ use Rattle.model.specs.IntMap.{get}
 use Rattle.model.specs.State.{Columns, CursorDataType as Cursor, Normal, Pseudo, TableDataType, MemoryState}
 use Rattle.model.specs.Cells.{columnsDepth}
 use Rattle.model.specs.Access.{_>>=_, index}
-use Rattle.model.specs.Cursor.{cursorColumns, cursorIsEmpty}
+use Rattle.model.specs.Cursor.{cursorColumns, cursorIsEmpty, updateCursorTable}
 use Rattle.model.specs.Good.{SortedColumns, GoodTable}
 use Rattle.area.specs.Cells.{blank}
 use Rattle.area.specs.declared.Cell.{Cell}
 use Rattle.intmap.specs.Find.{seek}
-use Rattle.intmap.specs.Map.{levels}
+use Rattle.intmap.specs.Map.{levels, HasRoom, Frame}
 use Rattle.intmap.specs.Pack.{tagOf, nullableOf, classKey}
 use Rattle.intmap.specs.Pick.{pick}
 use Rattle.intmap.specs.Signed.{intOf}
@@ -133,3 +133,9 @@ pub record FindsColumns (cs : List Cell) (a : IntMap) (c : CursorDataType) (r : 
 pub record TellsEmpty (cs : List Cell) (a : IntMap) (c : CursorDataType) (r : ℕ) : Type 0 where
   pub says : (limit bound : ℕ) (m : MemoryState) → HoldsMap limit bound cs a m → (o : Option Cursor) → TellsCursor bound c (done o) → r ≡ nullableCode (emptinessOf o m)
   pub refused : (n : ℕ) → c ≡ cursor.Bad n → r ≡ 0
+
+-- its table is changed by f where it stands, if it has one; the map takes the same cells
+pub record CursorTableChanged (f : TableDataType → TableDataType) (cs ds : List Cell) (a : IntMap) (c : CursorDataType) : Type 0 where
+  pub holds : (limit bound : ℕ) (m : MemoryState) → HoldsMap limit bound cs a m → (o : Option Cursor) → TellsCursor bound c (done o) → HoldsMap limit bound ds a (updateCursorTable f o m)
+  pub room : (limit : ℕ) → HasRoom cs limit a → HasRoom ds limit a
+  pub frame : Frame cs ds (a .base) (a .used)

@@ -3,9 +3,11 @@
 // Translated from sqlx-sqlite 0.9.0, src/connection/explain.rs.
 ghost use mathlib.Core.Path.{_≡_};
 ghost use Prim.Native.Nat.{ℕ, _<_, _≤_};
-ghost use lib.ListN.{length};
+ghost use lib.ListN.{length, getD};
+ghost use mathlib.Core.Option.{none};
 ghost use Rattle.model.specs.State.{Normal, Pseudo};
 ghost use Rattle.model.specs.Access.{index, storeCursor};
+ghost use Rattle.model.specs.Cursor.{setEmpty};
 ghost use Rattle.model.specs.CursorArms.{emptyAfterDelete, afterDelete};
 ghost use Rattle.model.specs.Operation.{opOpenPseudo, opOpenDup, opDelete};
 ghost use Rattle.area.specs.Cells.{cells};
@@ -13,12 +15,12 @@ ghost use Rattle.intmap.specs.Pack.{withNullable};
 ghost use Rattle.intmap.specs.Map.{IsMap};
 ghost use Rattle.intmap.specs.Signed.{intOf};
 ghost use Rattle.encoding.specs.Encode.{nullableCode};
-ghost use Rattle.encoding.specs.Decode.{nullableIn};
+ghost use Rattle.encoding.specs.Decode.{nullableIn, nullables};
 ghost use Rattle.rows.specs.Rows.{Operand, Fits};
 ghost use Rattle.state.specs.Leads.{Current, Leads};
 ghost use Rattle.state.specs.Arms.{CursorArm};
 ghost use Rattle.cursor_arms.specs.Cursors.{cursorIn, RowWithin, ReadsCursor, TableChanged};
-ghost use Rattle.cursor_arms.specs.StandsFor.{entrySlot, registerSlot, headSlot, emptyIn, SlotWithin, FindsTable, FindsColumns, TellsEmpty};
+ghost use Rattle.cursor_arms.specs.StandsFor.{entrySlot, registerSlot, headSlot, emptyIn, SlotWithin, FindsTable, FindsColumns, TellsEmpty, CursorTableChanged};
 use area::Cell;
 use intmap::Index;
 use intmap::IntMap;
@@ -203,6 +205,22 @@ impl CursorDataType {
             CursorDataType::Absent => MAYBE_EMPTY,
             CursorDataType::Normal(row) => empty_at(area, entry_at(map, area, TABLES, row)),
             CursorDataType::Pseudo(_) => NEVER_EMPTY,
+        }
+    }
+
+    // Sets whether its table is empty, if it has one.
+    pub fn set_empty(self, map: IntMap, area: &mut [u8], empty: u64)
+        requires { ⌜ IsMap (cells (now area)) map × RowWithin self × (empty < 3) ⌝ }
+        ensures { λ _. ⌜ CursorTableChanged (setEmpty (getD nullables empty none)) (cells (now (area .entry))) (cells (now (area .exit))) map self ⌝ }
+    {
+        let x = self.table(map, area);
+        match x {
+            Slot::Bad(_) => {}
+            Slot::Absent => {}
+            Slot::At(at) => {
+                let c = intmap::with_nullable(area::cell_at(area, at), empty);
+                area::put_cell(area, at, c);
+            }
         }
     }
 }
