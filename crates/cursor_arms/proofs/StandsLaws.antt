@@ -11,11 +11,11 @@ use lib.ListN.{length, getD}
 use borrow.Author.Tests.{eq-eqb, ne-eqb, eqb-true, eqb-false}
 use Rattle.model.specs.Walk.{Tried, refused, done}
 use Rattle.model.specs.IntMap.{get}
-use Rattle.model.specs.State.{Single, Record, Columns, RegDataType, Column, Int, CursorDataType as Cursor, Normal, Pseudo, TableDataType, MemoryState}
-use Rattle.model.specs.Cells.{columnDepth, columnsDepth, registerDepth}
+use Rattle.model.specs.State.{Single, Record, RegDataType, Column, Int, CursorDataType as Cursor, Normal, Pseudo, TableDataType, MemoryState}
+use Rattle.model.specs.Cells.{columnDepth, registerDepth}
 use Rattle.model.specs.Access.{_>>=_, index, readRegister}
 use Rattle.model.specs.Cursor.{recordOf, tableColumns, cursorColumns, tableIsEmpty, cursorIsEmpty}
-use Rattle.model.specs.Good.{SortedColumn, GoodRegister, GoodTable}
+use Rattle.model.specs.Good.{SortedColumn, GoodRegister}
 use Rattle.model.proofs.Tried.{Kept, value}
 use Rattle.model.proofs.Access.{index-small}
 use Rattle.area.specs.Cells.{cell, blank}
@@ -40,7 +40,7 @@ use Rattle.intmap.proofs.PackLaws.{head-nullable}
 use Rattle.intmap.proofs.RunLaws.{size-pos}
 use Rattle.intmap.proofs.Swapped.{seek-some, seek-none}
 use Rattle.encoding.specs.Encode.{nullableCode, count, runColumn, runColumns, runRegister, runTable}
-use Rattle.encoding.specs.Holds.{Stands, SmallRegister}
+use Rattle.encoding.specs.Holds.{SmallRegister}
 use Rattle.encoding.proofs.Accesses.{apart}
 use Rattle.encoding.proofs.BySearch.{search-no-table}
 use Rattle.encoding.proofs.Reading.{register-record}
