@@ -37,7 +37,7 @@ use Rattle.intmap.specs.declared.Slot.the-variants as slot
 use Rattle.intmap.proofs.EntryLaws.{length-span}
 use Rattle.intmap.proofs.FindLaws.{found-within, found-whole}
 use Rattle.intmap.proofs.PackLaws.{head-nullable}
-use Rattle.intmap.proofs.RunLaws.{size-pos}
+use Rattle.intmap.proofs.RunLaws.{size-pos, size-record}
 use Rattle.intmap.proofs.Swapped.{seek-some, seek-none}
 use Rattle.encoding.specs.Encode.{nullableCode, count, runColumn, runColumns, runRegister, runTable}
 use Rattle.encoding.specs.Holds.{SmallRegister}
@@ -197,7 +197,7 @@ module _ {limit bound : ℕ} {cs : List Cell} {a : IntMap} {m : MemoryState} (h 
           below = omega (arith, long, inside .1);
         })
 
-    table-tells : (s : Slot) → entrySlot cs a 2 row ≡ s → TellsTable cs a s (done (get row (m .t)))
+    pub table-tells : (s : Slot) → entrySlot cs a 2 row ≡ s → TellsTable cs a s (done (get row (m .t)))
     table-tells (slot.Bad n) e = absurd (led-bad cs a 2 row n e)
     table-tells slot.Absent e = ap done (search-no-table h row (led-nowhere cs a 2 row e))
     table-tells (slot.At p) e = table-at p (led-at cs a 2 row p e)
@@ -210,7 +210,7 @@ module _ {limit bound : ℕ} {cs : List Cell} {a : IntMap} {m : MemoryState} (h 
     table-head : getD cs p blank ≡ cell (head 2 0 (nullableCode (t .table .isEmpty)) (t .key)) (count (t .table .cols))
     table-head = stands-head cs p _ (runColumns (t .table .cols)) (unfold runTable in t .stands)
 
-    table-tag : tagOf (getD cs p blank) ≡ 2
+    pub table-tag : tagOf (getD cs p blank) ≡ 2
     table-tag = omega (arith, ap (λ (c : Cell). c .head) table-head)
 
     table-emptiness : nullableOf (getD cs p blank) ≡ nullableCode (tableIsEmpty o)
@@ -386,3 +386,39 @@ module _ (cs : List Cell) (a : IntMap) (c : CursorDataType) where
         says = λ limit bound m h o told. ap (λ u. nullableCode (emptinessOf u m)) (sym (done-same (told-as bound (done o) (cursor.Pseudo w) e told .answer)));
         refused = λ k f. absurd (omega (arith, ap variant (sym e ∙ f)));
       }
+
+-- ---- where the columns lie
+
+-- a head that was found in a class, and its columns within the map
+module _ (cs : List Cell) (a : IntMap) (is : IsMap cs a) (p : ℕ) where
+  pub record HeadLed : Type 0 where
+    pub tag : tagOf (getD cs p blank) ≡ 2
+    pub above : a .base ≤ p
+    pub below : p + 1 + sizes (size cs 8) (getD cs p blank .payload) (p + 1) ≤ a .base + a .used
+
+  head-led : (class k : ℕ) (s : Slot) → entrySlot cs a class k ≡ s → headSlot cs s ≡ slot.At p → HeadLed
+  head-led class k (slot.Bad n) e h = absurd (omega (arith, ap case h))
+  head-led class k slot.Absent e h = absurd (omega (arith, ap case h))
+  head-led class k (slot.At q) e h = go (eqb (tagOf (getD cs q blank)) 2) refl h
+    where
+      go : (b : Bool) → eqb (tagOf (getD cs q blank)) 2 ≡ b → pick b (slot.At q) slot.Absent ≡ slot.At p → HeadLed
+      go false t f = absurd (omega (arith, ap case f))
+      go true t f =
+          let same : q ≡ p = cc in
+          let inside = led-inside cs a class k p (is .used) (led-at cs a class k p (e ∙ ap slot.At same)) in
+          let tag : tagOf (getD cs p blank) ≡ 2 = subst (λ y. tagOf (getD cs y blank) ≡ 2) same (eqb-true (tagOf (getD cs q blank)) 2 t) in
+          record { tag = tag; above = inside .0; below = omega (arith, inside .1, size-record cs 9 p (getD cs p blank) refl (omega arith) tag) }
+
+  pub columns-led : (c : CursorDataType) (r : Slot) → FindsColumns cs a c r → r ≡ slot.At p → HeadLed
+  unfolding registerSlot
+  columns-led c r finds e = go c (sym (finds .place) ∙ e)
+    where
+      register : (t : Tried ℕ) → headSlot cs (registerSlot cs a t) ≡ slot.At p → HeadLed
+      register (refused n) h = absurd (omega (arith, ap case h))
+      register (done k) h = head-led 0 k (entrySlot cs a 0 k) refl h
+
+      go : (d : CursorDataType) → columnsSlot cs a d ≡ slot.At p → HeadLed
+      go (cursor.Bad n) h = absurd (omega (arith, ap case h))
+      go cursor.Absent h = absurd (omega (arith, ap case h))
+      go (cursor.Normal row) h = head-led 2 row (entrySlot cs a 2 row) refl h
+      go (cursor.Pseudo w) h = register (index (intOf w)) h

@@ -50,7 +50,7 @@ maybe-empty (suc (suc (suc n))) h = refl
 
 -- ---- sizes, where tags and payloads are the same
 
-sizes-alike : (f g : ℕ → ℕ) → ((p : ℕ) → g p ≡ f p) → (n p : ℕ) → sizes g n p ≡ sizes f n p
+pub sizes-alike : (f g : ℕ → ℕ) → ((p : ℕ) → g p ≡ f p) → (n p : ℕ) → sizes g n p ≡ sizes f n p
 unfolding sizes
 sizes-alike f g e zero p = refl
 sizes-alike f g e (suc n) p = ap₂ (λ x y. x + y) (e p) (sizes-alike f g e n (p + g p) ∙ ap (λ q. sizes f n (p + q)) (e p))
@@ -61,7 +61,7 @@ whole-alike f g e true n p = ap (λ x. 1 + x) (sizes-alike f g e n (p + 1))
 whole-alike f g e false n p = refl
 
 module _ (cs ds : List Cell) (tags : (p : ℕ) → tagOf (getD ds p blank) ≡ tagOf (getD cs p blank)) (loads : (p : ℕ) → getD ds p blank .payload ≡ getD cs p blank .payload) where
-  size-alike : (d p : ℕ) → size ds d p ≡ size cs d p
+  pub size-alike : (d p : ℕ) → size ds d p ≡ size cs d p
   unfolding size
   size-alike zero p = refl
   size-alike (suc d) p =

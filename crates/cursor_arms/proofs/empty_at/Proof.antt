@@ -1,3 +1,4 @@
+-- `cursor_arms::empty_at` reads the head. Assumes nothing.
 use Rattle.cursor_arms.proofs.StandsLaws.{slot-within, empty-there}
 use mathlib.Core.Path.{_∙_}
 use native.Mathlib.Omega.{arith}

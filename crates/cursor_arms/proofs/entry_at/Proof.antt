@@ -1,3 +1,4 @@
+-- `cursor_arms::entry_at` looks for the key. Assumes nothing.
 use Rattle.cursor_arms.proofs.StandsLaws.{entry-there, entry-none}
 use borrow.Author.Needs.{needs}
 use Rattle.cursor_arms.proofs.entry_at.Statement.{statement}

@@ -1,3 +1,4 @@
+-- `cursor_arms::head_at` asks for the tag. Assumes nothing.
 use Rattle.cursor_arms.proofs.StandsLaws.{slot-within, head-there, head-not}
 use Rattle.cursor_arms.specs.StandsFor.{headSlot}
 use mathlib.Core.Path.{sym, ap, _∙_}

@@ -1,3 +1,4 @@
+-- `cursor_arms::register_at` judges the index first. Assumes nothing.
 use Rattle.cursor_arms.proofs.StandsLaws.{judged-bad, judged-small, judged-at}
 use native.Mathlib.Omega.{arith}
 use borrow.Author.Needs.{needs}

@@ -1,3 +1,4 @@
+-- `cursor_arms::CursorDataType::columns` goes by the kind of cursor. Assumes nothing.
 use Rattle.cursor_arms.proofs.StandsLaws.{row-small, entry-within, register-within, columns-bad, columns-absent, columns-normal, columns-pseudo}
 use native.Mathlib.Omega.{arith}
 use borrow.Author.Needs.{needs}

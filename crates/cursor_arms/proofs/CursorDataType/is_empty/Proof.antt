@@ -1,3 +1,4 @@
+-- `cursor_arms::CursorDataType::is_empty` goes by the kind of cursor. Assumes nothing.
 use Rattle.cursor_arms.proofs.StandsLaws.{row-small, entry-within, empty-bad, empty-absent, empty-normal, empty-pseudo}
 use native.Mathlib.Omega.{arith}
 use borrow.Author.Needs.{needs}

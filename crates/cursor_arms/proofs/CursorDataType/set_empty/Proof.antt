@@ -1,3 +1,4 @@
+-- `cursor_arms::CursorDataType::set_empty` changes the head of its table. Assumes nothing.
 use Rattle.cursor_arms.proofs.TableLaws.{empty-bad-place, empty-no-place, empty-within, empty-set}
 use native.Mathlib.Omega.{arith}
 use borrow.Author.Needs.{needs}

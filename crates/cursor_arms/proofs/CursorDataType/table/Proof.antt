@@ -1,3 +1,4 @@
+-- `cursor_arms::CursorDataType::table` goes by the kind of cursor. Assumes nothing.
 use Rattle.cursor_arms.proofs.StandsLaws.{row-small, table-bad, table-absent, table-normal, table-pseudo}
 use native.Mathlib.Omega.{arith}
 use borrow.Author.Needs.{needs}
