@@ -4,3 +4,4 @@ pub mod DupLaws
 pub mod DeleteLaws
 pub mod StandsLaws
 pub mod TableLaws
+pub mod BehindLaws

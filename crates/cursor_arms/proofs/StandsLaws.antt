@@ -164,7 +164,7 @@ module _ (cs : List Cell) (x : Slot) where
 pub done-same : {A : Type 0} {u v : A} → done u ≡ done v → u ≡ v
 done-same e = cc
 
-opened : (cs : List Cell) (p n : ℕ) → 0 < n → getD cs p blank ∷ span cs (p + 1) (n - 1) ≡ span cs p n
+pub opened : (cs : List Cell) (p n : ℕ) → 0 < n → getD cs p blank ∷ span cs (p + 1) (n - 1) ≡ span cs p n
 unfolding span
 opened cs p zero h = absurd (omega arith)
 opened cs p (suc n) h = let z : suc n - 1 ≡ n = omega arith in rw z

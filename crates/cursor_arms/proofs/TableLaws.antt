@@ -71,13 +71,13 @@ module _ (cs ds : List Cell) (tags : (p : ℕ) → tagOf (getD ds p blank) ≡ t
 -- ---- a cell with another nullable
 
 module _ (cs ds : List Cell) (p n : ℕ) (fits : p < length cs) (is : ds ≡ set cs p (withNullable n (getD cs p blank))) where
-  here : getD ds p blank ≡ withNullable n (getD cs p blank)
+  pub here : getD ds p blank ≡ withNullable n (getD cs p blank)
   here = ap (λ l. getD l p blank) is ∙ getD-set-same cs p (withNullable n (getD cs p blank)) blank fits
 
-  other : (j : ℕ) → (j ≡ p → ⊥) → getD ds j blank ≡ getD cs j blank
+  pub other : (j : ℕ) → (j ≡ p → ⊥) → getD ds j blank ≡ getD cs j blank
   other j ne = ap (λ l. getD l j blank) is ∙ getD-set-other cs p j (withNullable n (getD cs p blank)) blank ne
 
-  long : length ds ≡ length cs
+  pub long : length ds ≡ length cs
   long = ap length is ∙ length-set cs p (withNullable n (getD cs p blank))
 
   tag-kept : tagOf (getD ds p blank) ≡ tagOf (getD cs p blank)
@@ -94,8 +94,11 @@ module _ (cs ds : List Cell) (p n : ℕ) (fits : p < length cs) (is : ds ≡ set
       go true t = subst (λ q. f (getD ds q blank) ≡ f (getD cs q blank)) (sym (eqb-true j p t)) e
       go false t = ap f (other j (eqb-false j p t))
 
+  pub size-kept : (d q : ℕ) → size ds d q ≡ size cs d q
+  size-kept d q = size-alike cs ds (everywhere (λ c. tagOf c) tag-kept) (everywhere (λ c. c .payload) load-kept) d q
+
   sizes-kept : (d k q : ℕ) → sizes (size ds d) k q ≡ sizes (size cs d) k q
-  sizes-kept d k q = sizes-alike (size cs d) (size ds d) (size-alike cs ds (everywhere (λ c. tagOf c) tag-kept) (everywhere (λ c. c .payload) load-kept) d) k q
+  sizes-kept d k q = sizes-alike (size cs d) (size ds d) (size-kept d) k q
 
   room-kept : (a : IntMap) (limit : ℕ) → HasRoom cs limit a → HasRoom ds limit a
   room-kept a limit r =

@@ -2,7 +2,7 @@
 // OpenPseudo, OpenDup and Delete.
 // Translated from sqlx-sqlite 0.9.0, src/connection/explain.rs.
 ghost use mathlib.Core.Path.{_≡_};
-ghost use Prim.Native.Nat.{ℕ, _<_, _≤_};
+ghost use Prim.Native.Nat.{ℕ, _+_, _<_, _≤_};
 ghost use lib.ListN.{length, getD};
 ghost use mathlib.Core.Option.{none};
 ghost use Rattle.model.specs.State.{Normal, Pseudo};
@@ -12,7 +12,8 @@ ghost use Rattle.model.specs.CursorArms.{emptyAfterDelete, afterDelete};
 ghost use Rattle.model.specs.Operation.{opOpenPseudo, opOpenDup, opDelete};
 ghost use Rattle.area.specs.Cells.{cells};
 ghost use Rattle.intmap.specs.Pack.{withNullable};
-ghost use Rattle.intmap.specs.Map.{IsMap};
+ghost use Rattle.intmap.specs.Map.{levels, IsMap};
+ghost use Rattle.intmap.specs.Runs.{size};
 ghost use Rattle.intmap.specs.Signed.{intOf};
 ghost use Rattle.encoding.specs.Encode.{nullableCode};
 ghost use Rattle.encoding.specs.Decode.{nullableIn, nullables};
@@ -20,6 +21,7 @@ ghost use Rattle.rows.specs.Rows.{Operand, Fits};
 ghost use Rattle.state.specs.Leads.{Current, Leads};
 ghost use Rattle.state.specs.Arms.{CursorArm};
 ghost use Rattle.cursor_arms.specs.Cursors.{cursorIn, RowWithin, ReadsCursor, TableChanged};
+ghost use Rattle.cursor_arms.specs.Behind.{RunBehind};
 ghost use Rattle.cursor_arms.specs.StandsFor.{entrySlot, registerSlot, headSlot, emptyIn, SlotWithin, FindsTable, FindsColumns, TellsEmpty, CursorTableChanged};
 use area::Cell;
 use intmap::Index;
@@ -223,6 +225,20 @@ impl CursorDataType {
             }
         }
     }
+}
+
+// Copies the run of the entry at `at` to the room behind the map, with another nullable in its head, and gives how many cells it has. A store
+// may move that entry, so what is stored of it is taken from there.
+pub fn run_behind(map: IntMap, area: &mut [u8], at: usize, nullable: u64, limit: usize) -> usize
+    requires { ⌜ Current limit (cells (now area)) map × (map .base ≤ at) × (at + size (cells (now area)) levels at ≤ map .base + map .used) × (nullable < 3) ⌝ }
+    ensures { λ r. ⌜ RunBehind limit (cells (now (area .entry))) (cells (now (area .exit))) map at nullable r ⌝ }
+{
+    let to = map.base + limit;
+    let n = intmap::count(area, at, intmap::LEVELS);
+    area::move_cells(area, at, to, n);
+    let c = intmap::with_nullable(area::cell_at(area, to), nullable);
+    area::put_cell(area, to, c);
+    n
 }
 
 // OpenDup: cursor P1 becomes what cursor P2 is, if there is one.
