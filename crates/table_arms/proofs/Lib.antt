@@ -1,1 +1,2 @@
 pub mod NullLaws
+pub mod InsertLaws
