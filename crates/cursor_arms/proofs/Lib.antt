@@ -1,5 +1,7 @@
 pub mod CursorLeads
 pub mod CursorLaws
 pub mod DupLaws
-pub mod TableLaws
 pub mod DeleteLaws
+pub mod StandsLaws
+pub mod TableLaws
+pub mod BehindLaws

@@ -1,1 +1,3 @@
 pub mod Cursors
+pub mod StandsFor
+pub mod Behind

@@ -2,22 +2,29 @@
 // OpenPseudo, OpenDup and Delete.
 // Translated from sqlx-sqlite 0.9.0, src/connection/explain.rs.
 ghost use mathlib.Core.Path.{_≡_};
-ghost use Prim.Native.Nat.{ℕ, _≤_};
+ghost use Prim.Native.Nat.{ℕ, _+_, _<_, _≤_};
+ghost use lib.ListN.{length, getD};
+ghost use mathlib.Core.Option.{none};
 ghost use Rattle.model.specs.State.{Normal, Pseudo};
-ghost use Rattle.model.specs.Access.{storeCursor};
+ghost use Rattle.model.specs.Access.{index, storeCursor};
+ghost use Rattle.model.specs.Cursor.{setEmpty};
 ghost use Rattle.model.specs.CursorArms.{emptyAfterDelete, afterDelete};
 ghost use Rattle.model.specs.Operation.{opOpenPseudo, opOpenDup, opDelete};
 ghost use Rattle.area.specs.Cells.{cells};
 ghost use Rattle.intmap.specs.Pack.{withNullable};
-ghost use Rattle.intmap.specs.Map.{IsMap};
+ghost use Rattle.intmap.specs.Map.{levels, IsMap};
+ghost use Rattle.intmap.specs.Runs.{size};
 ghost use Rattle.intmap.specs.Signed.{intOf};
 ghost use Rattle.encoding.specs.Encode.{nullableCode};
-ghost use Rattle.encoding.specs.Decode.{nullableIn};
+ghost use Rattle.encoding.specs.Decode.{nullableIn, nullables};
 ghost use Rattle.rows.specs.Rows.{Operand, Fits};
 ghost use Rattle.state.specs.Leads.{Current, Leads};
 ghost use Rattle.state.specs.Arms.{CursorArm};
-ghost use Rattle.cursor_arms.specs.Cursors.{cursorIn, ReadsCursor, TableChanged};
+ghost use Rattle.cursor_arms.specs.Cursors.{cursorIn, RowWithin, ReadsCursor, TableChanged};
+ghost use Rattle.cursor_arms.specs.Behind.{RunBehind};
+ghost use Rattle.cursor_arms.specs.StandsFor.{entrySlot, registerSlot, headSlot, emptyIn, SlotWithin, FindsTable, FindsColumns, TellsEmpty, CursorTableChanged};
 use area::Cell;
+use intmap::Index;
 use intmap::IntMap;
 use intmap::Slot;
 use intmap::Stored;
@@ -31,6 +38,8 @@ pub const TABLES: u64 = 2;
 
 // The codes of a table's emptiness.
 pub const MAYBE_EMPTY: u64 = 0;
+
+pub const NEVER_EMPTY: u64 = 1;
 
 pub const EMPTY: u64 = 2;
 
@@ -105,6 +114,131 @@ pub fn read_cursor(map: IntMap, area: &[u8], i: u64) -> CursorDataType
         Slot::Absent => CursorDataType::Absent,
         Slot::At(at) => cursor_in(area::cell_at(area, at)),
     }
+}
+
+// Where the entry of an index in a class is, if it is there.
+fn entry_at(map: IntMap, area: &[u8], class: u64, k: u64) -> Slot
+    requires { ⌜ IsMap (cells (now area)) map × (class < 3) × (k ≤ 65535) ⌝ }
+    ensures { λ r. ⌜ r ≡ entrySlot (cells (now (area .entry))) map class k ⌝ }
+{
+    let found = map.find(area, intmap::class_key(class, k));
+    let there = found.present;
+    if there {
+        return Slot::At(found.at);
+    }
+    Slot::Absent
+}
+
+// Where register i is, if it is there.
+fn register_at(map: IntMap, area: &[u8], i: u64) -> Slot
+    requires { ⌜ IsMap (cells (now area)) map ⌝ }
+    ensures { λ r. ⌜ r ≡ registerSlot (cells (now (area .entry))) map (index (intOf i)) ⌝ }
+{
+    let x = intmap::judge_index(i);
+    match x {
+        Index::Bad(n) => Slot::Bad(n),
+        Index::At(k) => entry_at(map, area, state::REGISTERS, k),
+    }
+}
+
+// A place, if a record's or table's head is there. A table's always is in a state, and asking makes it one in any cells.
+fn head_at(area: &[u8], x: Slot) -> Slot
+    requires { ⌜ SlotWithin (cells (now area)) x × (length (cells (now area)) ≤ 1048576) ⌝ }
+    ensures { λ r. ⌜ r ≡ headSlot (cells (now (area .entry))) x ⌝ }
+{
+    match x {
+        Slot::Bad(n) => Slot::Bad(n),
+        Slot::Absent => Slot::Absent,
+        Slot::At(at) => {
+            if intmap::tag_of(area::cell_at(area, at)) == intmap::RECORD {
+                return Slot::At(at);
+            }
+            Slot::Absent
+        }
+    }
+}
+
+// The emptiness that the table's head at a place says. Where there is no table, the cursor is empty.
+fn empty_at(area: &[u8], x: Slot) -> u64
+    requires { ⌜ SlotWithin (cells (now area)) x × (length (cells (now area)) ≤ 1048576) ⌝ }
+    ensures { λ r. ⌜ r ≡ emptyIn (cells (now (area .entry))) x ⌝ }
+{
+    match x {
+        Slot::Bad(_) => MAYBE_EMPTY,
+        Slot::Absent => EMPTY,
+        Slot::At(at) => intmap::nullable_of(area::cell_at(area, at)),
+    }
+}
+
+impl CursorDataType {
+    // Where the head of its table is, if it has one.
+    pub fn table(self, map: IntMap, area: &[u8]) -> Slot
+        requires { ⌜ IsMap (cells (now area)) map × RowWithin self ⌝ }
+        ensures { λ r. ⌜ FindsTable (cells (now (area .entry))) map self r ⌝ }
+    {
+        match self {
+            CursorDataType::Bad(n) => Slot::Bad(n),
+            CursorDataType::Absent => Slot::Absent,
+            CursorDataType::Normal(row) => entry_at(map, area, TABLES, row),
+            CursorDataType::Pseudo(_) => Slot::Absent,
+        }
+    }
+
+    // Where the head of its columns is, a table's or that of a register's record, if it has columns.
+    pub fn columns(self, map: IntMap, area: &[u8]) -> Slot
+        requires { ⌜ IsMap (cells (now area)) map × RowWithin self ⌝ }
+        ensures { λ r. ⌜ FindsColumns (cells (now (area .entry))) map self r ⌝ }
+    {
+        match self {
+            CursorDataType::Bad(n) => Slot::Bad(n),
+            CursorDataType::Absent => Slot::Absent,
+            CursorDataType::Normal(row) => head_at(area, entry_at(map, area, TABLES, row)),
+            CursorDataType::Pseudo(i) => head_at(area, register_at(map, area, i)),
+        }
+    }
+
+    // Whether it is empty. Pseudo cursors have exactly one row.
+    pub fn is_empty(self, map: IntMap, area: &[u8]) -> u64
+        requires { ⌜ IsMap (cells (now area)) map × RowWithin self ⌝ }
+        ensures { λ r. ⌜ TellsEmpty (cells (now (area .entry))) map self r ⌝ }
+    {
+        match self {
+            CursorDataType::Bad(_) => MAYBE_EMPTY,
+            CursorDataType::Absent => MAYBE_EMPTY,
+            CursorDataType::Normal(row) => empty_at(area, entry_at(map, area, TABLES, row)),
+            CursorDataType::Pseudo(_) => NEVER_EMPTY,
+        }
+    }
+
+    // Sets whether its table is empty, if it has one.
+    pub fn set_empty(self, map: IntMap, area: &mut [u8], empty: u64)
+        requires { ⌜ IsMap (cells (now area)) map × RowWithin self × (empty < 3) ⌝ }
+        ensures { λ _. ⌜ CursorTableChanged (setEmpty (getD nullables empty none)) (cells (now (area .entry))) (cells (now (area .exit))) map self ⌝ }
+    {
+        let x = self.table(map, area);
+        match x {
+            Slot::Bad(_) => {}
+            Slot::Absent => {}
+            Slot::At(at) => {
+                let c = intmap::with_nullable(area::cell_at(area, at), empty);
+                area::put_cell(area, at, c);
+            }
+        }
+    }
+}
+
+// Copies the run of the entry at `at` to the room behind the map, with another nullable in its head, and gives how many cells it has. A store
+// may move that entry, so what is stored of it is taken from there.
+pub fn run_behind(map: IntMap, area: &mut [u8], at: usize, nullable: u64, limit: usize) -> usize
+    requires { ⌜ Current limit (cells (now area)) map × (map .base ≤ at) × (at + size (cells (now area)) levels at ≤ map .base + map .used) × (nullable < 3) ⌝ }
+    ensures { λ r. ⌜ RunBehind limit (cells (now (area .entry))) (cells (now (area .exit))) map at nullable r ⌝ }
+{
+    let to = map.base + limit;
+    let n = intmap::count(area, at, intmap::LEVELS);
+    area::move_cells(area, at, to, n);
+    let c = intmap::with_nullable(area::cell_at(area, to), nullable);
+    area::put_cell(area, to, c);
+    n
 }
 
 // OpenDup: cursor P1 becomes what cursor P2 is, if there is one.

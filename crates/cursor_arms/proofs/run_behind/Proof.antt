@@ -1,0 +1,58 @@
+-- `cursor_arms::run_behind` moves the run, and changes its head. Assumes nothing.
+use Rattle.cursor_arms.proofs.BehindLaws.{behind-within, behind-small, run-behind}
+use native.Mathlib.Omega.{arith}
+use borrow.Author.Needs.{needs}
+use Rattle.cursor_arms.proofs.run_behind.Statement.{statement}
+use Rattle.cursor_arms.proofs.run_behind.Tie as tie
+use Rattle.cursor_arms.proofs.run_behind.Reads as reads
+use Rattle.cursor_arms.proofs.run_behind.Lts as lts
+use Rattle.area.proofs.cell_at.Reads as cell-at-reads
+use Rattle.area.proofs.move_cells.Reads as move-cells-reads
+use Rattle.area.proofs.put_cell.Reads as put-cell-reads
+use Rattle.intmap.proofs.count.Reads as count-reads
+use Rattle.intmap.proofs.with_nullable.Reads as with-nullable-reads
+
+-- src/lib.rt:236:14
+add-to : tie.Need-add-to
+add-to c = search needs
+
+-- src/lib.rt:237:9
+count-requires : tie.Need-count-requires
+count-requires c κs = search needs
+
+-- src/lib.rt:238:5
+move-cells-requires : tie.Need-move-cells-requires
+move-cells-requires c κs = search needs
+
+-- src/lib.rt:239:35
+cell-at-requires : tie.Need-cell-at-requires
+cell-at-requires c κs = record { within = omega (arith, behind-within _ _ _ _ _ (c .before .before .before .before .before .before .before .before .before .pre .0) (c .before .before .before .before .before .before .before .before .before .pre .1) (c .before .before .before .before .before .before .before .before .before .pre .2) (c .before .before .before .before .before .count .ensures) _ (c .before .before .before .move-cells .ensures .cells)); small = behind-small _ _ _ _ _ (c .before .before .before .before .before .before .before .before .before .pre .0) (c .before .before .before .before .before .before .before .before .before .pre .1) (c .before .before .before .before .before .before .before .before .before .pre .2) (c .before .before .before .before .before .count .ensures) _ (c .before .before .before .move-cells .ensures .cells) }
+
+-- src/lib.rt:239:9
+with-nullable-requires : tie.Need-with-nullable-requires
+with-nullable-requires c κs = search needs
+
+-- src/lib.rt:240:5
+put-cell-requires : tie.Need-put-cell-requires
+put-cell-requires c κs = record { within = omega (arith, behind-within _ _ _ _ _ (c .before .before .before .before .before .before .before .before .before .before .before .before .pre .0) (c .before .before .before .before .before .before .before .before .before .before .before .before .pre .1) (c .before .before .before .before .before .before .before .before .before .before .before .before .pre .2) (c .before .before .before .before .before .before .before .before .count .ensures) _ (c .before .before .before .before .before .before .move-cells .ensures .cells)); small = behind-small _ _ _ _ _ (c .before .before .before .before .before .before .before .before .before .before .before .before .pre .0) (c .before .before .before .before .before .before .before .before .before .before .before .before .pre .1) (c .before .before .before .before .before .before .before .before .before .before .before .before .pre .2) (c .before .before .before .before .before .before .before .before .count .ensures) _ (c .before .before .before .before .before .before .move-cells .ensures .cells) }
+
+-- src/lib.rt:232:1
+same-length : tie.Need-same-length
+same-length c = search needs
+
+-- src/lib.rt:232:1
+returns : tie.Need-returns
+returns c = run-behind _ _ _ _ _ (c .before .before .before .before .before .before .before .before .before .before .before .before .before .before .before .pre .0) (c .before .before .before .before .before .before .before .before .before .before .before .before .before .before .before .pre .1) (c .before .before .before .before .before .before .before .before .before .before .before .before .before .before .before .pre .2) (c .before .before .before .before .before .before .before .before .before .before .before .count .ensures) _ (c .before .before .before .before .before .before .before .before .before .move-cells .ensures .cells) _ _ _ _ (c .before .before .before .before .before .cell-at .ensures) (c .before .before .before .before .with-nullable .ensures) (c .before .before .put-cell .ensures .cells)
+
+pub run-behind-spec : {M : Type 1} → statement M
+run-behind-spec =
+    tie.close
+    (tie.spec
+    add-to
+    count-requires
+    move-cells-requires
+    cell-at-requires
+    with-nullable-requires
+    put-cell-requires
+    same-length
+    returns)
