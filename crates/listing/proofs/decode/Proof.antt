@@ -1,4 +1,5 @@
--- `listing::decode` goes from pair to pair. The invariant: what is left, behind the bytes so far, gives what the whole text gives. Assumes nothing.
+-- `listing::decode` goes from pair to pair. The invariant: what is left, behind the bytes so far, gives what the whole text gives. Assumes
+-- nothing.
 use lib.ListN.{length, length-set}
 use mathlib.Core.Path.{_≡_, refl, sym, ap, _∙_}
 use Prim.Native.Nat.{_+_, _-_, _≤_}

@@ -1,4 +1,5 @@
--- `listing::read_listing` reads a row a turn. The invariant: the rows read so far, and those that are left, are all; those that there is room for are in their cells. Assumes nothing.
+-- `listing::read_listing` reads a row a turn. The invariant: the rows read so far, and those that are left, are all; those that there is
+-- room for are in their cells. Assumes nothing.
 use mathlib.Core.Path.{_≡_, refl}
 use Prim.Native.Nat.{_-_}
 use native.Mathlib.Omega.{arith}

@@ -1,4 +1,5 @@
--- `text::find_lf` goes from byte to byte. The invariant: what is left, behind the bytes so far, gives what the whole line gives. Assumes nothing.
+-- `text::find_lf` goes from byte to byte. The invariant: what is left, behind the bytes so far, gives what the whole line gives. Assumes
+-- nothing.
 use Rattle.text.proofs.LineLaws.{lineFrom, line-start, line-on, no-line, line-here}
 use Rattle.model.specs.Fields.{takeLine}
 use lib.ListN.{length, drop}
