@@ -48,7 +48,8 @@ use Rattle.rows.specs.Judged.{Judged}
 use Rattle.rows.specs.declared.Row.{Row}
 use Rattle.state.specs.Leads.{Current, Tells, Leaves, Leads}
 use Rattle.state.specs.Arms.{Standard, CursorArm}
-use Rattle.copy_arms.proofs.LeadsLaws.{frame-none, frame-within, frame-then, leads-then, leads-stop}
+use Rattle.intmap.proofs.StoreLaws.{frame-same}
+use Rattle.state.proofs.LeadsLaws.{frame-within, frame-then, leads-then, leads-stop}
 use Rattle.open_arms.specs.Tables.{OpensTable, emptyTable, PutsTable}
 
 -- ---- a table from its run
@@ -186,7 +187,7 @@ module _ (limit : ℕ) (cs : List Cell) (a : IntMap) (row : ℕ) (x : Row) where
         leads = λ meaning l s j. record {
           says = λ bound m le y. arm-is meaning l s j m ∙ ap (λ t. counted t l m) (count-below (x .p2) h);
           leaves = tt;
-          frame = frame-none cs (a .base) (limit + limit);
+          frame = frame-same cs cs (a .base) (limit + limit) refl;
         };
       }
 
@@ -208,7 +209,7 @@ module _ (limit : ℕ) (cs : List Cell) (a : IntMap) (row : ℕ) (x : Row) where
           leads = λ meaning l s j. record {
             says = λ bound m b y. arm-opens meaning l s j m ∙ too-many le l m;
             leaves = tt;
-            frame = frame-none cs (a .base) (limit + limit);
+            frame = frame-same cs cs (a .base) (limit + limit) refl;
           };
         }
 

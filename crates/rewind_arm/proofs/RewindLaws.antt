@@ -132,7 +132,7 @@ module _ (limit : ℕ) (cs : List Cell) (s : MemoryState) (x : Row) (row : ℕ) 
           leads =
               record {
                 says = λ bound m le h. record { state = m; answer = refl; holds = h };
-                leaves = record { base = refl; room = state-room limit cs there (s .map) current behind copied two (stored.Done behind) _ put };
+                leaves = record { base = refl; room = state-room limit cs there (s .map) current behind copied two (put .frame) };
                 frame = unchanged two _ _;
               };
           frame = unchanged two _ _;

@@ -109,3 +109,15 @@ module _ {limit : ℕ} {cs ds : List Cell} {a b : IntMap} {whole rest : MemorySt
 -- the map that an access leaves
 pub led-map : {limit : ℕ} {cs ds : List Cell} {a : IntMap} {f : MemoryState → Tried MemoryState} (s : Stored) → Leads limit cs ds a s f → (b : IntMap) → s ≡ stored.Done b → IsMap ds b
 led-map {limit} {ds = ds} {a} s led b e = room-map (subst (Leaves limit ds a) e (led .leaves) .room)
+
+-- ---- two accesses, one after the other
+
+module _ (limit : ℕ) (cs ds : List Cell) (a : IntMap) (f g : MemoryState → Tried MemoryState) (current : Current limit cs a) where
+  here : Reached limit cs cs a a (λ m. f m >>= g) (λ m. f m >>= g)
+  here = reached-first limit cs a (λ m. f m >>= g) current
+
+  pub leads-then : (es : List Cell) (b : IntMap) (r : Stored) → Leads limit cs ds a (stored.Done b) f → Leads limit ds es b r g → Leads limit cs es a r (λ m. f m >>= g)
+  leads-then es b r first second = reached-last (reached-next here ds f g (λ m. refl) (stored.Done b) first b refl) es r second
+
+  pub leads-stop : (n : ℕ) → Leads limit cs ds a (stored.Refused n) f → Leads limit cs ds a (stored.Refused n) (λ m. f m >>= g)
+  leads-stop n first = reached-stop here ds f g (λ m. refl) (stored.Refused n) first n refl
