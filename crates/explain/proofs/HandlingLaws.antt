@@ -41,7 +41,7 @@ use Rattle.explain.specs.Numbers.{NumberArm, asHandling}
 -- ---- under a larger bound
 
 module _ (limit bound : ℕ) (cs : List Cell) (top : bound + 1 ≤ largest) where
-  pub state-more : {s : MemoryState} {m : Defined} → HoldsState limit bound cs s m → HoldsState limit (bound + 1) cs s m
+  state-more : {s : MemoryState} {m : Defined} → HoldsState limit bound cs s m → HoldsState limit (bound + 1) cs s m
   state-more {m = m} h = record { row = h .row; map = held-more limit bound cs _ _ _ m (h .map) (bound + 1) (omega arith) top }
 
   way-more : (w : Way) (m : Option Defined) → TellsWay limit bound cs w m → TellsWay limit (bound + 1) cs w m

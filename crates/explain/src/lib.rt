@@ -163,7 +163,8 @@ fn result_row(s: MemoryState, area: &[u8], x: Row, limit: usize) -> Handling
     }
 }
 
-// Handles a row x at the state s; `again` where its lineage has handled it before. The listing's n rows are in the cells from `from` on.
+// Handles a row x at the state s; `again` where its lineage has handled it before. The listing's n rows are in the cells from `from` on. An
+// operation without an arm, number 0, does nothing.
 pub fn handle(
     s: MemoryState,
     area: &mut [u8],
