@@ -38,6 +38,7 @@ use Rattle.intmap.specs.declared.Stored.{Stored}
 use Rattle.intmap.specs.declared.Stored.the-variants as stored
 use Rattle.intmap.proofs.EntryLaws.{length-span}
 use Rattle.intmap.proofs.MapLaws.{placed-room}
+use Rattle.intmap.proofs.StoreLaws.{frame-same}
 use Rattle.intmap.proofs.SignedLaws.{count-below, count-above}
 use Rattle.encoding.specs.Encode.{single, runTable}
 use Rattle.encoding.proofs.Dense.{numbered-count, elem-run}
@@ -48,8 +49,7 @@ use Rattle.rows.specs.Judged.{Judged}
 use Rattle.rows.specs.declared.Row.{Row}
 use Rattle.state.specs.Leads.{Current, Tells, Leaves, Leads}
 use Rattle.state.specs.Arms.{Standard, CursorArm}
-use Rattle.intmap.proofs.StoreLaws.{frame-same}
-use Rattle.state.proofs.LeadsLaws.{frame-within, frame-then, leads-then, leads-stop}
+use Rattle.state.proofs.LeadsLaws.{Reached, frame-within, frame-then, reached-first, reached-next, reached-stop, reached-last}
 use Rattle.open_arms.specs.Tables.{OpensTable, emptyTable, PutsTable}
 
 -- ---- a table from its run
@@ -95,12 +95,19 @@ module _ (limit : ℕ) (cs ds : List Cell) (a : IntMap) (row key from n : ℕ) (
     unfolding openTable
     opened l e t m = ap (λ z. storing t m >>= λ s. storeCursor limit z (Normal row) s) (sym e)
 
+    abbrev cursor : MemoryState → Tried MemoryState
+    cursor s = storeCursor limit (intOf i) (Normal row) s
+
+    -- the table is still to come, then the cursor
+    both : (t : TableDataType) → Reached limit cs cs a a (λ m. storing t m >>= cursor) (λ m. storing t m >>= cursor)
+    both t = reached-first limit cs a _ current
+
     pub open-full : x ≡ insertion.Full → OpensTable limit cs ds a row i from n (stored.Refused 8)
     open-full e =
         record {
           says = λ l p t k deep sorted run bound m le h.
               subst (Tells limit bound ds (stored.Refused 8)) (opened l p t m)
-              (leads-stop limit cs ds a (storing t) (storeCursor limit (intOf i) (Normal row)) current 8 (table-full t k deep sorted run e) .says bound m le h);
+              (reached-stop (both t) ds (storing t) cursor (λ m. refl) _ (table-full t k deep sorted run e) 8 refl .says bound m le h);
           leaves = tt;
           frame = wide;
         }
@@ -117,7 +124,7 @@ module _ (limit : ℕ) (cs ds : List Cell) (a : IntMap) (row key from n : ℕ) (
           record {
             says = λ l p t k deep sorted run bound m le h.
                 subst (Tells limit bound es r) (opened l p t m)
-                (leads-then limit cs ds a (storing t) (storeCursor limit (intOf i) (Normal row)) current es b r (table-done t k deep sorted run b e) led .says bound m le h);
+                (reached-last (reached-next (both t) ds (storing t) cursor (λ m. refl) _ (table-done t k deep sorted run b e) b refl) es r led .says bound m le h);
             leaves = stays r (led .leaves);
             frame = frame-then cs ds es (a .base) (limit + limit) wide (subst (λ p. Frame ds es p (limit + limit)) (next .leaves .base) (led .frame));
           }
@@ -126,9 +133,30 @@ module _ (limit : ℕ) (cs ds : List Cell) (a : IntMap) (row key from n : ℕ) (
           stays (stored.Refused k) l = tt
           stays (stored.Done c) l = record { base = l .base ∙ next .leaves .base; room = l .room }
 
+-- a table that alone has more cells than there may be
+pub open-large : (limit row : ℕ) (l : Listed) (t : TableDataType) (m : MemoryState) → columnsDepth (t .cols) ≤ 8 → limit < tableCells t → openTable limit row l t m ≡ refused 8
+unfolding openTable storeTable judgeDepth judgeCells cells
+open-large limit row l t m deep large =
+    ap (λ b. depthIf b t >>= (λ u. judgeCells limit (withTables (insert row u (m .t)) m)) >>= λ s. storeCursor limit (l .p1) (Normal row) s) (le-leb (columnsDepth (t .cols)) 8 deep)
+    ∙ ap (λ b. cellsIf b (withTables (insert row t (m .t)) m) >>= λ s. storeCursor limit (l .p1) (Normal row) s) (lt-leb (cells (withTables (insert row t (m .t)) m)) limit (omega (arith, total-insert tableCells row t (m .t))))
+
+-- what is written behind the map leaves the map as it is
+module _ (limit : ℕ) (cs es : List Cell) (a : IntMap) (n : ℕ) (current : Current limit cs a) (f : Frame cs es (a .base + limit) n) where
+  pub behind-same : Agree cs (a .base) es (a .base) (a .used)
+  behind-same j lt = f .below (a .base + j) (omega (arith, current .room .most))
+
+  pub behind-current : Current limit es a
+  behind-current =
+      record {
+        room =
+            placed-room cs es a (a .base) (record { used = current .room .used; inside = omega (arith, current .room .room, current .room .most); small = current .room .small }) behind-same (f .long) limit
+            (current .room .most) (omega (arith, f .long, current .room .room));
+        scratch = omega (arith, f .long, current .scratch);
+      }
+
 -- ---- an empty table's run
 
-frame-set : (cs ds : List Cell) (p : ℕ) (c : Cell) → ds ≡ set cs p c → Frame cs ds p 1
+pub frame-set : (cs ds : List Cell) (p : ℕ) (c : Cell) → ds ≡ set cs p c → Frame cs ds p 1
 frame-set cs ds p c e =
     record {
       long = ap length e ∙ length-set cs p c;
@@ -195,36 +223,19 @@ module _ (limit : ℕ) (cs : List Cell) (a : IntMap) (row : ℕ) (x : Row) where
     arm-opens : (meaning : Meaning) (l : Listed) → Standard limit meaning → Judged l x → (m : MemoryState) → cursorArm meaning row l m opOpenEphemeral ≡ openTable limit row l (emptyTable n) m
     arm-opens meaning l s j m = arm-is meaning l s j m ∙ ap (λ t. counted t l m) (count-above (x .p2) h ∙ ap done (sym ne))
 
-    -- more columns than there may be cells
-    too-many : limit ≤ n → (l : Listed) (m : MemoryState) → openTable limit row l (emptyTable n) m ≡ refused 8
-    unfolding openTable storeTable judgeDepth judgeCells cells
-    too-many le l m =
-        let t = emptyTable n in
-        ap (λ b. depthIf b t >>= (λ u. judgeCells limit (withTables (insert row u (m .t)) m)) >>= λ s. storeCursor limit (l .p1) (Normal row) s) (le-leb (columnsDepth (t .cols)) 8 (omega (arith, empty-depth n)))
-        ∙ ap (λ b. cellsIf b (withTables (insert row t (m .t)) m) >>= λ s. storeCursor limit (l .p1) (Normal row) s) (lt-leb (cells (withTables (insert row t (m .t)) m)) limit (omega (arith, empty-cells n, total-insert tableCells row t (m .t))))
-
     pub arm-many : limit ≤ n → CursorArm limit cs cs a row x opOpenEphemeral (stored.Refused 8)
     arm-many le =
         record {
           leads = λ meaning l s j. record {
-            says = λ bound m b y. arm-opens meaning l s j m ∙ too-many le l m;
+            says = λ bound m b y. arm-opens meaning l s j m ∙ open-large limit row l (emptyTable n) m (omega (arith, empty-depth n)) (omega (arith, empty-cells n));
             leaves = tt;
             frame = frame-same cs cs (a .base) (limit + limit) refl;
           };
         }
 
     module _ (es : List Cell) (puts : PutsTable cs es (a .base + limit) n) (current : Current limit cs a) (lt : n < limit) (few : limit ≤ 65536) where
-      same : Agree cs (a .base) es (a .base) (a .used)
-      same j lt = puts .frame .below (a .base + j) (omega (arith, current .room .most))
-
       pub put-current : Current limit es a
-      put-current =
-          record {
-            room =
-                placed-room cs es a (a .base) (record { used = current .room .used; inside = omega (arith, current .room .room, current .room .most); small = current .room .small }) same (puts .frame .long) limit
-                (current .room .most) (omega (arith, puts .frame .long, current .room .room));
-            scratch = omega (arith, puts .frame .long, current .scratch);
-          }
+      put-current = behind-current limit cs es a (1 + n) current (puts .frame)
 
       long : length (runTable 0 (emptyTable n)) ≡ 1 + n
       long = ap length (sym (puts .run)) ∙ length-span es (a .base + limit) (1 + n)
@@ -240,7 +251,7 @@ module _ (limit : ℕ) (cs : List Cell) (a : IntMap) (row : ℕ) (x : Row) where
             leads = λ meaning l s j. record {
               says = λ bound m le y.
                   subst (Tells limit bound ds r) (sym (arm-opens meaning l s j m))
-                  (o .says l (sym (j .p1)) (emptyTable n) 0 (omega (arith, empty-depth n)) (λ _. empty-sorted n (omega arith)) (puts .run) bound m le (held-elsewhere limit bound cs (a .base) (a .len) (a .used) m y es (a .base) same));
+                  (o .says l (sym (j .p1)) (emptyTable n) 0 (omega (arith, empty-depth n)) (λ _. empty-sorted n (omega arith)) (puts .run) bound m le (held-elsewhere limit bound cs (a .base) (a .len) (a .used) m y es (a .base) (behind-same limit cs es a (1 + n) current (puts .frame))));
               leaves = o .leaves;
               frame =
                   frame-then cs es ds (a .base) (limit + limit) (frame-within cs es (a .base + limit) (1 + n) (a .base) (limit + limit) (omega arith) (omega arith) (puts .frame))

@@ -1,0 +1,3 @@
+pub mod WholeLaws
+pub mod ColumnLaws
+pub mod ArmLaws

@@ -1,0 +1,167 @@
+// The arms of `explain` that take what a cursor stands for: Column, RowData and SorterData. Translated from sqlx-sqlite 0.9.0,
+// src/connection/explain.rs.
+ghost use mathlib.Core.Path.{_≡_};
+ghost use Prim.Native.Nat.{ℕ, _+_, _<_, _≤_};
+ghost use lib.Dec.{ltb};
+ghost use lib.ListN.{length, getD};
+ghost use Rattle.model.specs.State.{Record, end, Column};
+ghost use Rattle.model.specs.Access.{storeRegister};
+ghost use Rattle.model.specs.Operation.{opColumn, opRowData};
+ghost use Rattle.area.specs.Cells.{cells, blank};
+ghost use Rattle.intmap.specs.Entries.{span};
+ghost use Rattle.intmap.specs.Map.{levels};
+ghost use Rattle.intmap.specs.Pack.{tagOf};
+ghost use Rattle.intmap.specs.Runs.{size, IsColumn};
+ghost use Rattle.intmap.specs.Signed.{intOf};
+ghost use Rattle.state.specs.Leads.{Current, Leads};
+ghost use Rattle.state.specs.Arms.{CursorArm};
+ghost use Rattle.column_arms.specs.Columns.{columnsIn, counted, FindsColumn, StoresRun, storeColumn, LeadsWith};
+use area::Cell;
+use intmap::Index;
+use intmap::IntMap;
+use intmap::Slot;
+use intmap::Stored;
+use rows::Row;
+use type_info::DataType;
+
+// How many columns a cell says that it has behind it.
+fn columns_in(c: Cell) -> u64
+    ensures { λ r. ⌜ r ≡ columnsIn c ⌝ }
+{
+    if intmap::tag_of(c) == intmap::RECORD {
+        return c.payload;
+    }
+    0
+}
+
+// Whether the n cells at `at` are more than the columns that they say they have. Then no run that begins there is longer, however deep it is.
+fn is_whole(area: &[u8], at: usize, n: usize) -> bool
+    requires { ⌜ (at + n ≤ length (cells (now area))) × (length (cells (now area)) ≤ 1048576) × (0 < n) ⌝ }
+    ensures { λ r. ⌜ r ≡ ltb (counted (span (cells (now (area .entry))) at n)) n ⌝ }
+{
+    let mut p = at;
+    let mut left = n;
+    let mut room = n as u64;
+    while 0 < left {
+        let k = columns_in(area::cell_at(area, p));
+        if room <= k {
+            return false;
+        }
+        room -= k;
+        p += 1;
+        left -= 1;
+    }
+    true
+}
+
+// Looks for a key among the columns behind the head at `at`, which are a map of their own. In a state they always nest within their levels.
+fn find_column(area: &[u8], at: usize, key: u64) -> Slot
+    requires { ⌜ IsColumn (cells (now area)) levels at × (tagOf (getD (cells (now area)) at blank) ≡ 2) ⌝ }
+    ensures { λ r. ⌜ FindsColumn (cells (now (area .entry))) at key r ⌝ }
+{
+    let n = intmap::count(area, at, intmap::LEVELS);
+    if !is_whole(area, at, n) {
+        return Slot::Bad(9);
+    }
+    let c = area::cell_at(area, at);
+    let all = intmap::count(area, at, intmap::LEVELS + 1);
+    let columns = IntMap {
+        base: at + 1,
+        len: c.payload,
+        used: all - 1,
+    };
+    let found = columns.find(area, key);
+    let there = found.present;
+    if there {
+        return Slot::At(found.at);
+    }
+    Slot::Absent
+}
+
+// Stores the run at `at` of the map in register j, with c for its head. A store may move that run, so it goes to the room behind the map first.
+fn store_from(map: IntMap, area: &mut [u8], at: usize, c: Cell, j: u64, limit: usize) -> Stored
+    requires { ⌜ Current limit (cells (now area)) map × (map .base ≤ at) × (at + size (cells (now area)) levels at ≤ map .base + map .used) × (tagOf c ≡ tagOf (getD (cells (now area)) at blank)) × (c .payload ≡ getD (cells (now area)) at blank .payload) ⌝ }
+    ensures { λ r. ⌜ StoresRun limit (cells (now (area .entry))) (cells (now (area .exit))) map at c j r ⌝ }
+{
+    cursor_arms::run_behind(map, area, at, state::UNKNOWN, limit);
+    let to = map.base + limit;
+    area::put_cell(area, to, c);
+    map.store_run(area, state::REGISTERS, j, to, limit)
+}
+
+// Stores an empty record in register j.
+fn store_empty(map: IntMap, area: &mut [u8], j: u64, limit: usize) -> Stored
+    requires { ⌜ Current limit (cells (now area)) map ⌝ }
+    ensures { λ r. ⌜ Leads limit (cells (now (area .entry))) (cells (now (area .exit))) map r (storeRegister limit (intOf j) (Column (Record end))) ⌝ }
+{
+    let x = intmap::judge_index(j);
+    if let Index::Bad(n) = x {
+        return Stored::Refused(n);
+    }
+    if limit == 0 {
+        return Stored::Refused(8);
+    }
+    let to = map.base + limit;
+    let head = intmap::RECORD;
+    area::put_cell(area, to, Cell { head, payload: 0 });
+    map.store_run(area, state::REGISTERS, j, to, limit)
+}
+
+// Stores column i of those behind the head at `at` in register j, or the default, if it is absent.
+fn store_column(map: IntMap, area: &mut [u8], at: usize, i: u64, j: u64, limit: usize) -> Stored
+    requires { ⌜ Current limit (cells (now area)) map × (map .base ≤ at) × (at + size (cells (now area)) levels at ≤ map .base + map .used) × (tagOf (getD (cells (now area)) at blank) ≡ 2) ⌝ }
+    ensures { λ r. ⌜ LeadsWith limit (cells (now (area .entry))) (cells (now (area .exit))) map at r (storeColumn limit (intOf i) (intOf j)) ⌝ }
+{
+    let x = intmap::judge_index(i);
+    match x {
+        Index::Bad(n) => Stored::Refused(n),
+        Index::At(k) => {
+            let column = find_column(area, at, k);
+            match column {
+                Slot::Bad(n) => Stored::Refused(n),
+                Slot::Absent => {
+                    state::store_single(map, area, j, DataType::Null, state::UNKNOWN, limit)
+                }
+                Slot::At(q) => {
+                    let c = area::cell_at(area, q);
+                    store_from(map, area, q, c, j, limit)
+                }
+            }
+        }
+    }
+}
+
+// Column: register P3 becomes column P2 of cursor P1. P2 is looked at only where there are columns.
+pub fn column(map: IntMap, area: &mut [u8], x: Row, limit: usize) -> Stored
+    requires { ⌜ Current limit (cells (now area)) map ⌝ }
+    ensures { λ r. ⌜ ((row : ℕ) → CursorArm limit (cells (now (area .entry))) (cells (now (area .exit))) map row x opColumn r) ⌝ }
+{
+    let p = cursor_arms::read_cursor(map, area, x.p1);
+    let columns = p.columns(map, area);
+    match columns {
+        Slot::Bad(n) => Stored::Refused(n),
+        Slot::Absent => {
+            state::store_single(map, area, x.p3, DataType::Null, state::UNKNOWN, limit)
+        }
+        Slot::At(at) => store_column(map, area, at, x.p2, x.p3, limit),
+    }
+}
+
+// RowData, SorterData: register P2 becomes the record of cursor P1's columns, an empty one, if it has none.
+pub fn row_data(map: IntMap, area: &mut [u8], x: Row, limit: usize) -> Stored
+    requires { ⌜ Current limit (cells (now area)) map ⌝ }
+    ensures { λ r. ⌜ ((row : ℕ) → CursorArm limit (cells (now (area .entry))) (cells (now (area .exit))) map row x opRowData r) ⌝ }
+{
+    let p = cursor_arms::read_cursor(map, area, x.p1);
+    let columns = p.columns(map, area);
+    match columns {
+        Slot::Bad(n) => Stored::Refused(n),
+        Slot::Absent => store_empty(map, area, x.p2, limit),
+        Slot::At(at) => {
+            let c = area::cell_at(area, at);
+            let head = intmap::RECORD;
+            let payload = c.payload;
+            store_from(map, area, at, Cell { head, payload }, x.p2, limit)
+        }
+    }
+}

@@ -1,0 +1,3 @@
+pub mod RowKept
+pub mod NumberLaws
+pub mod HandlingLaws
