@@ -242,7 +242,8 @@ module _ {limit : ℕ} {cs ds : List Cell} {base : ℕ} {t : List ℕ} {x : Row}
 -- ---- the database
 
 module _ (x : Row) where
-  abbrev isDatabase : Bool
+  -- P3 is 0 or 1
+  abbrev pub isDatabase : Bool
   isDatabase = isZeroInt (intOf (x .p3)) || eqInt (intOf (x .p3)) (pos 1)
 
   pub database-below : x .p3 < offset → isDatabase ≡ false

@@ -10,7 +10,7 @@ use lib.ListN.{length, getD, set}
 use lib.Seq.{getD-set-same}
 use Rattle.type_info.specs.All.{All, all-nil, all-cons}
 use Rattle.model.specs.Row.{Row as Listed}
-use Rattle.model.specs.State.{Columns, TableDataType, MemoryState}
+use Rattle.model.specs.State.{Columns, end, TableDataType, MemoryState}
 use Rattle.model.specs.Equality.{eqInt, isZeroInt}
 use Rattle.model.specs.Cells.{columnsDepth, tableCells}
 use Rattle.model.specs.Catalogue.{CatalogueRecord, columnsAt}
@@ -47,6 +47,7 @@ use Rattle.state.proofs.LeadsLaws.{frame-within, frame-then}
 use Rattle.open_arms.specs.Tables.{OpensTable}
 use Rattle.open_arms.proofs.OpenLaws.{open-large, frame-set, behind-same, behind-current}
 use Rattle.read_arm.specs.Gathers.{atPage, atDatabase, Gathered, Gathers, ReadsTable}
+use Rattle.read_arm.proofs.GatherLaws.{isDatabase}
 
 small-columns : (xs : List CatalogueRecord) → All ValidRecord xs → Each SmallColumn xs
 small-columns [] all-nil = tt
@@ -56,30 +57,27 @@ small-columns (x ∷ xs) (all-cons h more) = (h .col-small, small-columns xs mor
 abbrev table : Columns → TableDataType
 table c = record { cols = c; isEmpty = none }
 
-module _ (limit : ℕ) (t : List ℕ) (x : Row) where
+module _ (limit : ℕ) (x : Row) where
   arm-is : (row : ℕ) (meaning : Meaning) (records : List CatalogueRecord) (l : Listed) → Standard limit meaning → ((db page : ℤ) → meaning .columnsFor db page ≡ columnsAt records db page) → Judged l x → (m : MemoryState) → cursorArm meaning row l m opOpenRead ≡ openTable limit row l (table (atDatabase x records)) m
   unfolding cursorArm openedColumns
   arm-is row meaning records l s columns j m =
       ap₂ (λ n c. openTable n row l (table c) m) (s .cells)
       (ap₂ (λ (p q : ℤ). columnsIf (isZeroInt p || eqInt p (pos 1)) (meaning .columnsFor p q)) (sym (j .p3)) (sym (j .p2))
-      ∙ ap (columnsIf (isZeroInt (intOf (x .p3)) || eqInt (intOf (x .p3)) (pos 1))) (columns (intOf (x .p3)) (intOf (x .p2))))
+      ∙ ap (columnsIf (isDatabase x)) (columns (intOf (x .p3)) (intOf (x .p2))))
 
-  module _ (records : List CatalogueRecord) where
-    database-flat : columnsDepth (atDatabase x records) ≤ 8
-    unfolding columnsDepth
-    database-flat = by (isZeroInt (intOf (x .p3)) || eqInt (intOf (x .p3)) (pos 1))
-      where
-        by : (b : Bool) → columnsDepth (columnsIf b (atPage x records)) ≤ 8
-        by true = omega (arith, columnsAt-flat records (intOf (x .p3)) (intOf (x .p2)))
-        by false = omega arith
+-- a property of these columns, and of none
+either : (P : Columns → Type 0) (b : Bool) (c : Columns) → P c → P end → P (columnsIf b c)
+either P true c p q = p
+either P false c p q = q
 
-    database-sorted : readCatalogue t ≡ some records → SortedColumns (atDatabase x records) 0
-    unfolding SortedColumns
-    database-sorted e = by (isZeroInt (intOf (x .p3)) || eqInt (intOf (x .p3)) (pos 1))
-      where
-        by : (b : Bool) → SortedColumns (columnsIf b (atPage x records)) 0
-        by true = columnsAt-sorted records (small-columns records (catalogue-exact .is t records .0 e .0)) (intOf (x .p3)) (intOf (x .p2))
-        by false = tt
+module _ (t : List ℕ) (x : Row) (records : List CatalogueRecord) where
+  database-flat : columnsDepth (atDatabase x records) ≤ 8
+  unfolding columnsDepth
+  database-flat = either (λ c. columnsDepth c ≤ 8) (isDatabase x) (atPage x records) (omega (arith, columnsAt-flat records (intOf (x .p3)) (intOf (x .p2)))) (omega arith)
+
+  database-sorted : readCatalogue t ≡ some records → SortedColumns (atDatabase x records) 0
+  unfolding SortedColumns
+  database-sorted e = either (λ c. SortedColumns c 0) (isDatabase x) (atPage x records) (columnsAt-sorted records (small-columns records (catalogue-exact .is t records .0 e .0)) (intOf (x .p3)) (intOf (x .p2))) tt
 
 module _ (limit : ℕ) (cs : List Cell) (a : IntMap) (t : List ℕ) (x : Row) where
   -- a table that alone has more cells than there may be
@@ -87,7 +85,7 @@ module _ (limit : ℕ) (cs : List Cell) (a : IntMap) (t : List ℕ) (x : Row) wh
   stops row ds f large =
       record {
         leads = λ meaning records l s read columns j. record {
-          says = λ bound m le h. arm-is limit t x row meaning records l s columns j m ∙ open-large limit row l (table (atDatabase x records)) m (database-flat limit t x records) (large records read);
+          says = λ bound m le h. arm-is limit x row meaning records l s columns j m ∙ open-large limit row l (table (atDatabase x records)) m (database-flat t x records) (large records read);
           leaves = tt;
           frame = f;
         };
@@ -114,65 +112,62 @@ module _ (limit : ℕ) (cs : List Cell) (a : IntMap) (t : List ℕ) (x : Row) wh
       pub read-few : m .used < limit
       read-few = omega (arith, got .room .most)
 
-    module _ (m : IntMap) (e : y ≡ insertion.Done m) (h : ℕ) (he : h ≡ head 2 0 0 0) (es : List Cell) (ee : es ≡ set ds (a .base + limit) (cell h (m .len))) (current : Current limit cs a) where
-      there : Gathered (limit - 1) ds (a .base + limit + 1) t (atDatabase x) m
-      there = got m e
+      module _ (h : ℕ) (he : h ≡ head 2 0 0 0) (es : List Cell) (ee : es ≡ set ds (a .base + limit) (cell h (m .len))) (current : Current limit cs a) where
+        abbrev its : TableDataType
+        its = table (got .columns)
 
-      abbrev its : TableDataType
-      its = table (there .columns)
+        headed : Frame ds es (a .base + limit) 1
+        headed = frame-set ds es (a .base + limit) (cell h (m .len)) ee
 
-      headed : Frame ds es (a .base + limit) 1
-      headed = frame-set ds es (a .base + limit) (cell h (m .len)) ee
+        written : Frame cs es (a .base + limit) limit
+        written = frame-then cs ds es (a .base + limit) limit behind (frame-within ds es (a .base + limit) 1 (a .base + limit) limit (omega arith) (omega arith) headed)
 
-      written : Frame cs es (a .base + limit) limit
-      written = frame-then cs ds es (a .base + limit) limit behind (frame-within ds es (a .base + limit) 1 (a .base + limit) limit (omega arith) (omega arith) headed)
+        pub read-current : Current limit es a
+        read-current = behind-current limit cs es a limit current written
 
-      pub read-current : Current limit es a
-      read-current = behind-current limit cs es a limit current written
+        taken : m .used ≡ length (runColumns (got .columns))
+        taken = got .room .used ∙ total-sizes ds levels (m .len) (m .base) ∙ ap total (got .runs) ∙ sym (length-flatten (columnRuns (got .columns)))
 
-      taken : m .used ≡ length (runColumns (there .columns))
-      taken = there .room .used ∙ total-sizes ds levels (m .len) (m .base) ∙ ap total (there .runs) ∙ sym (length-flatten (columnRuns (there .columns)))
+        many : m .len ≡ count (got .columns)
+        many = sym (entries-count ds levels (m .len) (m .base)) ∙ ap length (got .runs) ∙ count-runs (got .columns)
 
-      many : m .len ≡ count (there .columns)
-      many = sym (entries-count ds levels (m .len) (m .base)) ∙ ap length (there .runs) ∙ count-runs (there .columns)
+        first : getD es (a .base + limit) blank ≡ cell (head 2 0 0 0) (count (got .columns))
+        first =
+            ap (λ l. getD l (a .base + limit) blank) ee
+            ∙ getD-set-same ds (a .base + limit) (cell h (m .len)) blank (omega (arith, current .scratch, behind .long))
+            ∙ ap₂ cell he many
 
-      first : getD es (a .base + limit) blank ≡ cell (head 2 0 0 0) (count (there .columns))
-      first =
-          ap (λ l. getD l (a .base + limit) blank) ee
-          ∙ getD-set-same ds (a .base + limit) (cell h (m .len)) blank (omega (arith, current .scratch, behind .long))
-          ∙ ap₂ cell he many
+        rest : span es (a .base + limit + 1) (m .used) ≡ runColumns (got .columns)
+        rest =
+            span-same ds es (m .used) (a .base + limit + 1) (a .base + limit + 1) (λ j lt. headed .above (a .base + limit + 1 + j) (omega arith))
+            ∙ ap₂ (span ds) (sym (got .place)) taken
+            ∙ stand-entries ds levels (m .len) (m .base) (columnRuns (got .columns)) (got .runs)
 
-      rest : span es (a .base + limit + 1) (m .used) ≡ runColumns (there .columns)
-      rest =
-          span-same ds es (m .used) (a .base + limit + 1) (a .base + limit + 1) (λ j lt. headed .above (a .base + limit + 1 + j) (omega arith))
-          ∙ ap₂ (span ds) (sym (there .place)) taken
-          ∙ stand-entries ds levels (m .len) (m .base) (columnRuns (there .columns)) (there .runs)
+        run : span es (a .base + limit) (1 + m .used) ≡ runTable 0 its
+        unfolding span runTable
+        run =
+            let z : 1 + m .used ≡ suc (m .used) = omega arith in
+            ap (span es (a .base + limit)) z ∙ ap₂ (λ (c : Cell) (l : List Cell). c ∷ l) first rest
 
-      run : span es (a .base + limit) (1 + m .used) ≡ runTable 0 its
-      unfolding span runTable
-      run =
-          let z : 1 + m .used ≡ suc (m .used) = omega arith in
-          ap (span es (a .base + limit)) z ∙ ap₂ (λ (c : Cell) (l : List Cell). c ∷ l) first rest
+        deep : columnsDepth (got .columns) ≤ 8
+        deep = omega (arith, got .flat)
 
-      deep : columnsDepth (there .columns) ≤ 8
-      deep = omega (arith, there .flat)
+        pub read-above : RunAbove es limit a (a .base + limit) (1 + m .used)
+        read-above =
+            let long : length (runTable 0 its) ≡ 1 + m .used = ap length (sym run) ∙ length-span es (a .base + limit) (1 + m .used) in
+            let whole = table-whole its 0 deep es (a .base + limit) (ap (span es (a .base + limit)) long ∙ run) in
+            record { whole = sym (whole ∙ long); above = omega arith; fits = omega (arith, written .long, current .scratch, got .room .most) }
 
-      pub read-above : RunAbove es limit a (a .base + limit) (1 + m .used)
-      read-above =
-          let long : length (runTable 0 its) ≡ 1 + m .used = ap length (sym run) ∙ length-span es (a .base + limit) (1 + m .used) in
-          let whole = table-whole its 0 deep es (a .base + limit) (ap (span es (a .base + limit)) long ∙ run) in
-          record { whole = sym (whole ∙ long); above = omega arith; fits = omega (arith, written .long, current .scratch, there .room .most) }
-
-      pub arm-opened : (row : ℕ) (fs : List Cell) (r : Stored) → OpensTable limit es fs a row (x .p1) (a .base + limit) (1 + m .used) r → ReadsTable limit cs fs a t row x r
-      arm-opened row fs r o =
-          record {
-            leads = λ meaning records l s read columns j. record {
-              says = λ bound n le held.
-                  (let are = there .are records read in
-                  subst (Tells limit bound fs r) (sym (arm-is limit t x row meaning records l s columns j n ∙ ap (λ c. openTable limit row l (table c) n) are))
-                  (o .says l (sym (j .p1)) its 0 deep (λ _. subst (λ c. SortedColumns c 0) are (database-sorted limit t x records read)) run bound n le
-                  (held-elsewhere limit bound cs (a .base) (a .len) (a .used) n held es (a .base) (behind-same limit cs es a limit current written))));
-              leaves = o .leaves;
-              frame = frame-then cs es fs (a .base) (limit + limit) (frame-within cs es (a .base + limit) limit (a .base) (limit + limit) (omega arith) (omega arith) written) (o .frame);
-            };
-          }
+        pub arm-opened : (row : ℕ) (fs : List Cell) (r : Stored) → OpensTable limit es fs a row (x .p1) (a .base + limit) (1 + m .used) r → ReadsTable limit cs fs a t row x r
+        arm-opened row fs r o =
+            record {
+              leads = λ meaning records l s read columns j. record {
+                says = λ bound n le held.
+                    (let are = got .are records read in
+                    subst (Tells limit bound fs r) (sym (arm-is limit x row meaning records l s columns j n ∙ ap (λ c. openTable limit row l (table c) n) are))
+                    (o .says l (sym (j .p1)) its 0 deep (λ _. subst (λ c. SortedColumns c 0) are (database-sorted t x records read)) run bound n le
+                    (held-elsewhere limit bound cs (a .base) (a .len) (a .used) n held es (a .base) (behind-same limit cs es a limit current written))));
+                leaves = o .leaves;
+                frame = frame-then cs es fs (a .base) (limit + limit) (frame-within cs es (a .base + limit) limit (a .base) (limit + limit) (omega arith) (omega arith) written) (o .frame);
+              };
+            }

@@ -4,9 +4,9 @@
 ghost use mathlib.Core.Path.{_≡_};
 ghost use mathlib.Core.Bool.{_&&_, not};
 ghost use mathlib.Core.Option.{some};
-ghost use Prim.Native.Nat.{_+_, _<_, _≤_};
+ghost use Prim.Native.Nat.{_+_, _≤_};
 ghost use lib.IntN.{pos};
-ghost use lib.ListN.{length, set};
+ghost use lib.ListN.{length};
 ghost use Rattle.model.specs.Equality.{eqInt};
 ghost use Rattle.area.specs.Cells.{cells};
 ghost use Rattle.intmap.specs.Map.{HasRoom};
@@ -75,7 +75,8 @@ fn add_column(
     m.insert_cell(area, c, limit)
 }
 
-// Gathers the columns of the row's database and page from `base` on, in at most `limit` cells. An ill-formed text gives up.
+// Gathers the columns of the row's database and page from `base` on, in at most `limit` cells: a later record takes the place of an earlier one
+// for the same column. It stops at the first ill-formed record, and its answer then says nothing.
 fn columns_at(area: &mut [u8], catalogue: &[u8], base: usize, x: Row, limit: usize) -> Insertion
     requires { ⌜ (base + limit ≤ length (cells (now area))) × (length (cells (now area)) ≤ 1048576) ⌝ }
     ensures { λ r. ⌜ Gathers limit (cells (now (area .entry))) (cells (now (area .exit))) base (now (catalogue .entry)) (atPage x) r ⌝ }

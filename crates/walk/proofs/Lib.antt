@@ -1,0 +1,10 @@
+pub mod BranchLaws
+pub mod ListLaws
+pub mod TakeLaws
+pub mod UpLaws
+pub mod FollowLaws
+pub mod ResultLaws
+pub mod AllLaws
+pub mod TurnLaws
+pub mod CloseLaws
+pub mod RunLaws

@@ -1,0 +1,409 @@
+// The walk over a listing: `explain` of sqlx-sqlite 0.9.0, src/connection/explain.rs.
+ghost use mathlib.Core.Path.{_≡_};
+ghost use mathlib.Core.Bool.{Bool};
+ghost use mathlib.Core.List.{List};
+ghost use Prim.Native.Nat.{ℕ, _+_, _<_, _≤_};
+ghost use lib.ListN.{length};
+ghost use Rattle.model.specs.Walk.{noteRepeat};
+ghost use Rattle.area.specs.Cells.{cells, Inside};
+ghost use Rattle.intmap.specs.Map.{IsMap};
+ghost use Rattle.branches.specs.Entries.{Remembering, Kept};
+ghost use Rattle.branches.specs.Header.{rowAt};
+ghost use Rattle.branches.specs.Lists.{Offers as Offered, Pushes, Pops, Loads};
+ghost use Rattle.walk.specs.Walks.{countsFrom, firstFrom, inListing};
+ghost use Rattle.walk.specs.Loop.{Walking, withBranches, Takes, TakesUp, GoesOn, Holding, Turning, Offering, AddsBranch, MayOffer, noteRepeated, FollowsWays, AddsThree, FollowsThree, withWidth, Resulting, FollowsResult, MayFollow, Follows, chargeOne, stopLoop, stopGas, Standing, Turns, Closes, ClosesCurrent, Running, Runs};
+use intmap::IntMap;
+use branches::BranchList;
+use branches::Popped;
+use branches::Pushed;
+use explain::Handling;
+use state::MemoryState;
+use state::Way;
+
+// The listing's rows, so many, behind the rooms of two states of at most `limit` cells.
+pub struct Program {
+    pub limit: usize,
+    pub size: usize,
+}
+
+// A walk between rows: the units left, the four counts, the width of the widest result row, and the branches.
+pub struct Walk {
+    pub gas: u64,
+    pub charged: u64,
+    pub loopstops: u64,
+    pub gasstops: u64,
+    pub repeats: u64,
+    pub width: usize,
+    pub branches: BranchList,
+}
+
+// Where a walk stands: no lineage is left, or the current one is on a row of the listing.
+pub enum Front {
+    NoneLeft(Walk),
+    OnRow(Walk, MemoryState),
+}
+
+// What waits: nothing on a row, or the state at this place, which waits no more.
+pub enum Taken {
+    Nothing(Walk),
+    At(Walk, usize),
+}
+
+// What becomes of a branch: no space for it, or the walk goes on.
+pub enum Added {
+    Full,
+    Done(Walk),
+}
+
+// What a row gives: a refusal, or where the walk stands then.
+pub enum Turn {
+    Over(u64),
+    Goes(Front),
+}
+
+// Where a run is when its budget is used up or it ends.
+pub enum Progress {
+    Paused(Walk, MemoryState),
+    Refused(u64),
+    Ended(Walk),
+}
+
+// The walk with other branches.
+fn with_branches(w: Walk, branches: BranchList) -> Walk
+    ensures { λ r. ⌜ r ≡ withBranches w branches ⌝ }
+{
+    Walk {
+        gas: w.gas,
+        charged: w.charged,
+        loopstops: w.loopstops,
+        gasstops: w.gasstops,
+        repeats: w.repeats,
+        width: w.width,
+        branches,
+    }
+}
+
+// Whether a row's word is that of a row of the listing.
+fn in_listing(row: u64, p: Program) -> bool
+    ensures { λ r. ⌜ r ≡ inListing row p ⌝ }
+{
+    intmap::ZERO <= row && row - intmap::ZERO < p.size as u64
+}
+
+// A branch at a state is dropped or remembered.
+fn add_branch(w: Walk, area: &mut [u8], p: Program, s: MemoryState) -> Added
+    requires { ⌜ Holding p (now area) w × Offering p (now area) w s ⌝ }
+    ensures { λ r. ⌜ AddsBranch p (now (area .entry)) (now (area .exit)) w s r ⌝ }
+{
+    let branches = w.branches;
+    let x = branches.push(area, s, p.limit + p.limit + p.size, p.size, p.limit);
+    match x {
+        Pushed::Full => Added::Full,
+        Pushed::Done(b) => Added::Done(with_branches(w, b)),
+    }
+}
+
+// The latest branch that waits and stands on a row, which waits no more; those that wait outside the listing end.
+fn take(w: Walk, area: &[u8], p: Program) -> Taken
+    requires { ⌜ Walking p (now area) w ⌝ }
+    ensures { λ r. ⌜ Takes p (now (area .entry)) w r ⌝ }
+{
+    let mut list = w.branches;
+    while 0 < list.last {
+        let x = list.pop(area);
+        match x {
+            Popped::Nothing => {
+                return Taken::Nothing(with_branches(w, list));
+            }
+            Popped::At(rest, at) => {
+                if in_listing(branches::row_at(area, at), p) {
+                    return Taken::At(with_branches(w, rest), at);
+                }
+                list = rest;
+            }
+        }
+    }
+    Taken::Nothing(with_branches(w, list))
+}
+
+// That branch is current.
+fn take_up(w: Walk, area: &mut [u8], p: Program) -> Front
+    requires { ⌜ Walking p (now area) w ⌝ }
+    ensures { λ r. ⌜ TakesUp p (now (area .entry)) (now (area .exit)) w r ⌝ }
+{
+    let x = take(w, area, p);
+    match x {
+        Taken::Nothing(v) => Front::NoneLeft(v),
+        Taken::At(v, at) => {
+            let counts = p.limit + p.limit + p.size;
+            Front::OnRow(v, branches::load(area, at, 0, counts, p.size, p.limit))
+        }
+    }
+}
+
+// The state that goes on is current, if it stands on a row.
+fn go_on(w: Walk, area: &mut [u8], p: Program, stays: Way) -> Front
+    requires { ⌜ Walking p (now area) w ⌝ }
+    ensures { λ r. ⌜ GoesOn p (now (area .entry)) (now (area .exit)) w stays r ⌝ }
+{
+    match stays {
+        Way::Nowhere => take_up(w, area, p),
+        Way::To(s) => {
+            if in_listing(s.row, p) {
+                return Front::OnRow(w, s);
+            }
+            take_up(w, area, p)
+        }
+    }
+}
+
+// One more, where a test is true.
+fn one_more(k: u64, test: bool) -> u64
+    requires { ⌜ k < 4294967296 ⌝ }
+    ensures { λ r. ⌜ r ≡ noteRepeat test k ⌝ }
+{
+    if test {
+        return k + 1;
+    }
+    k
+}
+
+// One repeat more, where a handling counts as one.
+fn note_repeat(w: Walk, repeat: bool) -> Walk
+    requires { ⌜ w .repeats < 4294967296 ⌝ }
+    ensures { λ r. ⌜ r ≡ noteRepeated w repeat ⌝ }
+{
+    let branches = w.branches;
+    Walk {
+        gas: w.gas,
+        charged: w.charged,
+        loopstops: w.loopstops,
+        gasstops: w.gasstops,
+        repeats: one_more(w.repeats, repeat),
+        width: w.width,
+        branches,
+    }
+}
+
+// At most one branch is offered, and then the state that goes on is current.
+fn follow_ways(w: Walk, area: &mut [u8], p: Program, branch: Way, stays: Way, repeat: bool) -> Turn
+    requires { ⌜ Turning p (now area) w × MayOffer p (now area) w branch ⌝ }
+    ensures { λ r. ⌜ FollowsWays p (now (area .entry)) (now (area .exit)) w branch stays repeat r ⌝ }
+{
+    match branch {
+        Way::Nowhere => Turn::Goes(go_on(note_repeat(w, repeat), area, p, stays)),
+        Way::To(s) => {
+            let x = add_branch(w, area, p, s);
+            match x {
+                Added::Full => Turn::Over(11),
+                Added::Done(v) => Turn::Goes(go_on(note_repeat(v, repeat), area, p, stays)),
+            }
+        }
+    }
+}
+
+// Three branches are offered in their order.
+fn add_three(w: Walk, area: &mut [u8], p: Program, a: MemoryState, b: MemoryState, c: MemoryState) -> Added
+    requires { ⌜ Holding p (now area) w × Offering p (now area) w a × Offering p (now area) w b × Offering p (now area) w c ⌝ }
+    ensures { λ r. ⌜ AddsThree p (now (area .entry)) (now (area .exit)) w a b c r ⌝ }
+{
+    let x = add_branch(w, area, p, a);
+    match x {
+        Added::Full => Added::Full,
+        Added::Done(u) => {
+            let y = add_branch(u, area, p, b);
+            match y {
+                Added::Full => Added::Full,
+                Added::Done(v) => add_branch(v, area, p, c),
+            }
+        }
+    }
+}
+
+// And then the state that goes on is current.
+fn follow_three(w: Walk, area: &mut [u8], p: Program, a: MemoryState, b: MemoryState, c: MemoryState, stays: MemoryState) -> Turn
+    requires { ⌜ Turning p (now area) w × Offering p (now area) w a × Offering p (now area) w b × Offering p (now area) w c ⌝ }
+    ensures { λ r. ⌜ FollowsThree p (now (area .entry)) (now (area .exit)) w a b c stays r ⌝ }
+{
+    let x = add_three(w, area, p, a, b, c);
+    match x {
+        Added::Full => Turn::Over(11),
+        Added::Done(v) => Turn::Goes(go_on(v, area, p, Way::To(stays))),
+    }
+}
+
+// The walk with another width of the widest result row.
+fn with_width(w: Walk, width: usize) -> Walk
+    ensures { λ r. ⌜ r ≡ withWidth w width ⌝ }
+{
+    let branches = w.branches;
+    Walk {
+        gas: w.gas,
+        charged: w.charged,
+        loopstops: w.loopstops,
+        gasstops: w.gasstops,
+        repeats: w.repeats,
+        width,
+        branches,
+    }
+}
+
+// A result row is merged into the columns, its branch is offered, and the next that waits is current.
+fn follow_result(w: Walk, area: &mut [u8], columns: &mut [u8], p: Program, branch: MemoryState, first: u64, n: u64) -> Turn
+    requires { ⌜ Turning p (now area) w × Resulting p (now area) (now columns) w branch first n ⌝ }
+    ensures { λ r. ⌜ FollowsResult p (now (area .entry)) (now (area .exit)) (now (columns .entry)) (now (columns .exit)) w branch first n r ⌝ }
+{
+    let map = branch.map;
+    let width = merge::merge_row(columns, w.width, map, area, first, n);
+    let x = add_branch(with_width(w, width), area, p, branch);
+    match x {
+        Added::Full => Turn::Over(11),
+        Added::Done(v) => Turn::Goes(take_up(v, area, p)),
+    }
+}
+
+// What follows the handling of a row.
+fn follow(w: Walk, area: &mut [u8], columns: &mut [u8], p: Program, h: Handling) -> Turn
+    requires { ⌜ Turning p (now area) w × MayFollow p (now area) (now columns) w h ⌝ }
+    ensures { λ r. ⌜ Follows p (now (area .entry)) (now (area .exit)) (now (columns .entry)) (now (columns .exit)) w h r ⌝ }
+{
+    match h {
+        Handling::Refused(k) => Turn::Over(k),
+        Handling::Ways(b, s, r) => follow_ways(w, area, p, b, s, r),
+        Handling::Three(a, b, c, s) => follow_three(w, area, p, a, b, c, s),
+        Handling::Result(b, first, n) => follow_result(w, area, columns, p, b, first, n),
+    }
+}
+
+// One of the units is charged.
+fn charge(w: Walk) -> Walk
+    requires { ⌜ (0 < w .gas) × (w .charged < 4294967295) ⌝ }
+    ensures { λ r. ⌜ r ≡ chargeOne w ⌝ }
+{
+    let branches = w.branches;
+    Walk {
+        gas: w.gas - 1,
+        charged: w.charged + 1,
+        loopstops: w.loopstops,
+        gasstops: w.gasstops,
+        repeats: w.repeats,
+        width: w.width,
+        branches,
+    }
+}
+
+// A lineage is closed at a row that it has handled three times.
+fn loop_stop(w: Walk) -> Walk
+    requires { ⌜ w .loopstops < 4294967295 ⌝ }
+    ensures { λ r. ⌜ r ≡ stopLoop w ⌝ }
+{
+    let branches = w.branches;
+    Walk {
+        gas: w.gas,
+        charged: w.charged,
+        loopstops: w.loopstops + 1,
+        gasstops: w.gasstops,
+        repeats: w.repeats,
+        width: w.width,
+        branches,
+    }
+}
+
+// A lineage is closed since no unit is left.
+fn gas_stop(w: Walk) -> Walk
+    requires { ⌜ w .gasstops < 18446744073709551615 ⌝ }
+    ensures { λ r. ⌜ r ≡ stopGas w ⌝ }
+{
+    let branches = w.branches;
+    Walk {
+        gas: w.gas,
+        charged: w.charged,
+        loopstops: w.loopstops,
+        gasstops: w.gasstops + 1,
+        repeats: w.repeats,
+        width: w.width,
+        branches,
+    }
+}
+
+// A turn of the walk: the row that the current lineage is on is charged; a lineage that has handled it three times is closed, else it is handled.
+fn take_turn(w: Walk, s: MemoryState, area: &mut [u8], columns: &mut [u8], catalogue: &[u8], p: Program) -> Turn
+    requires { ⌜ Standing p (now catalogue) (now area) (now columns) w s ⌝ }
+    ensures { λ r. ⌜ Turns p (now (catalogue .entry)) (now (area .entry)) (now (area .exit)) (now (columns .entry)) (now (columns .exit)) w s r ⌝ }
+{
+    let v = charge(w);
+    let k = (s.row - intmap::ZERO) as usize;
+    let from = p.limit + p.limit;
+    let handled = area::count_at(area, from + p.size, k);
+    if 3 <= handled {
+        return Turn::Goes(take_up(loop_stop(v), area, p));
+    }
+    area::raise_count(area, from + p.size, k);
+    let x = rows::row_at(area, from, k);
+    let h = explain::handle(s, area, catalogue, x, 0 < handled, from, p.size, p.limit);
+    follow(v, area, columns, p, h)
+}
+
+// With no unit left, each branch that waits on a row is closed.
+fn close_all(w: Walk, area: &[u8], p: Program) -> Walk
+    requires { ⌜ Walking p (now area) w × (w .gasstops + w .branches .last < 18446744073709551615) ⌝ }
+    ensures { λ r. ⌜ Closes p (now (area .entry)) w r ⌝ }
+{
+    let mut v = w;
+    loop {
+        let x = take(v, area, p);
+        match x {
+            Taken::Nothing(u) => {
+                return u;
+            }
+            Taken::At(u, _) => {
+                v = gas_stop(u);
+            }
+        }
+    }
+}
+
+// With no unit left, the current lineage is closed, and then each that waits on a row.
+fn close(w: Walk, area: &[u8], p: Program) -> Walk
+    requires { ⌜ Walking p (now area) w × (w .gasstops + w .branches .last < 18446744073709551614) ⌝ }
+    ensures { λ r. ⌜ ClosesCurrent p (now (area .entry)) w r ⌝ }
+{
+    close_all(gas_stop(w), area, p)
+}
+
+// The walk goes on until it ends, or until so many rows are charged.
+pub fn run(w: Walk, s: MemoryState, area: &mut [u8], columns: &mut [u8], catalogue: &[u8], p: Program, budget: u64) -> Progress
+    requires { ⌜ Running p (now catalogue) (now area) (now columns) w s ⌝ }
+    ensures { λ r. ⌜ Runs p (now (catalogue .entry)) (now (area .entry)) (now (area .exit)) (now (columns .entry)) (now (columns .exit)) w s budget r ⌝ }
+{
+    let mut v = w;
+    let mut m = s;
+    let mut left = budget;
+    while 0 < left {
+        if v.gas == 0 {
+            return Progress::Ended(close(v, area, p));
+        }
+        let t = take_turn(v, m, area, columns, catalogue, p);
+        match t {
+            Turn::Over(k) => {
+                return Progress::Refused(k);
+            }
+            Turn::Goes(f) => {
+                match f {
+                    Front::NoneLeft(u) => {
+                        return Progress::Ended(u);
+                    }
+                    Front::OnRow(u, n) => {
+                        v = u;
+                        m = n;
+                    }
+                }
+            }
+        }
+        left -= 1;
+    }
+    if v.gas == 0 {
+        return Progress::Ended(close(v, area, p));
+    }
+    Progress::Paused(v, m)
+}
