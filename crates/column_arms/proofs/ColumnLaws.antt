@@ -1,5 +1,5 @@
 -- The search for a column among those behind a head, and whether they nest within their levels. Assumes nothing.
-use mathlib.Core.Path.{_≡_, refl, sym, ap, subst, _∙_}
+use mathlib.Core.Path.{_≡_, refl, sym, ap, _∙_}
 use mathlib.Core.Bool.{Bool, true, false}
 use mathlib.Core.Option.{Option, none, some, Option·map, Option·none-ne-some, Option·some-injective}
 use mathlib.Core.List.{List}
@@ -23,13 +23,12 @@ use Rattle.intmap.specs.Pick.{pick}
 use Rattle.intmap.specs.Runs.{size, sizes, IsColumn}
 use Rattle.intmap.specs.Swap.{lookup}
 use Rattle.intmap.specs.declared.Found.{Found}
-use Rattle.intmap.specs.declared.IntMap.{IntMap}
 use Rattle.intmap.specs.declared.Slot.the-variants as slot
 use Rattle.intmap.proofs.EntryLaws.{total-sizes}
 use Rattle.intmap.proofs.FindLaws.{found-within, found-whole}
 use Rattle.intmap.proofs.RunLaws.{size-pos, size-record}
 use Rattle.intmap.proofs.Swapped.{seek-some, seek-none}
-use Rattle.encoding.specs.Encode.{count, runColumn, columnRuns, runColumns}
+use Rattle.encoding.specs.Encode.{runColumn, columnRuns, runColumns}
 use Rattle.encoding.proofs.Lengths.{length-flatten, count-runs}
 use Rattle.encoding.proofs.Standing.{entries-stand, columns-whole}
 use Rattle.encoding.proofs.StateRuns.{get-column}
@@ -133,9 +132,9 @@ run-some cs d p n e = omega (arith, size-pos cs d p)
 pub run-first : (cs : List Cell) (d p : ℕ) → IsColumn cs d p → p + 1 ≤ length cs
 run-first cs d p is = omega (arith, is .fits, size-pos cs d p)
 
-module _ (cs : List Cell) (p key : ℕ) (is : IsColumn cs levels p) (tag : tagOf (getD cs p blank) ≡ 2) (n : ℕ) (ne : n ≡ size cs levels p) (b : Bool) (be : b ≡ ltb (counted (span cs p n)) n) where
-  pub too-deep : b ≡ false → FindsColumn cs p key (slot.Bad 9)
-  too-deep e =
+module _ (cs : List Cell) (p : ℕ) (is : IsColumn cs levels p) (tag : tagOf (getD cs p blank) ≡ 2) (n : ℕ) (ne : n ≡ size cs levels p) (b : Bool) (be : b ≡ ltb (counted (span cs p n)) n) where
+  pub too-deep : (key : ℕ) → b ≡ false → FindsColumn cs p key (slot.Bad 9)
+  too-deep key e =
       record {
         says = λ x at.
             absurd (omega (arith, state-whole cs p x at tag, ltb-false (counted (span cs p n)) n (sym be ∙ e), ne, ap (λ k. counted (span cs p k)) ne));
@@ -157,7 +156,7 @@ module _ (cs : List Cell) (p key : ℕ) (is : IsColumn cs levels p) (tag : tagOf
       pub columns-map : IsMap cs (record { base = p + 1; len = c .payload; used = all - 1 })
       columns-map = record { used = omega (arith, ae, tall); inside = omega (arith, ae, tall, levels-within 10, is .fits); small = is .small }
 
-      module _ (w : Found) (we : w ≡ seek cs levels key (c .payload) (p + 1)) where
+      module _ (key : ℕ) (w : Found) (we : w ≡ seek cs levels key (c .payload) (p + 1)) where
         sought : w ≡ seek cs levels key (getD cs p blank .payload) (p + 1)
         sought = we ∙ ap (λ (y : Cell). seek cs levels key (y .payload) (p + 1)) ce
 

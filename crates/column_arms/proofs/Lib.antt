@@ -1,3 +1,4 @@
 pub mod WholeLaws
 pub mod ColumnLaws
+pub mod RunLaws
 pub mod ArmLaws

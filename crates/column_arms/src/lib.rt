@@ -54,7 +54,8 @@ fn is_whole(area: &[u8], at: usize, n: usize) -> bool
     true
 }
 
-// Looks for a key among the columns behind the head at `at`, which are a map of their own. In a state they always nest within their levels.
+// Looks for a key among the columns behind the head at `at`, which are a map of their own. A head's run is counted in LEVELS levels, so its
+// columns in one fewer. In a state none goes deeper, and in other cells one that does is refused.
 fn find_column(area: &[u8], at: usize, key: u64) -> Slot
     requires { ⌜ IsColumn (cells (now area)) levels at × (tagOf (getD (cells (now area)) at blank) ≡ 2) ⌝ }
     ensures { λ r. ⌜ FindsColumn (cells (now (area .entry))) at key r ⌝ }
@@ -89,7 +90,7 @@ fn store_from(map: IntMap, area: &mut [u8], at: usize, c: Cell, j: u64, limit: u
     map.store_run(area, state::REGISTERS, j, to, limit)
 }
 
-// Stores an empty record in register j.
+// Stores an empty record in register j. It has one cell, and where there is room for none, it is refused before it is written.
 fn store_empty(map: IntMap, area: &mut [u8], j: u64, limit: usize) -> Stored
     requires { ⌜ Current limit (cells (now area)) map ⌝ }
     ensures { λ r. ⌜ Leads limit (cells (now (area .entry))) (cells (now (area .exit))) map r (storeRegister limit (intOf j) (Column (Record end))) ⌝ }

@@ -43,6 +43,7 @@ use Rattle.branches.specs.Lists.{Offers as Below-them}
 use Rattle.branches.proofs.RememberLaws.{Bytes, counted-kept}
 use Rattle.branches.proofs.BlockLaws.{blocks-low}
 use Rattle.walk.specs.Walks.{rowsFrom, countsFrom, firstFrom, Given, boundOf, HoldsList, Counts, HoldsWalk, HoldsLineage, HoldsRow, HoldsFront, TellsTurn, theFollowing, theTurn}
+use Rattle.explain.specs.Numbers.{IsRow, IsCatalogue}
 use Rattle.explain.specs.Handles.{meaningOf, OffersWays, TellsHandling, LeavesHandling, Handles}
 use Rattle.walk.specs.Loop.{Walking, Turning, Offering, MayOffer, Resulting, MayFollow, StaysHere, Follows, TakesUp, chargeOne, stopLoop, Standing, Turns}
 use Rattle.explain.specs.declared.Handling.{Handling}
@@ -156,6 +157,9 @@ module _ {p : Program} {g : Given} {catalogue xs cols : List ℕ} {w : Walk} {s 
   row-is : k ≡ r .row
   row-is = omega (arith, r .at)
 
+  pub is-catalogue : IsCatalogue catalogue
+  is-catalogue = record { records = g .records; read = r .walk .list .records }
+
   pub count-inside : Inside xs (home (countsFrom p) k) 1
   count-inside = record { within = omega (arith, row-is, r .within, fits-inside (r .walk .list)); small = r .walk .list .remembers .small }
 
@@ -218,6 +222,9 @@ module _ {p : Program} {g : Given} {catalogue xs cols : List ℕ} {w : Walk} {s 
           above = omega (arith, r .at);
           below = omega (arith, r .at, r .within, r .walk .list .few);
         }
+
+    pub is-row : (x : Row) → x ≡ rowIn (getD (cells ys) (rowsFrom p + k) blank) → IsRow x
+    is-row x e = record { listed = listed .element; judged = judged x e }
 
     pub rows-fit : rowsFrom p + p .size ≤ length (cells ys)
     rows-fit = omega (arith, fits-inside raised-list)

@@ -1,3 +1,4 @@
+-- `column_arms::columns_in` goes by the tag. Assumes nothing.
 use mathlib.Core.Path.{sym, _∙_}
 use Rattle.column_arms.proofs.ColumnLaws.{in-record, in-other}
 use borrow.Author.Needs.{needs}
@@ -7,15 +8,12 @@ use Rattle.column_arms.proofs.columns_in.Reads as reads
 use Rattle.column_arms.proofs.columns_in.Lts as lts
 use Rattle.intmap.proofs.tag_of.Reads as tag-of-reads
 
--- src/lib.rt:31:8
 tag-of-requires : tie.Need-tag-of-requires
 tag-of-requires c κs = search needs
 
--- src/lib.rt:32:9
 returns : tie.Need-returns
 returns c = in-record (c .before .before .args .c) (sym (c .before .tag-of .ensures) ∙ c .if1 .taken)
 
--- src/lib.rt:28:1
 returns-2 : tie.Need-returns-2
 returns-2 c = in-other (c .before .before .args .c) (λ t. c .if1 .left (c .before .tag-of .ensures ∙ t))
 

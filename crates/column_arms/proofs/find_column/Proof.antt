@@ -1,3 +1,4 @@
+-- `column_arms::find_column` looks whether the columns nest within their levels, and searches them as a map. Assumes nothing.
 use native.Mathlib.Omega.{arith}
 use borrow.Author.Tests.{not-true, not-false}
 use Rattle.column_arms.proofs.ColumnLaws.{run-some, run-first, too-deep, column-within, columns-map, column-there, column-none}
@@ -11,49 +12,38 @@ use Rattle.column_arms.proofs.is_whole.Reads as is-whole-reads
 use Rattle.intmap.proofs.IntMap.find.Reads as find-reads
 use Rattle.intmap.proofs.count.Reads as count-reads
 
--- src/lib.rt:62:9
 count-requires : tie.Need-count-requires
 count-requires c κs = search needs
 
--- src/lib.rt:63:9
 is-whole-requires : tie.Need-is-whole-requires
 is-whole-requires c κs = (omega (arith, c .before .before .pre .0 .fits, c .count .ensures), c .before .before .pre .0 .small, run-some _ _ _ _ (c .count .ensures))
 
--- src/lib.rt:64:9
 returns : tie.Need-returns
-returns c = too-deep _ _ _ (c .before .before .before .before .pre .0) (c .before .before .before .before .pre .1) _ (c .before .before .count .ensures) _ (c .before .is-whole .ensures) (not-true _ (c .if1 .taken))
+returns c = too-deep _ _ (c .before .before .before .before .pre .0) (c .before .before .before .before .pre .1) _ (c .before .before .count .ensures) _ (c .before .is-whole .ensures) _ (not-true _ (c .if1 .taken))
 
--- src/lib.rt:66:9
 cell-at-requires : tie.Need-cell-at-requires
 cell-at-requires c κs = record { within = run-first _ _ _ (c .before .before .before .before .pre .0); small = c .before .before .before .before .pre .0 .small }
 
--- src/lib.rt:67:39
 add-count : tie.Need-add-count
 add-count c = search needs
 
--- src/lib.rt:67:9
 count-requires-2 : tie.Need-count-requires-2
-count-requires-2 c κs = column-within _ _ (c .before .before .before .before .before .args .key) (c .before .before .before .before .before .pre .0) (c .before .before .before .before .before .pre .1) _ (c .before .before .before .count .ensures) _ (c .before .before .is-whole .ensures) (not-false _ (c .before .if1 .left)) 10
+count-requires-2 c κs = column-within _ _ (c .before .before .before .before .before .pre .0) (c .before .before .before .before .before .pre .1) _ (c .before .before .before .count .ensures) _ (c .before .before .is-whole .ensures) (not-false _ (c .before .if1 .left)) 10
 
--- src/lib.rt:69:15
 add-t12 : tie.Need-add-t12
 add-t12 c = search needs
 
--- src/lib.rt:71:15
 sub-t13 : tie.Need-sub-t13
 sub-t13 c = run-some _ _ _ _ (c .count2 .ensures)
 
--- src/lib.rt:73:9
 find-requires : tie.Need-find-requires
-find-requires c κs = columns-map _ _ (c .before .before .before .before .before .before .args .key) (c .before .before .before .before .before .before .pre .0) (c .before .before .before .before .before .before .pre .1) _ (c .before .before .before .before .count .ensures) _ (c .before .before .before .is-whole .ensures) (not-false _ (c .before .before .if1 .left)) _ (c .before .cell-at .ensures) _ (c .count2 .ensures)
+find-requires c κs = columns-map _ _ (c .before .before .before .before .before .before .pre .0) (c .before .before .before .before .before .before .pre .1) _ (c .before .before .before .before .count .ensures) _ (c .before .before .before .is-whole .ensures) (not-false _ (c .before .before .if1 .left)) _ (c .before .cell-at .ensures) _ (c .count2 .ensures)
 
--- src/lib.rt:76:9
 returns-2 : tie.Need-returns-2
-returns-2 c = column-there _ _ _ (c .before .before .before .before .before .before .before .before .pre .0) (c .before .before .before .before .before .before .before .before .pre .1) _ (c .before .before .before .before .before .before .count .ensures) _ (c .before .before .before .before .before .is-whole .ensures) (not-false _ (c .before .before .before .before .if1 .left)) _ (c .before .before .before .cell-at .ensures) _ (c .before .before .count2 .ensures) _ (c .before .find .ensures) (c .if2 .taken)
+returns-2 c = column-there _ _ (c .before .before .before .before .before .before .before .before .pre .0) (c .before .before .before .before .before .before .before .before .pre .1) _ (c .before .before .before .before .before .before .count .ensures) _ (c .before .before .before .before .before .is-whole .ensures) (not-false _ (c .before .before .before .before .if1 .left)) _ (c .before .before .before .cell-at .ensures) _ (c .before .before .count2 .ensures) _ _ (c .before .find .ensures) (c .if2 .taken)
 
--- src/lib.rt:58:1
 returns-3 : tie.Need-returns-3
-returns-3 c = column-none _ _ _ (c .before .before .before .before .before .before .before .before .pre .0) (c .before .before .before .before .before .before .before .before .pre .1) _ (c .before .before .before .before .before .before .count .ensures) _ (c .before .before .before .before .before .is-whole .ensures) (not-false _ (c .before .before .before .before .if1 .left)) _ (c .before .before .before .cell-at .ensures) _ (c .before .before .count2 .ensures) _ (c .before .find .ensures) (c .if2 .left)
+returns-3 c = column-none _ _ (c .before .before .before .before .before .before .before .before .pre .0) (c .before .before .before .before .before .before .before .before .pre .1) _ (c .before .before .before .before .before .before .count .ensures) _ (c .before .before .before .before .before .is-whole .ensures) (not-false _ (c .before .before .before .before .if1 .left)) _ (c .before .before .before .cell-at .ensures) _ (c .before .before .count2 .ensures) _ _ (c .before .find .ensures) (c .if2 .left)
 
 pub find-column-spec : {M : Type 1} → statement M
 find-column-spec =

@@ -1,4 +1,6 @@
-use mathlib.Core.Path.{_≡_, refl, _∙_}
+-- `column_arms::is_whole` takes each cell's columns from the room that there is. The invariant: the rest fits the room that is left if, and only if,
+-- the whole fits; the cells left lie within; and there is room. The measure is the number of cells left. Assumes nothing.
+use mathlib.Core.Path.{_≡_, _∙_}
 use Prim.Native.Nat.{_+_, _<_, _≤_}
 use native.Mathlib.Omega.{arith}
 use lib.Dec.{ltb}
@@ -24,43 +26,33 @@ Inv-loop area at n p₀ left₀ room₀ p left room =
 abbrev μ-loop : tie.MeasureT-loop
 μ-loop area at n p₀ left₀ room₀ p left room = left
 
--- src/lib.rt:45:5
 loop-holds : tie.Need-loop-holds Inv-loop μ-loop
 loop-holds c = search needs
 
--- src/lib.rt:46:28
 cell-at-requires : tie.Need-cell-at-requires Inv-loop μ-loop
 cell-at-requires c κs = search needs
 
--- src/lib.rt:46:13
 columns-in-requires : tie.Need-columns-in-requires Inv-loop μ-loop
 columns-in-requires c κs = search needs
 
--- src/lib.rt:48:13
 returns : tie.Need-returns Inv-loop μ-loop
 returns c = whole-stop _ _ _ _ _ (c .before .before .before .loop-test .taken) _ (c .before .before .cell-at .ensures) (c .before .columns-in .ensures) (c .if1 .taken) ∙ c .before .before .before .before .loop .inv .0
 
--- src/lib.rt:50:9
 sub-room : tie.Need-sub-room Inv-loop μ-loop
 sub-room c = search needs
 
--- src/lib.rt:51:9
 add-p : tie.Need-add-p Inv-loop μ-loop
 add-p c = search needs
 
--- src/lib.rt:52:9
 sub-left : tie.Need-sub-left Inv-loop μ-loop
 sub-left c = search needs
 
--- src/lib.rt:45:5
 loop-less : tie.Need-loop-less Inv-loop μ-loop
 loop-less c = search needs
 
--- src/lib.rt:45:5
 loop-again : tie.Need-loop-again Inv-loop μ-loop
 loop-again c = (whole-turn _ _ _ _ _ (c .before .before .before .loop-test .taken) _ (c .before .before .cell-at .ensures) (c .before .columns-in .ensures) (c .if1 .left) ∙ c .before .before .before .before .loop .inv .0, omega (arith, c .before .before .before .before .loop .inv .1, c .before .before .before .loop-test .taken), omega (arith, c .if1 .left))
 
--- src/lib.rt:38:1
 returns-2 : tie.Need-returns-2 Inv-loop μ-loop
 returns-2 c = whole-end _ _ _ _ (omega (arith, c .loop-test .left)) (c .before .loop .inv .2) ∙ c .before .loop .inv .0
 

@@ -1,3 +1,4 @@
+-- `column_arms::row_data` reads the cursor and stores its columns as a record, or an empty one. Assumes nothing.
 use Rattle.column_arms.proofs.ArmLaws.{head-above, head-tag, head-below, head-place, row-goes, row-empty, row-there, arm-bad, arm-absent, arm-there}
 use mathlib.Core.Path.{sym, ap}
 use Rattle.area.specs.declared.Cell.{Cell}
@@ -12,59 +13,45 @@ use Rattle.column_arms.proofs.store_from.Reads as store-from-reads
 use Rattle.cursor_arms.proofs.CursorDataType.columns.Reads as columns-reads
 use Rattle.cursor_arms.proofs.read_cursor.Reads as read-cursor-reads
 
--- src/lib.rt:155:9
 read-cursor-requires : tie.Need-read-cursor-requires
 read-cursor-requires c κs = search needs
 
--- src/lib.rt:156:9
 columns-requires : tie.Need-columns-requires
 columns-requires c κs = search needs
 
--- src/lib.rt:158:19
 enum-known-columns : tie.Need-enum-known-columns
 enum-known-columns c = search needs
 
--- src/lib.rt:159:42
 enum-told : tie.Need-enum-told
 enum-told c = search needs
 
--- src/lib.rt:159:25
 store-empty-requires : tie.Need-store-empty-requires
 store-empty-requires c κs = search needs
 
--- src/lib.rt:160:18
 enum-known-columns-2 : tie.Need-enum-known-columns-2
 enum-known-columns-2 c = search needs
 
--- src/lib.rt:161:17
 cell-at-requires : tie.Need-cell-at-requires
 cell-at-requires c κs = record { within = head-place _ _ _ (c .before .before .before .before .before .before .before .before .before .args .x) (c .before .before .before .before .before .before .before .before .before .pre) _ (c .before .before .before .before .before .before .read-cursor .ensures) _ (c .before .before .before .before .columns .ensures) _ (c .before .before .columns3 .given .1); small = c .before .before .before .before .before .before .before .before .before .pre .room .small }
 
--- src/lib.rt:164:13
 store-from-requires : tie.Need-store-from-requires
 store-from-requires c κs = (c .before .before .before .before .before .before .before .before .before .before .before .pre, head-above _ _ _ (c .before .before .before .before .before .before .before .before .before .before .before .args .x) (c .before .before .before .before .before .before .before .before .before .before .before .pre) _ (c .before .before .before .before .before .before .before .before .read-cursor .ensures) _ (c .before .before .before .before .before .before .columns .ensures) _ (c .before .before .before .before .columns3 .given .1), head-below _ _ _ (c .before .before .before .before .before .before .before .before .before .before .before .args .x) (c .before .before .before .before .before .before .before .before .before .before .before .pre) _ (c .before .before .before .before .before .before .before .before .read-cursor .ensures) _ (c .before .before .before .before .before .before .columns .ensures) _ (c .before .before .before .before .columns3 .given .1), sym (head-tag _ _ _ (c .before .before .before .before .before .before .before .before .before .before .before .args .x) (c .before .before .before .before .before .before .before .before .before .before .before .pre) _ (c .before .before .before .before .before .before .before .before .read-cursor .ensures) _ (c .before .before .before .before .before .before .columns .ensures) _ (c .before .before .before .before .columns3 .given .1)), ap (λ (c : Cell). c .payload) (c .before .cell-at .ensures))
 
--- src/lib.rt:151:1
 same-length : tie.Need-same-length
 same-length c = search needs
 
--- src/lib.rt:151:1
 returns : tie.Need-returns
 returns c = arm-bad _ _ _ _ (c .before .before .before .before .before .before .before .before .pre) _ (c .before .before .before .before .before .read-cursor .ensures) _ (c .before .before .before .columns .ensures) _ _ (λ row. row-goes _ row _) _ (c .before .columns2 .given .1)
 
--- src/lib.rt:151:1
 same-length-2 : tie.Need-same-length-2
 same-length-2 c = search needs
 
--- src/lib.rt:151:1
 returns-2 : tie.Need-returns-2
 returns-2 c = arm-absent _ _ _ _ (c .before .before .before .before .before .before .before .before .before .before .before .pre) _ (c .before .before .before .before .before .before .before .before .read-cursor .ensures) _ (c .before .before .before .before .before .before .columns .ensures) _ _ (λ row. row-goes _ row _) (c .before .before .before .before .enum-told .given .1) _ _ (row-empty _ _ _ _ _ _ (c .before .before .store-empty .ensures))
 
--- src/lib.rt:151:1
 same-length-3 : tie.Need-same-length-3
 same-length-3 c = search needs
 
--- src/lib.rt:151:1
 returns-3 : tie.Need-returns-3
 returns-3 c = arm-there _ _ _ _ (c .before .before .before .before .before .before .before .before .before .before .before .before .before .before .pre) _ (c .before .before .before .before .before .before .before .before .before .before .before .read-cursor .ensures) _ (c .before .before .before .before .before .before .before .before .before .columns .ensures) _ _ (λ row. row-goes _ row _) _ (c .before .before .before .before .before .before .before .columns3 .given .1) _ _ (row-there _ _ _ _ _ (head-tag _ _ _ (c .before .before .before .before .before .before .before .before .before .before .before .before .before .before .args .x) (c .before .before .before .before .before .before .before .before .before .before .before .before .before .before .pre) _ (c .before .before .before .before .before .before .before .before .before .before .before .read-cursor .ensures) _ (c .before .before .before .before .before .before .before .before .before .columns .ensures) _ (c .before .before .before .before .before .before .before .columns3 .given .1)) _ (c .before .before .before .before .cell-at .ensures) _ _ (c .before .before .store-from .ensures))
 

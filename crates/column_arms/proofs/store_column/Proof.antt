@@ -1,3 +1,4 @@
+-- `column_arms::store_column` goes by the index and what the search finds. Assumes nothing.
 use mathlib.Core.Path.{ap}
 use Rattle.intmap.specs.Pack.{tagOf}
 use Rattle.area.specs.declared.Cell.{Cell}
@@ -13,71 +14,54 @@ use Rattle.column_arms.proofs.store_from.Reads as store-from-reads
 use Rattle.intmap.proofs.judge_index.Reads as judge-index-reads
 use Rattle.state.proofs.store_single.Reads as store-single-reads
 
--- src/lib.rt:115:9
 judge-index-requires : tie.Need-judge-index-requires
 judge-index-requires c κs = search needs
 
--- src/lib.rt:117:20
 enum-known-x : tie.Need-enum-known-x
 enum-known-x c = search needs
 
--- src/lib.rt:118:19
 enum-known-x-2 : tie.Need-enum-known-x-2
 enum-known-x-2 c = search needs
 
--- src/lib.rt:119:17
 find-column-requires : tie.Need-find-column-requires
 find-column-requires c κs = search needs
 
--- src/lib.rt:121:27
 enum-known-column : tie.Need-enum-known-column
 enum-known-column c = search needs
 
--- src/lib.rt:123:46
 enum-told : tie.Need-enum-told
 enum-told c = search needs
 
--- src/lib.rt:123:21
 store-single-requires : tie.Need-store-single-requires
 store-single-requires c κs = search needs
 
--- src/lib.rt:125:26
 enum-known-column-2 : tie.Need-enum-known-column-2
 enum-known-column-2 c = search needs
 
--- src/lib.rt:126:25
 cell-at-requires : tie.Need-cell-at-requires
-cell-at-requires c κs = record { within = column-place _ _ _ _ (c .before .before .before .before .before .before .before .before .before .before .before .pre .0) (c .before .before .before .before .before .before .before .before .before .before .before .pre .1) (c .before .before .before .before .before .before .before .before .before .before .before .pre .2) _ (c .before .before .before .before .before .before .before .before .before .before .before .args .j) _ (c .before .before .before .before .before .before .before .before .before .judge-index .ensures) _ (c .before .before .before .before .before .before .before .x2 .given .1) _ (c .before .before .before .before .find-column .ensures) _ (c .before .before .column2 .given .1); small = c .before .before .before .before .before .before .before .before .before .before .before .pre .0 .room .small }
+cell-at-requires c κs = record { within = column-place _ _ _ _ (c .before .before .before .before .before .before .before .before .before .before .before .pre .0) (c .before .before .before .before .before .before .before .before .before .before .before .pre .1) (c .before .before .before .before .before .before .before .before .before .before .before .pre .2) _ _ (c .before .before .before .before .find-column .ensures) _ (c .before .before .column2 .given .1); small = c .before .before .before .before .before .before .before .before .before .before .before .pre .0 .room .small }
 
--- src/lib.rt:127:21
 store-from-requires : tie.Need-store-from-requires
-store-from-requires c κs = let place = column-inside _ _ _ _ (c .before .before .before .before .before .before .before .before .before .before .before .before .before .pre .0) (c .before .before .before .before .before .before .before .before .before .before .before .before .before .pre .1) (c .before .before .before .before .before .before .before .before .before .before .before .before .before .pre .2) _ (c .before .before .before .before .before .before .before .before .before .before .before .before .before .args .j) _ (c .before .before .before .before .before .before .before .before .before .before .before .judge-index .ensures) _ (c .before .before .before .before .before .before .before .before .before .x2 .given .1) _ (c .before .before .before .before .before .before .find-column .ensures) _ (c .before .before .before .before .column2 .given .1) in (c .before .before .before .before .before .before .before .before .before .before .before .before .before .pre .0, place .0, place .1, ap (λ (c : Cell). tagOf c) (c .before .cell-at .ensures), ap (λ (c : Cell). c .payload) (c .before .cell-at .ensures))
+store-from-requires c κs = let place = column-inside _ _ _ _ (c .before .before .before .before .before .before .before .before .before .before .before .before .before .pre .0) (c .before .before .before .before .before .before .before .before .before .before .before .before .before .pre .1) (c .before .before .before .before .before .before .before .before .before .before .before .before .before .pre .2) _ _ (c .before .before .before .before .before .before .find-column .ensures) _ (c .before .before .before .before .column2 .given .1) in (c .before .before .before .before .before .before .before .before .before .before .before .before .before .pre .0, place .0, place .1, ap (λ (c : Cell). tagOf c) (c .before .cell-at .ensures), ap (λ (c : Cell). c .payload) (c .before .cell-at .ensures))
 
--- src/lib.rt:111:1
 returns : tie.Need-returns
 returns c = column-index _ _ _ _ (c .before .before .before .before .before .pre .0) (c .before .before .before .before .before .pre .1) (c .before .before .before .before .before .pre .2) _ _ _ (c .before .before .before .judge-index .ensures) _ (c .before .x .given .1)
 
--- src/lib.rt:111:1
 same-length : tie.Need-same-length
 same-length c = search needs
 
--- src/lib.rt:111:1
 returns-2 : tie.Need-returns-2
 returns-2 c = column-bad _ _ _ _ (c .before .before .before .before .before .before .before .before .before .before .pre .0) (c .before .before .before .before .before .before .before .before .before .before .pre .1) (c .before .before .before .before .before .before .before .before .before .before .pre .2) _ _ _ (c .before .before .before .before .before .before .before .before .judge-index .ensures) _ (c .before .before .before .before .before .before .x2 .given .1) _ (c .before .before .before .find-column .ensures) _ (c .before .column .given .1)
 
--- src/lib.rt:111:1
 same-length-2 : tie.Need-same-length-2
 same-length-2 c = search needs
 
--- src/lib.rt:111:1
 returns-3 : tie.Need-returns-3
 returns-3 c = column-absent _ _ _ _ (c .before .before .before .before .before .before .before .before .before .before .before .before .before .pre .0) (c .before .before .before .before .before .before .before .before .before .before .before .before .before .pre .1) (c .before .before .before .before .before .before .before .before .before .before .before .before .before .pre .2) _ _ _ (c .before .before .before .before .before .before .before .before .before .before .before .judge-index .ensures) _ (c .before .before .before .before .before .before .before .before .before .x2 .given .1) _ (c .before .before .before .before .before .before .find-column .ensures) (c .before .before .before .before .enum-told .given .1) _ _ (c .before .before .store-single .ensures)
 
--- src/lib.rt:111:1
 same-length-3 : tie.Need-same-length-3
 same-length-3 c = search needs
 
--- src/lib.rt:111:1
 returns-4 : tie.Need-returns-4
 returns-4 c = column-there _ _ _ _ (c .before .before .before .before .before .before .before .before .before .before .before .before .before .before .before .before .pre .0) (c .before .before .before .before .before .before .before .before .before .before .before .before .before .before .before .before .pre .1) (c .before .before .before .before .before .before .before .before .before .before .before .before .before .before .before .before .pre .2) _ _ _ (c .before .before .before .before .before .before .before .before .before .before .before .before .before .before .judge-index .ensures) _ (c .before .before .before .before .before .before .before .before .before .before .before .before .x2 .given .1) _ (c .before .before .before .before .before .before .before .before .before .find-column .ensures) _ (c .before .before .before .before .before .before .before .column2 .given .1) _ (c .before .before .before .before .cell-at .ensures) _ _ (c .before .before .store-from .ensures)
 

@@ -1,5 +1,6 @@
+-- `column_arms::store_from` moves the run behind the map, writes its head, and stores it. Assumes nothing.
+use Rattle.column_arms.proofs.RunLaws.{behind-inside, run-room, run-above, stores-run}
 use native.Mathlib.Omega.{arith}
-use Rattle.column_arms.proofs.ArmLaws.{behind-put, run-room, run-above, stores-run}
 use borrow.Author.Needs.{needs}
 use Rattle.column_arms.proofs.store_from.Statement.{statement}
 use Rattle.column_arms.proofs.store_from.Tie as tie
@@ -9,29 +10,23 @@ use Rattle.area.proofs.put_cell.Reads as put-cell-reads
 use Rattle.cursor_arms.proofs.run_behind.Reads as run-behind-reads
 use Rattle.intmap.proofs.IntMap.store_run.Reads as store-run-reads
 
--- src/lib.rt:86:5
 run-behind-requires : tie.Need-run-behind-requires
 run-behind-requires c κs = search needs
 
--- src/lib.rt:87:14
 add-to : tie.Need-add-to
 add-to c = search needs
 
--- src/lib.rt:88:5
 put-cell-requires : tie.Need-put-cell-requires
-put-cell-requires c κs = behind-put _ _ _ _ _ _ (c .before .before .before .before .before .before .before .pre .0) (c .before .before .before .before .before .before .before .pre .1) (c .before .before .before .before .before .before .before .pre .2) (c .before .before .before .before .run-behind .ensures)
+put-cell-requires c κs = behind-inside _ _ _ _ _ (c .before .before .before .before .before .before .before .pre .0) (c .before .before .before .before .before .before .before .pre .1) (c .before .before .before .before .before .before .before .pre .2) _ (c .before .before .before .before .run-behind .ensures)
 
--- src/lib.rt:89:5
 store-run-requires : tie.Need-store-run-requires
-store-run-requires c κs = (run-room _ _ _ _ _ _ _ _ (c .before .before .before .before .before .before .before .before .before .before .before .pre .0) (c .before .before .before .before .before .before .before .before .before .before .before .pre .1) (c .before .before .before .before .before .before .before .before .before .before .before .pre .2) (c .before .before .before .before .before .before .before .before .before .before .before .pre .3) (c .before .before .before .before .before .before .before .before .before .before .before .pre .4) (c .before .before .before .before .before .before .before .before .run-behind .ensures) (c .before .before .before .put-cell .ensures .cells), omega arith, run-above _ _ _ _ _ _ _ _ (c .before .before .before .before .before .before .before .before .before .before .before .pre .0) (c .before .before .before .before .before .before .before .before .before .before .before .pre .1) (c .before .before .before .before .before .before .before .before .before .before .before .pre .2) (c .before .before .before .before .before .before .before .before .before .before .before .pre .3) (c .before .before .before .before .before .before .before .before .before .before .before .pre .4) (c .before .before .before .before .before .before .before .before .run-behind .ensures) (c .before .before .before .put-cell .ensures .cells))
+store-run-requires c κs = (run-room _ _ _ _ _ (c .before .before .before .before .before .before .before .before .before .before .before .pre .0) (c .before .before .before .before .before .before .before .before .before .before .before .pre .1) (c .before .before .before .before .before .before .before .before .before .before .before .pre .2) _ _ _ (c .before .before .before .before .before .before .before .before .before .before .before .pre .3) (c .before .before .before .before .before .before .before .before .before .before .before .pre .4) (c .before .before .before .before .before .before .before .before .run-behind .ensures) (c .before .before .before .put-cell .ensures .cells), omega arith, run-above _ _ _ _ _ (c .before .before .before .before .before .before .before .before .before .before .before .pre .0) (c .before .before .before .before .before .before .before .before .before .before .before .pre .1) (c .before .before .before .before .before .before .before .before .before .before .before .pre .2) _ _ _ (c .before .before .before .before .before .before .before .before .before .before .before .pre .3) (c .before .before .before .before .before .before .before .before .before .before .before .pre .4) (c .before .before .before .before .before .before .before .before .run-behind .ensures) (c .before .before .before .put-cell .ensures .cells))
 
--- src/lib.rt:82:1
 same-length : tie.Need-same-length
 same-length c = search needs
 
--- src/lib.rt:82:1
 returns : tie.Need-returns
-returns c = stores-run _ _ _ _ _ _ _ _ (c .before .before .before .before .before .before .before .before .before .before .before .before .before .before .pre .0) (c .before .before .before .before .before .before .before .before .before .before .before .before .before .before .pre .1) (c .before .before .before .before .before .before .before .before .before .before .before .before .before .before .pre .2) (c .before .before .before .before .before .before .before .before .before .before .before .before .before .before .pre .3) (c .before .before .before .before .before .before .before .before .before .before .before .before .before .before .pre .4) (c .before .before .before .before .before .before .before .before .before .before .before .run-behind .ensures) (c .before .before .before .before .before .before .put-cell .ensures .cells) _ _ _ (c .before .before .store-run .ensures)
+returns c = stores-run _ _ _ _ _ (c .before .before .before .before .before .before .before .before .before .before .before .before .before .before .pre .0) (c .before .before .before .before .before .before .before .before .before .before .before .before .before .before .pre .1) (c .before .before .before .before .before .before .before .before .before .before .before .before .before .before .pre .2) _ _ _ (c .before .before .before .before .before .before .before .before .before .before .before .before .before .before .pre .3) (c .before .before .before .before .before .before .before .before .before .before .before .before .before .before .pre .4) (c .before .before .before .before .before .before .before .before .before .before .before .run-behind .ensures) (c .before .before .before .before .before .before .put-cell .ensures .cells) _ _ _ (c .before .before .store-run .ensures)
 
 pub store-from-spec : {M : Type 1} → statement M
 store-from-spec =

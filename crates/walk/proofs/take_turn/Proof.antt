@@ -1,5 +1,5 @@
 use native.Mathlib.Omega.{arith}
-use Rattle.walk.proofs.TurnLaws.{may-charge, may-count, row-inside, is-ready, rows-fit, limit-fits, may-stop, closed-walking, turns-closed, handled-turning, handled-may, turns-handled}
+use Rattle.walk.proofs.TurnLaws.{may-charge, may-count, row-inside, is-ready, is-row, is-catalogue, rows-fit, limit-fits, may-stop, closed-walking, turns-closed, handled-turning, handled-may, turns-handled}
 use borrow.Author.Needs.{needs}
 use Rattle.walk.proofs.take_turn.Statement.{statement}
 use Rattle.walk.proofs.take_turn.Tie as tie
@@ -64,7 +64,7 @@ row-at-requires c κs = row-inside (c .before .before .before .before .before .b
 
 -- src/lib.rt:363:9
 handle-requires : tie.Need-handle-requires
-handle-requires c κs = (is-ready (c .before .before .before .before .before .before .before .before .before .before .before .before .before .before .before .before .before .before .pre .holds) _ (c .before .before .before .before .before .before .before .before .before .before .before .before .before .before .before .before .before .slice-known .given) (c .before .before .before .slice-known4 .given) (c .before .before .before .before .before .raise-count .ensures) _ (c .before .row-at .ensures), rows-fit (c .before .before .before .before .before .before .before .before .before .before .before .before .before .before .before .before .before .before .pre .holds) _ (c .before .before .before .before .before .before .before .before .before .before .before .before .before .before .before .before .before .slice-known .given) (c .before .before .before .slice-known4 .given) (c .before .before .before .before .before .raise-count .ensures), limit-fits (c .before .before .before .before .before .before .before .before .before .before .before .before .before .before .before .before .before .before .pre .holds) _ (c .before .before .before .before .before .before .before .before .before .before .before .before .before .before .before .before .before .slice-known .given) (c .before .before .before .slice-known4 .given) (c .before .before .before .before .before .raise-count .ensures))
+handle-requires c κs = (is-ready (c .before .before .before .before .before .before .before .before .before .before .before .before .before .before .before .before .before .before .pre .holds) _ (c .before .before .before .before .before .before .before .before .before .before .before .before .before .before .before .before .before .slice-known .given) (c .before .before .before .slice-known4 .given) (c .before .before .before .before .before .raise-count .ensures) _ (c .before .row-at .ensures), rows-fit (c .before .before .before .before .before .before .before .before .before .before .before .before .before .before .before .before .before .before .pre .holds) _ (c .before .before .before .before .before .before .before .before .before .before .before .before .before .before .before .before .before .slice-known .given) (c .before .before .before .slice-known4 .given) (c .before .before .before .before .before .raise-count .ensures), limit-fits (c .before .before .before .before .before .before .before .before .before .before .before .before .before .before .before .before .before .before .pre .holds) _ (c .before .before .before .before .before .before .before .before .before .before .before .before .before .before .before .before .before .slice-known .given) (c .before .before .before .slice-known4 .given) (c .before .before .before .before .before .raise-count .ensures), is-row (c .before .before .before .before .before .before .before .before .before .before .before .before .before .before .before .before .before .before .pre .holds) _ (c .before .before .before .before .before .before .before .before .before .before .before .before .before .before .before .before .before .slice-known .given) (c .before .before .before .slice-known4 .given) (c .before .before .before .before .before .raise-count .ensures) _ (c .before .row-at .ensures), is-catalogue (c .before .before .before .before .before .before .before .before .before .before .before .before .before .before .before .before .before .before .pre .holds))
 
 -- src/lib.rt:364:5
 follow-requires : tie.Need-follow-requires
