@@ -1,9 +1,8 @@
 -- What follows a row's handling, whatever it gave. Assumes nothing.
-use mathlib.Core.Path.{_≡_, refl, sym, ap, subst, _∙_}
+use mathlib.Core.Path.{_≡_, refl, sym, subst}
 use mathlib.Core.Bool.{Bool}
 use mathlib.Core.List.{List}
 use Prim.Native.Nat.{ℕ}
-use lib.ListN.{length}
 use Rattle.state.specs.declared.MemoryState.{MemoryState}
 use Rattle.state.specs.declared.Way.{Way}
 use Rattle.walk.specs.Loop.{Offering, MayOffer, Resulting, FollowsWays, FollowsThree, FollowsResult, MayFollow, Follows}

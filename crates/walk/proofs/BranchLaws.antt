@@ -1,19 +1,18 @@
 -- A branch pushed, as the definition offers it. Assumes nothing.
-use mathlib.Core.Path.{_≡_, refl, sym, ap, subst, subst₂, _∙_}
+use mathlib.Core.Path.{_≡_, refl, sym, ap, subst, _∙_}
 use mathlib.Core.Logic.{_⊎_, inl, inr}
-use mathlib.Core.Bool.{Bool, true, false}
 use mathlib.Core.Option.{some}
 use mathlib.Core.List.{List, [], _∷_}
-use Prim.Native.Nat.{ℕ, _+_, _-_, _/_, _<_, _≤_}
+use Prim.Native.Nat.{ℕ, _+_, _-_, _/_, _<_}
 use native.Mathlib.Omega.{arith}
 use lib.Dec.{leb}
 use lib.ListN.{length, getD, getElem?}
-use Rattle.model.specs.Walk.{Lineage, Verdict, dropped, kept, noSpace, verdict, known, judge, Offered, full, offer}
+use Rattle.model.specs.Walk.{Lineage, Verdict, dropped, kept, noSpace, verdict, known, judge, full, offer}
 use Rattle.model.specs.Row.{Row as Listed}
 use Rattle.model.specs.State.{MemoryState as Defined}
 use Rattle.model.specs.Cells.{cells as cellsOf}
 use Rattle.model.specs.Equality.{eqState}
-use Rattle.model.specs.Results.{ResultRow, columnsOf}
+use Rattle.model.specs.Results.{ResultRow}
 use Rattle.model.specs.Explain.{units}
 use Rattle.model.specs.Offer.{rowAt}
 use Rattle.model.proofs.Rows.{rowAt-within}
@@ -22,15 +21,14 @@ use Rattle.area.specs.Cells.{blank, cells}
 use Rattle.area.specs.declared.Cell.{Cell}
 use Rattle.rows.specs.Rows.{rowIn}
 use Rattle.rows.specs.Judged.{Judged, HaveRows}
-use Rattle.state.specs.Steps.{HoldsState}
 use Rattle.state.specs.declared.MemoryState.{MemoryState}
-use Rattle.branches.specs.Entries.{Kept, states, lineages, Counted, Remembers}
+use Rattle.branches.specs.Entries.{Kept, states, lineages, Remembers}
 use Rattle.branches.specs.Lists.{Below, unitsFor, Dropped, Added as Kept-now, Pushes}
 use Rattle.branches.specs.declared.BranchList.{BranchList}
 use Rattle.branches.specs.declared.Pushed.{Pushed}
 use Rattle.branches.specs.declared.Pushed.the-variants as pushed
-use Rattle.walk.specs.Walks.{rowsFrom, countsFrom, firstFrom, Given, boundOf, HoldsList, theOffer}
-use Rattle.walk.specs.Loop.{withBranches, Offers, SameCounts, AddsBranch}
+use Rattle.walk.specs.Walks.{rowsFrom, countsFrom, Given, boundOf, HoldsList}
+use Rattle.walk.specs.Loop.{withBranches, Offers, AddsBranch}
 use Rattle.walk.specs.declared.Program.{Program}
 use Rattle.walk.specs.declared.Walk.{Walk}
 use Rattle.walk.specs.declared.Added.the-variants as added
@@ -81,6 +79,7 @@ module _ {p : Program} {g : Given} {catalogue xs cols : List ℕ} {w : Walk} {ls
         rows = rows-kept (cells xs) (cells ys) (rowsFrom p) (g .rows) (λ i lt. below .same (rowsFrom p + i) (omega (arith, h .size, h .first))) (h .rows);
         records = h .records;
         columns = h .columns;
+        wide = h .wide;
         all = all;
         wait = wait;
         remembers = remembers;
@@ -116,10 +115,11 @@ module _ (p : Program) (xs ys : List ℕ) (w : Walk) (s : MemoryState) where
   adds-done-as : (r : Pushed) (b : BranchList) → Pushes (p .limit) (p .size) (countsFrom p) xs ys (w .branches) s r → r ≡ pushed.Done b → AddsBranch p xs ys w s (added.Done (withBranches w b))
   adds-done-as r b pushes e =
       record {
-        says = λ g catalogue cols ls remembered space counted past m h held past-counted.
-            (told g catalogue cols ls remembered space counted past m h
+        says = λ g catalogue cols ls remembered space counted past m h held past-counted. (
+          told g catalogue cols ls remembered space counted past m h
               (as-done .says (boundOf w) (h .all) (h .wait) m past (h .remembers) held past-counted),
-            record { gas = refl; charged = refl; loopstops = refl; gasstops = refl; repeats = refl; width = refl });
+          record { gas = refl; charged = refl; loopstops = refl; gasstops = refl; repeats = refl; width = refl },
+        );
         below = pushes .below;
         bytes = pushes .bytes;
       }

@@ -1,25 +1,15 @@
 -- With no unit left: the branches that wait are taken up one by one, and each that stands on a row is closed. And what a turn notes.
 -- Assumes nothing.
-use mathlib.Core.Path.{_≡_, refl, sym, ap, subst, _∙_}
-use mathlib.Core.Logic.{inl}
-use mathlib.Core.Bool.{Bool, true, false}
+use mathlib.Core.Path.{_≡_, refl, sym, subst, _∙_}
 use mathlib.Core.Option.{Option, none, some}
 use mathlib.Core.List.{List, [], _∷_}
 use Prim.Native.Nat.{ℕ, _+_, _<_, _≤_}
 use native.Mathlib.Omega.{arith}
-use lib.ListN.{length}
-use Rattle.model.specs.Walk.{_∈_, Tried, refused, done, Ways, Lineage, Notes, addRow, noteTaken, gasStop, charge, loopStop, noteHandled, noteWays, onward, Front as Fronted, noneLeft, onRow, notesAt, takeUp, goOn, closeAll, Offered, full, offered, offer, Turn as Turned, over, goes, underLimit, handledBefore, settle, followWays, handleIf, turn}
+use Rattle.model.specs.Walk.{Lineage, Notes, noteTaken, gasStop, Front as Fronted, noneLeft, onRow, notesAt, takeUp, closeAll}
 use Rattle.model.specs.State.{MemoryState as Defined}
-use Rattle.model.specs.Equality.{eqState}
 use Rattle.model.specs.Results.{ResultRow}
-use Rattle.model.specs.Offer.{Offer}
-use Rattle.model.specs.Explain.{rowOf, ways, units}
-use Rattle.area.specs.Cells.{cells}
-use Rattle.branches.specs.Entries.{Kept, Waiting}
-use Rattle.branches.proofs.BlockLaws.{blocks-span}
-use Rattle.encoding.specs.Holds.{largest}
-use Rattle.walk.specs.Walks.{Given, boundOf, HoldsList, Counts, HoldsWalk, HoldsEnd, theTurn}
-use Rattle.explain.specs.Handles.{meaningOf}
+use Rattle.model.specs.Explain.{rowOf}
+use Rattle.walk.specs.Walks.{Given, HoldsWalk, Few, HoldsEnd}
 use Rattle.walk.specs.Loop.{Walking, Takes, stopGas, Closes, ClosesCurrent}
 use Rattle.walk.specs.declared.Program.{Program}
 use Rattle.walk.specs.declared.Walk.{Walk}
@@ -66,6 +56,9 @@ up-notes g (l ∷ ls) n = go (rowOf (g .rows) (l .mem)) (up-notes g ls (noteTake
 taken-notes : (g : Given) (ls : List (Lineage Defined)) (n : Notes Defined ResultRow) (row : ℕ) (l : Lineage Defined) (rest : List (Lineage Defined)) (m : Notes Defined ResultRow) → takeUp (rowOf (g .rows)) ls n ≡ onRow row l rest m → m .gasstops ≡ n .gasstops
 taken-notes g ls n row l rest m e = subst (λ f. notesAt f .gasstops ≡ n .gasstops) e (up-notes g ls n .gasstops)
 
+none-notes : (g : Given) (ls : List (Lineage Defined)) (n m : Notes Defined ResultRow) → takeUp (rowOf (g .rows)) ls n ≡ noneLeft m → m .gasstops ≡ n .gasstops
+none-notes g ls n m e = subst (λ f. notesAt f .gasstops ≡ n .gasstops) e (up-notes g ls n .gasstops)
+
 -- a gas stop more
 pub stopped : {p : Program} {g : Given} {catalogue xs cols : List ℕ} {w : Walk} {ls : List (Lineage Defined)} {n : Notes Defined ResultRow} → HoldsWalk p g catalogue xs cols w ls n → HoldsWalk p g catalogue xs cols (stopGas w) ls (gasStop n)
 stopped {w = w} h =
@@ -104,17 +97,27 @@ module _ {p : Program} {xs : List ℕ} {w v : Walk} (c : Closing p xs w v) where
       record { given = a .given; catalogue = a .catalogue; cols = a .cols; waiting = h .waiting; notes = h .notes; holds = h .holds }
 
   module _ (x : Taken) (takes : Takes p xs v x) where
-    pub closing-end : (u : Walk) → x ≡ taken.Nothing u → Closes p xs w u
-    closing-end u e =
+    pub closing-end : (u : Walk) → x ≡ taken.Nothing u → w .gasstops + w .branches .last < 4294967295 → Closes p xs w u
+    closing-end u e lt =
         record {
           says = λ g catalogue cols ls n h.
               let a = c .says g catalogue cols ls n h in
               let t = as-nothing .says g catalogue cols (a .waiting) (a .notes) (a .holds) in
               let is : closeAll (rowOf (g .rows)) ls n ≡ t .notes = a .same ∙ subst (λ f. ClosedAs g f (closeAll (rowOf (g .rows)) (a .waiting) (a .notes))) (t .is) (closed-as g (a .waiting) (a .notes)) in
               subst (HoldsEnd cols u) (sym is)
-              (record { charged = t .holds .counts .charged; loopstops = t .holds .counts .loopstops; gasstops = t .holds .counts .gasstops; repeats = t .holds .counts .repeats; columns = t .holds .list .columns });
+              (record { charged = t .holds .counts .charged; loopstops = t .holds .counts .loopstops; gasstops = t .holds .counts .gasstops; repeats = t .holds .counts .repeats; columns = t .holds .list .columns; few = few-then (t .holds) (t .holds .counts .gasstops ∙ none-notes g (a .waiting) (a .notes) (t .notes) (t .is) ∙ sym (a .holds .counts .gasstops)) });
         }
       where
+        few-then : {g : Given} {catalogue cols : List ℕ} {ls : List (Lineage Defined)} {n : Notes Defined ResultRow} → HoldsWalk p g catalogue xs cols u ls n → u .gasstops ≡ v .gasstops → Few u
+        few-then h same =
+            record {
+              charged = omega (arith, h .counts .gas-few);
+              loopstops = omega (arith, h .counts .gas-few, h .counts .loopstops-few);
+              gasstops = omega (arith, same, c .few, lt);
+              repeats = omega (arith, h .counts .gas-few, h .counts .repeats-few);
+              width = h .list .wide;
+            }
+
         as-nothing : Takes p xs v (taken.Nothing u)
         as-nothing = subst (Takes p xs v) e takes
 
@@ -129,7 +132,7 @@ module _ {p : Program} {xs : List ℕ} {w v : Walk} (c : Closing p xs w v) where
           let t = as-at .says (b .given) (b .catalogue) (b .cols) (b .waiting) (b .notes) (b .holds) in
           t .holds .counts .gasstops ∙ taken-notes (b .given) (b .waiting) (b .notes) _ _ _ _ (t .is) ∙ sym (b .holds .counts .gasstops)
 
-      pub closing-stop : Walking p xs w → w .gasstops + w .branches .last < 18446744073709551615 → u .gasstops < 18446744073709551615
+      pub closing-stop : Walking p xs w → w .gasstops + w .branches .last < 4294967295 → u .gasstops < 18446744073709551615
       closing-stop a lt = omega (arith, taken-stops a, c .few, lt)
 
       pub closing-less : (z : Walk) → z ≡ stopGas u → z .branches .last < v .branches .last
@@ -154,9 +157,9 @@ module _ {p : Program} {xs : List ℕ} {w v : Walk} (c : Closing p xs w v) where
 -- ---- the current lineage first
 
 module _ (p : Program) (xs : List ℕ) (w u : Walk) (e : u ≡ stopGas w) where
-  pub stopped-walking : Walking p xs w → w .gasstops + w .branches .last < 18446744073709551614 → Walking p xs u × (u .gasstops + u .branches .last < 18446744073709551615)
+  pub stopped-walking : Walking p xs w → w .gasstops + w .branches .last < 4294967294 → Walking p xs u × (u .gasstops + u .branches .last < 4294967295)
   stopped-walking a lt =
-      subst (λ x. Walking p xs x × (x .gasstops + x .branches .last < 18446744073709551615)) (sym e)
+      subst (λ x. Walking p xs x × (x .gasstops + x .branches .last < 4294967295)) (sym e)
       (record { given = a .given; catalogue = a .catalogue; cols = a .cols; waiting = a .waiting; notes = gasStop (a .notes); holds = stopped (a .holds) }, omega (arith, lt))
 
   pub closes-current : (r : Walk) → Closes p xs u r → ClosesCurrent p xs w r

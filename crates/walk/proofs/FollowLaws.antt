@@ -2,34 +2,32 @@
 use mathlib.Core.Path.{_≡_, refl, sym, ap, subst, _∙_}
 use mathlib.Core.Bool.{Bool, true, false}
 use mathlib.Core.Option.{Option, none, some}
-use mathlib.Core.List.{List, [], _∷_, _++_}
-use Prim.Native.Nat.{ℕ, suc, _+_, _-_, _<_, _≤_}
+use mathlib.Core.List.{List, [], _∷_}
+use Prim.Native.Nat.{ℕ, _+_, _-_, _<_, _≤_}
 use native.Mathlib.Omega.{arith}
-use lib.ListN.{length, getD}
-use Rattle.model.specs.Walk.{Tried, refused, done, Ways, Lineage, Notes, noteRepeat, noteResult, noteWays, over, goes, refusedWith, onward, goOn, offered, full, offer, settle, followWays}
+use lib.ListN.{length}
+use Rattle.model.specs.Walk.{refused, done, Ways, Lineage, Notes, noteRepeat, noteWays, over, goes, refusedWith, onward, goOn, offered, full, offer, settle, followWays}
 use Rattle.model.specs.State.{MemoryState as Defined}
 use Rattle.model.specs.Results.{ResultRow}
 use Rattle.model.specs.Offer.{Offer}
 use Rattle.model.specs.Explain.{rowOf}
-use Rattle.area.specs.Cells.{blank, cells}
-use Rattle.area.specs.declared.Cell.{Cell}
+use Rattle.area.specs.Cells.{cells}
 use Rattle.intmap.specs.Map.{levels, HasRoom}
 use Rattle.intmap.specs.Runs.{size}
 use Rattle.intmap.proofs.SameCells.{size-same, sizes-same}
 use Rattle.encoding.specs.Holds.{largest}
-use Rattle.encoding.proofs.Held.{held-elsewhere, held-fits}
+use Rattle.encoding.proofs.Held.{held-elsewhere}
 use Rattle.state.specs.Leads.{operands}
-use Rattle.state.specs.Steps.{HoldsState, Held, TellsWay, StaysAt, branchOf}
+use Rattle.state.specs.Steps.{HoldsState, TellsWay, StaysAt, branchOf}
 use Rattle.state.specs.declared.MemoryState.{MemoryState}
 use Rattle.state.specs.declared.Way.{Way}
 use Rattle.state.specs.declared.Way.the-variants as way
-use Rattle.branches.specs.Entries.{Counted, countCells}
+use Rattle.branches.specs.Entries.{Counted}
 use Rattle.branches.specs.Lists.{Below}
 use Rattle.branches.specs.Changes.{Pushable}
 use Rattle.branches.proofs.RememberLaws.{Bytes, counted-kept}
 use Rattle.branches.proofs.BlockLaws.{blocks-low}
-use Rattle.walk.specs.Walks.{countsFrom, firstFrom, Given, boundOf, HoldsList, Counts, HoldsWalk, Moved, theOffer, theFollowing}
-use Rattle.explain.specs.Handles.{OffersWays, OffersThree}
+use Rattle.walk.specs.Walks.{countsFrom, firstFrom, Given, boundOf, HoldsList, HoldsWalk, theOffer, theFollowing}
 use Rattle.walk.specs.Loop.{Walking, Holding, Turning, Offering, MayOffer, Offers, SameCounts, TellsOffers, AddsBranch, AddsThree, GoesOn, noteRepeated, FollowsWays, FollowsThree}
 use Rattle.walk.specs.declared.Program.{Program}
 use Rattle.walk.specs.declared.Walk.{Walk}
@@ -175,7 +173,7 @@ ways-full p xs ys w branch stays repeat s a e f adds =
             notes = n;
             is = follow-full p g past ls n o _ (offers .answer)
                 (branch-of p g past ls (n .remembered) (n .space) (offers .theBranch) (held .state) (held .is) ∙
-                  as-full .says g catalogue cols ls (n .remembered) (n .space) (n .counted) past (held .state) (h .list) (held .held) counted []);
+                as-full .says g catalogue cols ls (n .remembered) (n .space) (n .counted) past (held .state) (h .list) (held .held) counted []);
           };
       bytes = adds .bytes;
     })
@@ -385,9 +383,10 @@ module _ (p : Program) (xs ys : List ℕ) (w : Walk) (s₁ s₂ s₃ : MemorySta
             TellsOffers p g catalogue ts cols v z past (m₃ ∷ []) waiting₂ known₂ left₂ counted →
             TellsOffers p g catalogue ts cols w z past (m₁ ∷ m₂ ∷ m₃ ∷ []) ls remembered space counted
         told-three g catalogue cols ls waiting waiting₂ remembered known known₂ space left left₂ counted past m₁ m₂ m₃ added.Full one two a b t = λ more. one (m₂ ∷ m₃ ∷ more) ∙ two (m₃ ∷ more) ∙ t more
-        told-three g catalogue cols ls waiting waiting₂ remembered known known₂ space left left₂ counted past m₁ m₂ m₃ (added.Done x) one two a b t =
-            (record { waiting = t .0 .waiting; known = t .0 .known; left = t .0 .left; same = λ more. one (m₂ ∷ m₃ ∷ more) ∙ two (m₃ ∷ more) ∙ t .0 .same more; holds = t .0 .holds },
-            record { gas = t .1 .gas ∙ b .gas ∙ a .gas; charged = t .1 .charged ∙ b .charged ∙ a .charged; loopstops = t .1 .loopstops ∙ b .loopstops ∙ a .loopstops; gasstops = t .1 .gasstops ∙ b .gasstops ∙ a .gasstops; repeats = t .1 .repeats ∙ b .repeats ∙ a .repeats; width = t .1 .width ∙ b .width ∙ a .width })
+        told-three g catalogue cols ls waiting waiting₂ remembered known known₂ space left left₂ counted past m₁ m₂ m₃ (added.Done x) one two a b t = (
+          record { waiting = t .0 .waiting; known = t .0 .known; left = t .0 .left; same = λ more. one (m₂ ∷ m₃ ∷ more) ∙ two (m₃ ∷ more) ∙ t .0 .same more; holds = t .0 .holds },
+          record { gas = t .1 .gas ∙ b .gas ∙ a .gas; charged = t .1 .charged ∙ b .charged ∙ a .charged; loopstops = t .1 .loopstops ∙ b .loopstops ∙ a .loopstops; gasstops = t .1 .gasstops ∙ b .gasstops ∙ a .gasstops; repeats = t .1 .repeats ∙ b .repeats ∙ a .repeats; width = t .1 .width ∙ b .width ∙ a .width },
+        )
 
         pub three-all : AddsThree p xs ts w s₁ s₂ s₃ r
         three-all =
@@ -399,9 +398,9 @@ module _ (p : Program) (xs ys : List ℕ) (w : Walk) (s₁ s₂ s₃ : MemorySta
                   let two = e₂ .0 in
                   told-three g catalogue cols ls (of .waiting) (two .waiting) remembered (of .known) (two .known) space (of .left) (two .left) counted past m₁ m₂ m₃ r (of .same) (two .same) (d .1) (e₂ .1)
                   (third .says g catalogue cols (two .waiting) (two .known) (two .left) counted past m₃ (two .holds)
-                    (subst (λ k. HoldsState (p .limit) k (cells zs) s₃ m₃) (ap (λ k. operands + k) (sym (e₂ .1 .charged)))
-                      (held-below p ys zs (u .branches .first) (second .below) (in-front (of .holds)) (boundOf u) s₃ m₃ (omega (arith, same-first)) (kept-state past m₁ h a now s₃ m₃ fits₃ c)))
-                    (counted-below (of .holds) zs past less low (second .bytes) (second .below) (kept-counts past m₁ h a now)));
+                  (subst (λ k. HoldsState (p .limit) k (cells zs) s₃ m₃) (ap (λ k. operands + k) (sym (e₂ .1 .charged)))
+                  (held-below p ys zs (u .branches .first) (second .below) (in-front (of .holds)) (boundOf u) s₃ m₃ (omega (arith, same-first)) (kept-state past m₁ h a now s₃ m₃ fits₃ c)))
+                  (counted-below (of .holds) zs past less low (second .bytes) (second .below) (kept-counts past m₁ h a now)));
               below = record { long = third .below .long ∙ below-twice .long; same = λ j lt. third .below .same j (omega (arith, same-second)) ∙ below-twice .same j lt };
               bytes = third .bytes ∙ second .bytes ∙ first .bytes;
             }
@@ -438,7 +437,7 @@ three-goes p xs ys zs w v a b c stays x r small less lt e adds on =
             holds = on .says g catalogue cols (of .waiting) _ past (some (offers .state))
                 (noted h ys v v false (of .waiting) (of .known) (of .left) (offers .first ∷ offers .second ∷ offers .third ∷ []) (some (offers .state)) same lt refl (of .holds))
                 (subst (λ k. TellsWay (p .limit) k (cells ys) (way.To stays) (some (offers .state))) (ap (λ k. operands + k) (sym (same .charged)))
-                  (way-below p xs ys (w .branches .first) (adds .below) (in-front (h .list)) (boundOf w) (way.To stays) (some (offers .state)) lies (record { state = offers .state; is = refl; held = offers .stateHeld })))
+                (way-below p xs ys (w .branches .first) (adds .below) (in-front (h .list)) (boundOf w) (way.To stays) (some (offers .state)) lies (record { state = offers .state; is = refl; held = offers .stateHeld })))
                 (stays-below p xs ys (w .branches .first) (adds .below) (in-front (h .list)) (way.To stays) lies)
                 (counted-below (h .list) ys past small less (adds .bytes) (adds .below) counted);
           };

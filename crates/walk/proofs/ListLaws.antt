@@ -41,6 +41,7 @@ module _ {p : Program} {g : Given} {catalogue xs cols : List ℕ} {w : Walk} {ls
         rows = h .rows;
         records = h .records;
         columns = subst (λ k. HasColumns cols k (columnsOf counted)) (sym width) (h .columns);
+        wide = omega (arith, width, h .wide);
         all = h .all;
         wait = h .wait;
         remembers = subst (λ l. Remembers (p .limit) (boundOf v) (p .size) xs l (h .all) (h .wait)) (sym b) (remembers-more (p .limit) (boundOf w) (boundOf v) (p .size) xs (w .branches) (h .all) (h .wait) (omega arith) top (h .remembers));
@@ -63,6 +64,7 @@ module _ {p : Program} {g : Given} {catalogue xs cols : List ℕ} {w : Walk} {ls
         rows = rows-kept (cells xs) (cells ys) (rowsFrom p) (g .rows) (λ i lt. rows (rowsFrom p + i) (omega arith) (omega (arith, h .size))) (h .rows);
         records = h .records;
         columns = h .columns;
+        wide = h .wide;
         all = h .all;
         wait = h .wait;
         remembers = remembers-kept (p .limit) (boundOf w) (p .size) xs ys (w .branches) (h .all) (h .wait) small less long (λ j le. above j (omega (arith, h .first))) (h .remembers);

@@ -3,25 +3,22 @@ use mathlib.Core.Path.{_≡_, refl, sym, ap, subst, _∙_}
 use mathlib.Core.Bool.{false}
 use mathlib.Core.Option.{none, some}
 use mathlib.Core.List.{List, [], _∷_}
-use Prim.Native.Nat.{ℕ, _+_, _<_, _≤_}
+use Prim.Native.Nat.{ℕ, _+_, _≤_}
 use native.Mathlib.Omega.{arith}
 use lib.IntN.{pos}
 use lib.ListN.{length}
-use Rattle.model.specs.Walk.{done, Lineage, Notes, noteWays, goes, onward, takeUp, goOn}
+use Rattle.model.specs.Walk.{done, Lineage, Notes, noteWays, goes, takeUp}
 use Rattle.model.specs.State.{ColumnType, MemoryState as Defined}
 use Rattle.model.specs.Access.{next, readColumns}
 use Rattle.model.specs.Results.{ResultColumn, ResultRow, resultColumns, merge, columnsOf}
 use Rattle.model.specs.Offer.{turns}
 use Rattle.model.specs.Explain.{rowOf}
 use Rattle.area.specs.Cells.{cells}
-use Rattle.encoding.specs.Holds.{largest}
 use Rattle.state.specs.Steps.{HoldsState}
 use Rattle.state.specs.declared.MemoryState.{MemoryState}
 use Rattle.merge.specs.Columns.{HasColumns, Merges}
-use Rattle.branches.proofs.RememberLaws.{Bytes}
-use Rattle.walk.specs.Walks.{Given, boundOf, HoldsList, Counts, HoldsWalk, HoldsFront}
-use Rattle.explain.specs.Handles.{OffersResult}
-use Rattle.walk.specs.Loop.{Walking, Holding, Turning, Offering, Offers, SameCounts, AddsBranch, TakesUp, withWidth, Resulting, FollowsResult}
+use Rattle.walk.specs.Walks.{Given, boundOf, HoldsList, Counts}
+use Rattle.walk.specs.Loop.{Walking, Holding, Turning, Offering, SameCounts, AddsBranch, TakesUp, withWidth, Resulting, FollowsResult}
 use Rattle.walk.specs.declared.Program.{Program}
 use Rattle.walk.specs.declared.Walk.{Walk}
 use Rattle.walk.specs.declared.Added.{Added}
@@ -36,7 +33,7 @@ has-more : (dols : List ℕ) (k row : ℕ) (columns : List ResultColumn) (counte
 unfolding columnsOf
 has-more dols k row columns counted h = h
 
-module _ (p : Program) (xs cols dols : List ℕ) (w v : Walk) (s : MemoryState) (first n k : ℕ) (merges : Merges (cells xs) (s .map) first n cols dols (w .width) k) (e : v ≡ withWidth w k) where
+module _ (p : Program) (xs cols dols : List ℕ) (w v : Walk) (s : MemoryState) (first n k : ℕ) (merges : Merges (cells xs) (s .map) first n cols dols (w .width) k) (narrow : n ≤ 2000) (e : v ≡ withWidth w k) where
   -- the list then, of a state that the branch holds
   list-merged :
       {g : Given} {catalogue : List ℕ} {ls : List (Lineage Defined)} {remembered : List Defined} {space : ℕ} {counted : List ResultRow} →
@@ -51,6 +48,7 @@ module _ (p : Program) (xs cols dols : List ℕ) (w v : Walk) (s : MemoryState) 
         rows = h .rows;
         records = h .records;
         columns = has-more dols k row (resultColumns columns) counted (merges .says (p .limit) (boundOf w) m columns (columnsOf counted) (held .map) read (h .columns));
+        wide = omega (arith, merges .widest, h .wide, narrow);
         all = h .all;
         wait = h .wait;
         remembers = h .remembers;
@@ -70,6 +68,7 @@ module _ (p : Program) (xs cols dols : List ℕ) (w v : Walk) (s : MemoryState) 
         rows = h .rows;
         records = h .records;
         columns = r .has;
+        wide = h .wide;
         all = h .all;
         wait = h .wait;
         remembers = h .remembers;
@@ -160,7 +159,7 @@ module _ (p : Program) (xs cols dols : List ℕ) (w v : Walk) (s : MemoryState) 
                 notes = notes;
                 is = follow-full p g past ls notes o _ (offers .answer)
                     (as-full .says g catalogue dols ls (notes .remembered) (notes .space) _ past (next m)
-                      (list-merged (h .list) (next m) (turns (m .programI)) (offers .columns) (offers .held) (offers .read)) (state-as (next m) (offers .held)) counted []);
+                    (list-merged (h .list) (next m) (turns (m .programI)) (offers .columns) (offers .held) (offers .read)) (state-as (next m) (offers .held)) counted []);
               };
           bytes = adds .bytes;
           columns = wide;
@@ -177,7 +176,7 @@ module _ (p : Program) (xs cols dols : List ℕ) (w v : Walk) (s : MemoryState) 
       result-walking t r =
           let h = t .walking .holds in
           let d = as-done .says (t .walking .given) (t .walking .catalogue) dols (t .walking .waiting) (t .walking .notes .remembered) (t .walking .notes .space) _ (t .past) (r .offering .state)
-              (list-merged (list-here t r) (r .offering .state) 0 (r .row) (r .offering .holds) (r .read)) (state-as (r .offering .state) (r .offering .holds)) (t .counted) in
+          (list-merged (list-here t r) (r .offering .state) 0 (r .row) (r .offering .holds) (r .read)) (state-as (r .offering .state) (r .offering .holds)) (t .counted) in
           record {
             given = t .walking .given;
             catalogue = t .walking .catalogue;
@@ -192,7 +191,7 @@ module _ (p : Program) (xs cols dols : List ℕ) (w v : Walk) (s : MemoryState) 
           record {
             says = λ g catalogue ls notes past m o h counted offers.
                 let d = as-done .says g catalogue dols ls (notes .remembered) (notes .space) _ past (next m)
-                    (list-merged (h .list) (next m) (turns (m .programI)) (offers .columns) (offers .held) (offers .read)) (state-as (next m) (offers .held)) counted in
+                (list-merged (h .list) (next m) (turns (m .programI)) (offers .columns) (offers .held) (offers .read)) (state-as (next m) (offers .held)) counted in
                 let of = d .0 in
                 let rr : ResultRow = record { row = turns (m .programI); columns = resultColumns (offers .columns) } in
                 let after : Notes Defined ResultRow = noteWays (record { branches = next m ∷ []; stays = none; result = some rr; repeat = false }) (of .known) (of .left) notes in

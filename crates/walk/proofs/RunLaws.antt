@@ -7,7 +7,7 @@ use mathlib.Core.List.{List, [], _∷_}
 use Prim.Native.Nat.{ℕ, zero, suc, _+_, _-_, _<_, _≤_}
 use native.Mathlib.Omega.{arith}
 use lib.ListN.{length}
-use Rattle.model.specs.Walk.{_∈_, Tried, refused, done, Ways, Lineage, Notes, addRow, gasStop, charge, loopStop, noteHandled, noteWays, onward, Front as Fronted, noneLeft, onRow, notesAt, takeUp, goOn, closeAll, Offered, full, offered, offer, Turn as Turned, over, goes, afterTurn, Walked, refusedWith, answered, Progress as Progressed, paused, ended, underLimit, handledBefore, settle, close, followWays, handleIf, turn, run}
+use Rattle.model.specs.Walk.{_∈_, refused, done, Ways, Lineage, Notes, addRow, gasStop, charge, loopStop, noteHandled, noteWays, onward, Front as Fronted, onRow, notesAt, takeUp, goOn, closeAll, Offered, full, offered, offer, Turn as Turned, over, goes, afterTurn, Walked, refusedWith, answered, paused, ended, underLimit, handledBefore, settle, close, followWays, handleIf, turn, run}
 use Rattle.model.specs.State.{MemoryState as Defined}
 use Rattle.model.specs.Equality.{eqState}
 use Rattle.model.specs.Results.{ResultRow}
@@ -19,7 +19,7 @@ use Rattle.area.specs.Cells.{cells}
 use Rattle.branches.specs.Entries.{Kept, Waiting}
 use Rattle.branches.proofs.BlockLaws.{blocks-span}
 use Rattle.state.specs.declared.MemoryState.{MemoryState}
-use Rattle.walk.specs.Walks.{Given, boundOf, HoldsWalk, HoldsNone, HoldsRow, HoldsEnd, TellsTurn, TellsRun, theFollowing, theTurn, theRun}
+use Rattle.walk.specs.Walks.{Given, HoldsWalk, HoldsRow, theFollowing, theTurn, theRun, HoldsNone, Few, Moved}
 use Rattle.explain.specs.Handles.{meaningOf}
 use Rattle.walk.specs.Loop.{Walking, Standing, Turns, ClosesCurrent, Running, Runs}
 use Rattle.walk.specs.declared.Program.{Program}
@@ -124,7 +124,7 @@ module _ {p : Program} {catalogue xs ys cols dols : List ℕ} {w v : Walk} {s m 
     waits-few [] all h among small = omega (arith, h)
     waits-few (k ∷ ks) all h among small = omega (arith, h .0, small k (among k (inl refl)))
 
-    pub may-close : Walking p ys v × (v .gasstops + v .branches .last < 18446744073709551614)
+    pub may-close : Walking p ys v × (v .gasstops + v .branches .last < 4294967294)
     may-close = (record { given = a .given; catalogue = catalogue; cols = dols; waiting = now .holds .waiting; notes = now .holds .notes; holds = now .holds .walk }, omega (arith, none-stopped, few))
       where
         h : HoldsWalk p (a .given) catalogue ys dols v (now .holds .waiting) (now .holds .notes)
@@ -191,12 +191,27 @@ module _ {p : Program} {catalogue xs ys cols dols : List ℕ} {w v : Walk} {s m 
                 record {
                   notes = n .notes;
                   is = b .same ∙ run-goes p g left (v .gas) (b .front) (c .front) some-left gas (c .is) ∙ ap (theRun p g (left - 1) (v .gas - 1)) (n .is) ∙ run-none eqState (rowOf (g .rows)) (ways (meaningOf (p .limit) (g .records)) (g .rows)) (units (g .rows)) (left - 1) (v .gas - 1) (n .notes);
-                  end = record { charged = n .walk .counts .charged; loopstops = n .walk .counts .loopstops; gasstops = n .walk .counts .gasstops; repeats = n .walk .counts .repeats; columns = n .walk .list .columns };
+                  end = record { charged = n .walk .counts .charged; loopstops = n .walk .counts .loopstops; gasstops = n .walk .counts .gasstops; repeats = n .walk .counts .repeats; columns = n .walk .list .columns; few = few-then n (notes-then g b c n) };
                 };
             bytes = turns .bytes ∙ r .bytes;
             columns = turns .columns ∙ r .columns;
           }
         where
+          few-then : {g : Given} {d : Fronted Defined ResultRow} (n : HoldsNone p g catalogue zs eols u d) → n .notes .gasstops ≡ 0 → Few u
+          few-then n z =
+              record {
+                charged = omega (arith, n .walk .counts .gas-few);
+                loopstops = omega (arith, n .walk .counts .gas-few, n .walk .counts .loopstops-few);
+                gasstops = omega (arith, n .walk .counts .gasstops, z);
+                repeats = omega (arith, n .walk .counts .gas-few, n .walk .counts .repeats-few);
+                width = n .walk .list .wide;
+              }
+
+          notes-then : (g : Given) {f : Fronted Defined ResultRow} (b : Rests p g catalogue ys dols v m left budget (w .gas) f) (c : Moved p g catalogue zs eols (front.NoneLeft u) (theTurn p g (b .front))) (n : HoldsNone p g catalogue zs eols u (c .front)) → n .notes .gasstops ≡ 0
+          notes-then g b c n =
+              let noted = subst (NotedTurn (b .holds .notes)) (sym (ap (theTurn p g) (b .holds .is)) ∙ c .is) (turn-notes p g (b .holds .row) (b .holds .lineage) (b .holds .waiting) (b .holds .notes)) in
+              ap (λ x. notesAt x .gasstops) (sym (n .is)) ∙ noted .gasstops ∙ ap (λ x. notesAt x .gasstops) (sym (b .holds .is)) ∙ b .stops
+
           as-none : Turns p catalogue ys zs dols eols v m (turned.Goes (front.NoneLeft u))
           as-none = subst (Turns p catalogue ys zs dols eols v m) (e ∙ ap turned.Goes d) turns
 

@@ -1,35 +1,33 @@
 -- Taking up what waits, one after the other: what is still to come gives what the whole gives. Assumes nothing.
 use mathlib.Core.Path.{_≡_, refl, sym, ap, subst, _∙_}
-use mathlib.Core.Logic.{_⊎_, inl, inr}
+use mathlib.Core.Logic.{inl}
 use mathlib.Core.Bool.{true, false}
 use mathlib.Core.Option.{none, some}
 use mathlib.Core.List.{List, [], _∷_}
 use Prim.Native.Nat.{ℕ, _+_, _-_, _<_, _≤_}
 use native.Mathlib.Omega.{arith}
-use lib.ListN.{length, getD}
-use Rattle.model.specs.Walk.{_∈_, Lineage, Notes, Front as Fronted, noneLeft, onRow, noteTaken, takeUp}
+use lib.ListN.{length}
+use Rattle.model.specs.Walk.{_∈_, Lineage, Notes, noneLeft, onRow, noteTaken, takeUp}
 use Rattle.model.specs.State.{MemoryState as Defined}
 use Rattle.model.specs.Results.{ResultRow}
 use Rattle.model.specs.Explain.{rowOf}
-use Rattle.area.specs.Cells.{blank, cells, Inside}
+use Rattle.area.specs.Cells.{cells, Inside}
 use Rattle.area.specs.declared.Cell.{Cell}
 use Rattle.intmap.specs.Signed.{offset, intOf}
-use Rattle.state.specs.declared.MemoryState.{MemoryState}
-use Rattle.branches.specs.Header.{rowAt, nextAt}
-use Rattle.branches.specs.Entries.{Kept, states, lineages, Waiting, IsKept, Remembers}
-use Rattle.branches.specs.Lists.{Taken, Pops, Loads}
+use Rattle.branches.specs.Header.{rowAt}
+use Rattle.branches.specs.Entries.{Kept, lineages, Waiting, IsKept}
+use Rattle.branches.specs.Lists.{Taken}
 use Rattle.branches.specs.declared.BranchList.{BranchList}
 use Rattle.branches.specs.declared.Popped.{Popped}
 use Rattle.branches.specs.declared.Popped.the-variants as popped
-use Rattle.walk.specs.Walks.{rowsFrom, countsFrom, firstFrom, inListing, Given, boundOf, HoldsList, Counts, HoldsWalk, HoldsLineage, HoldsNone, HoldsRow, HoldsFront}
+use Rattle.walk.specs.Walks.{inListing, Given, boundOf, HoldsWalk}
 use Rattle.walk.specs.Loop.{Walking, withBranches, Takes}
-use Rattle.branches.specs.Changes.{Latest, PopsAny, Loadable}
+use Rattle.branches.specs.Changes.{Latest, PopsAny}
 use Rattle.walk.specs.declared.Program.{Program}
 use Rattle.walk.specs.declared.Walk.{Walk}
 use Rattle.walk.specs.declared.Taken.the-variants as taken
 use Rattle.branches.proofs.BlockLaws.{blocks-span}
-use Rattle.walk.proofs.ListLaws.{Within, in-listing, outside, stands}
-use Rattle.walk.proofs.BranchLaws.{rows-kept}
+use Rattle.walk.proofs.ListLaws.{in-listing, outside, stands}
 
 -- with these branches left, the front is still the one of the whole
 pub record Reached (p : Program) (g : Given) (catalogue xs cols : List ℕ) (w : Walk) (b : BranchList) (ls : List (Lineage Defined)) (n : Notes Defined ResultRow) : Type 0 where
@@ -76,6 +74,7 @@ module _ {p : Program} {g : Given} {catalogue xs cols : List ℕ} {w : Walk} {ls
           rows = h .list .rows;
           records = h .list .records;
           columns = h .list .columns;
+          wide = h .list .wide;
           all = h .list .all;
           wait = t .rest;
           remembers = t .remembers;

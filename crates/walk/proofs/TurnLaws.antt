@@ -2,50 +2,46 @@
 use mathlib.Core.Path.{_≡_, refl, sym, ap, subst, _∙_}
 use mathlib.Core.Logic.{_⊎_, inl, inr}
 use mathlib.Core.Bool.{Bool, true, false, true≢false}
-use mathlib.Core.Option.{Option, none, some}
-use mathlib.Core.List.{List, [], _∷_}
-use Prim.Native.Nat.{ℕ, _+_, _-_, _/_, _<_, _≤_}
+use mathlib.Core.Option.{Option, some}
+use mathlib.Core.List.{List, _∷_}
+use Prim.Native.Nat.{ℕ, _+_, _-_, _<_, _≤_}
 use native.Mathlib.Omega.{arith}
 use lib.Dec.{ltb, eqb}
 use lib.ListN.{length, getD, getElem?}
 use borrow.Author.Tests.{lt-ltb, le-ltb, eqb-true, eq-eqb}
-use Rattle.model.specs.Walk.{count, times, oneIf, Lineage, Notes, addRow, charge, loopStop, noteHandled, Front as Fronted, onRow, takeUp, goes, handledBefore, underLimit, followWays, handleIf, turn}
+use Rattle.model.specs.Walk.{count, times, oneIf, Lineage, Notes, addRow, charge, loopStop, noteHandled, Front as Fronted, onRow, takeUp, goes, handledBefore, handleIf, turn}
 use Rattle.model.specs.Row.{Row as Listed}
 use Rattle.model.specs.State.{MemoryState as Defined}
-use Rattle.model.specs.Results.{ResultRow, columnsOf}
+use Rattle.model.specs.Results.{ResultRow}
 use Rattle.model.specs.Operation.{operationOf}
 use Rattle.model.specs.Access.{next}
 use Rattle.model.specs.Offer.{Offer, rowAt}
 use Rattle.model.specs.Explain.{arm, atRow, ways, rowOf}
 use Rattle.area.specs.Cells.{blank, cells, Inside}
-use Rattle.area.specs.Counts.{count as countAt, home, Raisable, Raised}
-use Rattle.area.specs.declared.Cell.{Cell}
-use Rattle.area.proofs.CellLaws.{cells-kept}
-use Rattle.intmap.specs.Map.{levels, IsMap, HasRoom, Frame}
+use Rattle.area.specs.Counts.{count as countAt, home, Raised}
+use Rattle.intmap.specs.Map.{levels, HasRoom}
 use Rattle.intmap.specs.Runs.{size}
-use Rattle.intmap.specs.Signed.{offset, intOf}
+use Rattle.intmap.specs.Signed.{offset}
 use Rattle.intmap.proofs.SignedLaws.{row-above}
 use Rattle.intmap.proofs.SameCells.{size-same, sizes-same}
 use Rattle.intmap.proofs.StoreLaws.{room-map}
-use Rattle.encoding.specs.Holds.{largest}
 use Rattle.encoding.proofs.Held.{held-elsewhere, held-more}
-use Rattle.rows.specs.Rows.{Fits, rowIn}
-use Rattle.rows.specs.Judged.{Judged, HaveRows}
+use Rattle.rows.specs.Rows.{rowIn}
+use Rattle.rows.specs.Judged.{Judged}
 use Rattle.rows.specs.declared.Row.{Row}
-use Rattle.state.specs.Leads.{operands, Current}
-use Rattle.state.specs.Steps.{HoldsState, Held, TellsWay, Lies, LiesAt, StaysAt}
+use Rattle.state.specs.Steps.{HoldsState, TellsWay, Lies, LiesAt, StaysAt}
 use Rattle.state.specs.declared.MemoryState.{MemoryState}
 use Rattle.state.specs.declared.Way.{Way}
 use Rattle.state.specs.declared.Way.the-variants as way
 use Rattle.jump_arms.specs.Arms.{Ready}
-use Rattle.branches.specs.Entries.{Counted, countCells}
+use Rattle.branches.specs.Entries.{Counted}
 use Rattle.branches.specs.Lists.{Offers as Below-them}
 use Rattle.branches.proofs.RememberLaws.{Bytes, counted-kept}
 use Rattle.branches.proofs.BlockLaws.{blocks-low}
-use Rattle.walk.specs.Walks.{rowsFrom, countsFrom, firstFrom, Given, boundOf, HoldsList, Counts, HoldsWalk, HoldsLineage, HoldsRow, HoldsFront, TellsTurn, theFollowing, theTurn}
+use Rattle.walk.specs.Walks.{rowsFrom, countsFrom, firstFrom, Given, boundOf, HoldsList, Counts, HoldsWalk, HoldsRow, TellsTurn, theFollowing, theTurn}
 use Rattle.explain.specs.Numbers.{IsRow, IsCatalogue}
-use Rattle.explain.specs.Handles.{meaningOf, OffersWays, TellsHandling, LeavesHandling, Handles}
-use Rattle.walk.specs.Loop.{Walking, Turning, Offering, MayOffer, Resulting, MayFollow, StaysHere, Follows, TakesUp, chargeOne, stopLoop, Standing, Turns}
+use Rattle.explain.specs.Handles.{meaningOf, TellsHandling, LeavesHandling, Handles}
+use Rattle.walk.specs.Loop.{Walking, Turning, MayOffer, MayFollow, StaysHere, Follows, TakesUp, chargeOne, stopLoop, Standing, Turns}
 use Rattle.explain.specs.declared.Handling.{Handling}
 use Rattle.explain.specs.declared.Handling.the-variants as handling
 use Rattle.walk.specs.declared.Program.{Program}
@@ -283,10 +279,11 @@ module _ {p : Program} {g : Given} {catalogue xs cols : List ℕ} {w : Walk} {s 
       may : length cols ≡ 2000 → (i : Handling) → TellsHandling (p .limit) (boundOf (chargeOne w)) (cells zs) (r .lineage .mem) i offer-here → LeavesHandling (p .limit) (cells zs) s i → MayFollow p zs cols (chargeOne w) i
       may wide (handling.Refused n) t lies = tt
       may wide (handling.Ways b c q) t lies = may-offer b (t .theBranch) (t .branches) (lies .0)
-      may wide (handling.Three a b c d) t lies =
-          (record { below = below-them a (lies .0); state = t .first; holds = t .firstHeld },
-          record { below = below-them b (lies .1); state = t .second; holds = t .secondHeld },
-          record { below = below-them c (lies .2); state = t .third; holds = t .thirdHeld })
+      may wide (handling.Three a b c d) t lies = (
+        record { below = below-them a (lies .0); state = t .first; holds = t .firstHeld },
+        record { below = below-them b (lies .1); state = t .second; holds = t .secondHeld },
+        record { below = below-them c (lies .2); state = t .third; holds = t .thirdHeld },
+      )
       may wide (handling.Result b first n) t lies =
           record {
             offering = record { below = below-them b (lies .0); state = next (r .lineage .mem); holds = t .held };

@@ -1,12 +1,11 @@
 -- The branch that was taken becomes current. Assumes nothing.
 use mathlib.Core.Path.{_≡_, refl, sym, ap, subst, _∙_}
-use mathlib.Core.Logic.{_⊎_, inl, inr}
+use mathlib.Core.Logic.{inl, inr}
 use mathlib.Core.Option.{Option, none, some}
 use mathlib.Core.Bool.{true, false}
-use mathlib.Core.List.{List, []}
-use Prim.Native.Nat.{ℕ, _+_, _-_, _<_, _≤_}
+use mathlib.Core.List.{List}
+use Prim.Native.Nat.{ℕ, _-_}
 use native.Mathlib.Omega.{arith}
-use lib.ListN.{length}
 use Rattle.model.specs.Walk.{Lineage, Notes, onward, onRow, takeUp, goOn}
 use Rattle.model.specs.State.{MemoryState as Defined}
 use Rattle.model.specs.Results.{ResultRow}
@@ -14,18 +13,16 @@ use Rattle.model.specs.Explain.{rowOf}
 use Rattle.area.specs.Cells.{cells}
 use Rattle.intmap.specs.Signed.{offset}
 use Rattle.encoding.proofs.Held.{held-fits}
-use Rattle.state.specs.Steps.{Held}
 use Rattle.state.specs.declared.MemoryState.{MemoryState}
 use Rattle.state.specs.declared.Way.{Way}
 use Rattle.state.specs.declared.Way.the-variants as way
-use Rattle.branches.specs.Header.{rowAt, usedAt}
-use Rattle.branches.specs.Entries.{countCells}
+use Rattle.branches.specs.Header.{rowAt}
 use Rattle.branches.specs.Lists.{Loads}
 use Rattle.branches.specs.Changes.{Loadable}
 use Rattle.branches.proofs.RememberLaws.{Bytes}
 use Rattle.branches.proofs.BlockLaws.{blocks-span}
-use Rattle.walk.specs.Walks.{rowsFrom, countsFrom, firstFrom, inListing, Given, boundOf, HoldsWalk, HoldsFront}
-use Rattle.walk.specs.Loop.{Walking, OneAt, Takes, TakesUp, GoesOn}
+use Rattle.walk.specs.Walks.{countsFrom, inListing, Given, boundOf, HoldsFront}
+use Rattle.walk.specs.Loop.{Walking, Takes, TakesUp, GoesOn}
 use Rattle.walk.specs.declared.Program.{Program}
 use Rattle.walk.specs.declared.Walk.{Walk}
 use Rattle.walk.specs.declared.Taken.{Taken}

@@ -1,25 +1,21 @@
 -- What the functions of the walk's loop say. Each speaks of every walk of the definition that the area and the struct hold; what is asked is
 -- that they hold one. Assumes nothing.
 use mathlib.Core.Path.{_≡_}
-use mathlib.Core.Option.{Option, some}
+use mathlib.Core.Option.{Option}
 use mathlib.Core.Bool.{Bool}
 use mathlib.Core.List.{List, [], _∷_, _++_}
 use Prim.Native.Nat.{ℕ, _+_, _-_, _<_, _≤_}
 use lib.IntN.{pos}
-use lib.ListN.{length, getElem?}
-use Rattle.model.specs.Walk.{done, Lineage, Notes, _∈_, Front as Fronted, noneLeft, onRow, notesAt, Offered, full, onward, gasStop, noteRepeat, takeUp, goOn, closeAll}
-use Rattle.model.specs.Row.{Row as Listed}
+use lib.ListN.{length}
+use Rattle.model.specs.Walk.{done, Lineage, Notes, _∈_, Front as Fronted, noneLeft, onRow, notesAt, full, onward, gasStop, noteRepeat, takeUp, goOn, closeAll}
 use Rattle.model.specs.State.{ColumnType, MemoryState as Defined}
 use Rattle.model.specs.Access.{readColumns}
 use Rattle.model.specs.Results.{ResultRow, columnsOf}
 use Rattle.model.specs.Offer.{Offer}
 use Rattle.model.specs.Explain.{rowOf}
 use Rattle.area.specs.Cells.{cells}
-use Rattle.intmap.specs.Map.{IsMap}
 use Rattle.intmap.specs.Signed.{offset}
-use Rattle.rows.specs.Judged.{Judged}
-use Rattle.rows.specs.declared.Row.{Row}
-use Rattle.state.specs.Steps.{HoldsState, TellsWay, StaysAt, LiesAt}
+use Rattle.state.specs.Steps.{HoldsState, TellsWay, StaysAt}
 use Rattle.state.specs.declared.MemoryState.{MemoryState}
 use Rattle.state.specs.declared.Way.{Way}
 use Rattle.state.specs.declared.Way.the-variants as way
@@ -29,7 +25,7 @@ use Rattle.branches.specs.Entries.{Kept, Counted}
 use Rattle.branches.specs.Lists.{Below, Offers as Below-them}
 use Rattle.branches.specs.declared.BranchList.{BranchList}
 use Rattle.explain.specs.Handles.{OffersWays, OffersThree, OffersResult, TellsHandling}
-use Rattle.walk.specs.Walks.{countsFrom, Given, boundOf, HoldsList, HoldsWalk, HoldsLineage, HoldsRow, HoldsFront, HoldsEnd, TellsTurn, TellsRun, theOffer, theFollowing, theTurn, theRun}
+use Rattle.walk.specs.Walks.{countsFrom, Given, boundOf, HoldsList, HoldsWalk, HoldsRow, HoldsFront, HoldsEnd, TellsTurn, TellsRun, theOffer, theFollowing, theTurn, theRun}
 use Rattle.explain.specs.declared.Handling.{Handling}
 use Rattle.explain.specs.declared.Handling.the-variants as handling
 use Rattle.walk.specs.declared.Program.{Program}

@@ -4,12 +4,12 @@
 -- Assumes nothing.
 use mathlib.Core.Path.{_≡_}
 use mathlib.Core.Bool.{Bool, _&&_}
-use mathlib.Core.Option.{Option, some}
-use mathlib.Core.List.{List, [], _∷_}
+use mathlib.Core.Option.{some}
+use mathlib.Core.List.{List, []}
 use Prim.Native.Nat.{ℕ, _+_, _-_, _<_, _≤_}
 use lib.Dec.{leb, ltb}
 use lib.ListN.{length}
-use Rattle.model.specs.Walk.{Lineage, Notes, Walked, refusedWith, answered, Turn as Turned, over, goes, Progress as Progressed, paused, ended, Offered, full, offer, onward, takeUp, goOn, closeAll, followWays, turn, run}
+use Rattle.model.specs.Walk.{Lineage, Notes, refusedWith, answered, Turn as Turned, over, goes, Progress as Progressed, paused, ended, Offered, offer, followWays, turn, run}
 use Rattle.model.specs.Walk.{Front as Fronted, noneLeft, onRow}
 use Rattle.model.specs.Row.{Row as Listed}
 use Rattle.model.specs.State.{MemoryState as Defined}
@@ -22,16 +22,13 @@ use Rattle.model.specs.Explain.{ways, rowOf, units}
 use Rattle.area.specs.Cells.{cells}
 use Rattle.intmap.specs.Map.{HasRoom}
 use Rattle.intmap.specs.Signed.{offset}
-use Rattle.rows.specs.Judged.{Judged, HaveRows}
-use Rattle.rows.specs.declared.Row.{Row}
+use Rattle.rows.specs.Judged.{HaveRows}
 use Rattle.state.specs.Leads.{operands}
-use Rattle.state.specs.Steps.{HoldsState, TellsWay, StaysAt}
+use Rattle.state.specs.Steps.{HoldsState}
 use Rattle.state.specs.declared.MemoryState.{MemoryState}
-use Rattle.state.specs.declared.Way.{Way}
 use Rattle.branches.specs.Entries.{Kept, states, lineages, Counted, Remembers}
 use Rattle.merge.specs.Columns.{HasColumns}
-use Rattle.explain.specs.Handles.{meaningOf, TellsHandling, LeavesHandling}
-use Rattle.explain.specs.declared.Handling.{Handling}
+use Rattle.explain.specs.Handles.{meaningOf}
 use Rattle.walk.specs.declared.Program.{Program}
 use Rattle.walk.specs.declared.Walk.{Walk}
 use Rattle.walk.specs.declared.Front.{Front}
@@ -72,6 +69,7 @@ pub record HoldsList (p : Program) (g : Given) (catalogue xs cols : List ℕ) (w
   pub rows : HaveRows (cells xs) (rowsFrom p) (g .rows)
   pub records : readCatalogue catalogue ≡ some (g .records)
   pub columns : HasColumns cols (w .width) (columnsOf counted)
+  pub wide : w .width ≤ 2000
   pub all : List Kept
   pub wait : List Kept
   pub remembers : Remembers (p .limit) (boundOf w) (p .size) xs (w .branches) all wait
@@ -148,6 +146,14 @@ pub record Refused (k : ℕ) (t : Progressed Defined ResultRow) : Type 0 where
   pub notes : Notes Defined ResultRow
   pub is : t ≡ ended (refusedWith k notes)
 
+-- its numbers are small enough to be printed
+pub record Few (w : Walk) : Type 0 where
+  pub charged : w .charged ≤ 4294967295
+  pub loopstops : w .loopstops ≤ 4294967295
+  pub gasstops : w .gasstops ≤ 4294967295
+  pub repeats : w .repeats ≤ 4294967295
+  pub width : w .width ≤ 2000
+
 -- the counts of a walk that has ended, and its columns
 pub record HoldsEnd (cols : List ℕ) (w : Walk) (notes : Notes Defined ResultRow) : Type 0 where
   pub charged : w .charged ≡ notes .charged
@@ -155,6 +161,7 @@ pub record HoldsEnd (cols : List ℕ) (w : Walk) (notes : Notes Defined ResultRo
   pub gasstops : w .gasstops ≡ notes .gasstops
   pub repeats : w .repeats ≡ notes .repeats
   pub columns : HasColumns cols (w .width) (columnsOf (notes .counted))
+  pub few : Few w
 
 pub record Answered (cols : List ℕ) (w : Walk) (t : Progressed Defined ResultRow) : Type 0 where
   pub notes : Notes Defined ResultRow

@@ -1,22 +1,14 @@
 // The walk over a listing: `explain` of sqlx-sqlite 0.9.0, src/connection/explain.rs.
 ghost use mathlib.Core.Path.{_≡_};
-ghost use mathlib.Core.Bool.{Bool};
-ghost use mathlib.Core.List.{List};
-ghost use Prim.Native.Nat.{ℕ, _+_, _<_, _≤_};
-ghost use lib.ListN.{length};
+ghost use Prim.Native.Nat.{_+_, _<_};
 ghost use Rattle.model.specs.Walk.{noteRepeat};
-ghost use Rattle.area.specs.Cells.{cells, Inside};
-ghost use Rattle.intmap.specs.Map.{IsMap};
-ghost use Rattle.branches.specs.Entries.{Remembering, Kept};
-ghost use Rattle.branches.specs.Header.{rowAt};
-ghost use Rattle.branches.specs.Lists.{Offers as Offered, Pushes, Pops, Loads};
-ghost use Rattle.walk.specs.Walks.{countsFrom, firstFrom, inListing};
+ghost use Rattle.walk.specs.Walks.{inListing};
 ghost use Rattle.walk.specs.Loop.{Walking, withBranches, Takes, TakesUp, GoesOn, Holding, Turning, Offering, AddsBranch, MayOffer, noteRepeated, FollowsWays, AddsThree, FollowsThree, withWidth, Resulting, FollowsResult, MayFollow, Follows, chargeOne, stopLoop, stopGas, Standing, Turns, Closes, ClosesCurrent, Running, Runs};
-use intmap::IntMap;
 use branches::BranchList;
 use branches::Popped;
 use branches::Pushed;
 use explain::Handling;
+use intmap::IntMap;
 use state::MemoryState;
 use state::Way;
 
@@ -203,7 +195,14 @@ fn follow_ways(w: Walk, area: &mut [u8], p: Program, branch: Way, stays: Way, re
 }
 
 // Three branches are offered in their order.
-fn add_three(w: Walk, area: &mut [u8], p: Program, a: MemoryState, b: MemoryState, c: MemoryState) -> Added
+fn add_three(
+    w: Walk,
+    area: &mut [u8],
+    p: Program,
+    a: MemoryState,
+    b: MemoryState,
+    c: MemoryState,
+) -> Added
     requires { ⌜ Holding p (now area) w × Offering p (now area) w a × Offering p (now area) w b × Offering p (now area) w c ⌝ }
     ensures { λ r. ⌜ AddsThree p (now (area .entry)) (now (area .exit)) w a b c r ⌝ }
 {
@@ -221,7 +220,15 @@ fn add_three(w: Walk, area: &mut [u8], p: Program, a: MemoryState, b: MemoryStat
 }
 
 // And then the state that goes on is current.
-fn follow_three(w: Walk, area: &mut [u8], p: Program, a: MemoryState, b: MemoryState, c: MemoryState, stays: MemoryState) -> Turn
+fn follow_three(
+    w: Walk,
+    area: &mut [u8],
+    p: Program,
+    a: MemoryState,
+    b: MemoryState,
+    c: MemoryState,
+    stays: MemoryState,
+) -> Turn
     requires { ⌜ Turning p (now area) w × Offering p (now area) w a × Offering p (now area) w b × Offering p (now area) w c ⌝ }
     ensures { λ r. ⌜ FollowsThree p (now (area .entry)) (now (area .exit)) w a b c stays r ⌝ }
 {
@@ -249,7 +256,15 @@ fn with_width(w: Walk, width: usize) -> Walk
 }
 
 // A result row is merged into the columns, its branch is offered, and the next that waits is current.
-fn follow_result(w: Walk, area: &mut [u8], columns: &mut [u8], p: Program, branch: MemoryState, first: u64, n: u64) -> Turn
+fn follow_result(
+    w: Walk,
+    area: &mut [u8],
+    columns: &mut [u8],
+    p: Program,
+    branch: MemoryState,
+    first: u64,
+    n: u64,
+) -> Turn
     requires { ⌜ Turning p (now area) w × Resulting p (now area) (now columns) w branch first n ⌝ }
     ensures { λ r. ⌜ FollowsResult p (now (area .entry)) (now (area .exit)) (now (columns .entry)) (now (columns .exit)) w branch first n r ⌝ }
 {
@@ -327,7 +342,14 @@ fn gas_stop(w: Walk) -> Walk
 }
 
 // A turn of the walk: the row that the current lineage is on is charged; a lineage that has handled it three times is closed, else it is handled.
-fn take_turn(w: Walk, s: MemoryState, area: &mut [u8], columns: &mut [u8], catalogue: &[u8], p: Program) -> Turn
+fn take_turn(
+    w: Walk,
+    s: MemoryState,
+    area: &mut [u8],
+    columns: &mut [u8],
+    catalogue: &[u8],
+    p: Program,
+) -> Turn
     requires { ⌜ Standing p (now catalogue) (now area) (now columns) w s ⌝ }
     ensures { λ r. ⌜ Turns p (now (catalogue .entry)) (now (area .entry)) (now (area .exit)) (now (columns .entry)) (now (columns .exit)) w s r ⌝ }
 {
@@ -346,7 +368,7 @@ fn take_turn(w: Walk, s: MemoryState, area: &mut [u8], columns: &mut [u8], catal
 
 // With no unit left, each branch that waits on a row is closed.
 fn close_all(w: Walk, area: &[u8], p: Program) -> Walk
-    requires { ⌜ Walking p (now area) w × (w .gasstops + w .branches .last < 18446744073709551615) ⌝ }
+    requires { ⌜ Walking p (now area) w × (w .gasstops + w .branches .last < 4294967295) ⌝ }
     ensures { λ r. ⌜ Closes p (now (area .entry)) w r ⌝ }
 {
     let mut v = w;
@@ -365,14 +387,22 @@ fn close_all(w: Walk, area: &[u8], p: Program) -> Walk
 
 // With no unit left, the current lineage is closed, and then each that waits on a row.
 fn close(w: Walk, area: &[u8], p: Program) -> Walk
-    requires { ⌜ Walking p (now area) w × (w .gasstops + w .branches .last < 18446744073709551614) ⌝ }
+    requires { ⌜ Walking p (now area) w × (w .gasstops + w .branches .last < 4294967294) ⌝ }
     ensures { λ r. ⌜ ClosesCurrent p (now (area .entry)) w r ⌝ }
 {
     close_all(gas_stop(w), area, p)
 }
 
 // The walk goes on until it ends, or until so many rows are charged.
-pub fn run(w: Walk, s: MemoryState, area: &mut [u8], columns: &mut [u8], catalogue: &[u8], p: Program, budget: u64) -> Progress
+pub fn run(
+    w: Walk,
+    s: MemoryState,
+    area: &mut [u8],
+    columns: &mut [u8],
+    catalogue: &[u8],
+    p: Program,
+    budget: u64,
+) -> Progress
     requires { ⌜ Running p (now catalogue) (now area) (now columns) w s ⌝ }
     ensures { λ r. ⌜ Runs p (now (catalogue .entry)) (now (area .entry)) (now (area .exit)) (now (columns .entry)) (now (columns .exit)) w s budget r ⌝ }
 {

@@ -1,3 +1,4 @@
+-- `walk::add_branch` pushes a branch and keeps the rest of the walk as it is. Assumes nothing.
 use Rattle.walk.proofs.FollowLaws.{may-push}
 use Rattle.walk.proofs.BranchLaws.{adds-full, adds-done}
 use borrow.Author.Needs.{needs}

@@ -1,6 +1,5 @@
+-- `walk::add_three` offers three branches, each behind what the one before it left. Assumes nothing.
 use Rattle.walk.proofs.FollowLaws.{holding-after, offering-after, three-full, three-second-full, three-all, first-after}
-
-
 use borrow.Author.Needs.{needs}
 use Rattle.walk.proofs.add_three.Statement.{statement}
 use Rattle.walk.proofs.add_three.Tie as tie

@@ -1,3 +1,4 @@
+-- `walk::close` counts the current lineage and closes those that wait. Assumes nothing.
 use Rattle.walk.proofs.CloseLaws.{stopped-walking, closes-current}
 use borrow.Author.Needs.{needs}
 use Rattle.walk.proofs.close.Statement.{statement}

@@ -1,3 +1,4 @@
+-- `walk::close_all` takes up what waits. The invariant: what is still to be closed gives what the whole gives. The measure is the place of the latest that waits. Assumes nothing.
 use borrow.Author.Needs.{needs}
 use Rattle.walk.proofs.CloseLaws.{Closing, closing-first, closing-walking, closing-end, closing-stop, closing-less, closing-next}
 use Rattle.walk.proofs.close_all.Statement.{statement}
@@ -27,7 +28,7 @@ enum-known-x c = search needs
 
 -- src/lib.rt:377:17
 returns : tie.Need-returns Inv-loop μ-loop
-returns c = closing-end (c .before .before .before .before .loop .inv) _ (c .before .before .before .take .ensures) _ (c .before .x .given .1)
+returns c = closing-end (c .before .before .before .before .loop .inv) _ (c .before .before .before .take .ensures) _ (c .before .x .given .1) (c .before .before .before .before .before .before .pre .1)
 
 -- src/lib.rt:379:23
 enum-known-x-2 : tie.Need-enum-known-x-2 Inv-loop μ-loop

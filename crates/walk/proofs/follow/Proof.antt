@@ -1,3 +1,4 @@
+-- `walk::follow`, by what the handling gave. Assumes nothing.
 use Rattle.walk.proofs.AllLaws.{all-refused, may-ways, all-ways, may-three, all-three, may-result, all-result}
 use borrow.Author.Needs.{needs}
 use Rattle.walk.proofs.follow.Statement.{statement}

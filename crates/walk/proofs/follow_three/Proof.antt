@@ -1,3 +1,4 @@
+-- `walk::follow_three` after its three branches. Assumes nothing.
 use Rattle.walk.proofs.FollowLaws.{turn-holding, walking-three, three-over, three-goes}
 use borrow.Author.Needs.{needs}
 use Rattle.walk.proofs.follow_three.Statement.{statement}

@@ -1,3 +1,4 @@
+-- `walk::follow_ways` after at most one branch. Assumes nothing.
 use Rattle.walk.proofs.FollowLaws.{few-repeats, few-after, offering-of}
 use Rattle.walk.proofs.FollowLaws.{turn-holding, walking-repeated, walking-after, ways-nowhere, ways-full, ways-done}
 use borrow.Author.Needs.{needs}

@@ -1,3 +1,4 @@
+-- `walk::go_on`, by whether a state goes on and stands on a row. Assumes nothing.
 use mathlib.Core.Path.{sym, _∙_}
 use Rattle.walk.proofs.UpLaws.{goes-nowhere, goes-off, goes-row}
 use borrow.Author.Needs.{needs}

@@ -1,3 +1,4 @@
+-- `walk::in_listing` in its two tests. Assumes nothing.
 use Rattle.walk.proofs.ListLaws.{tested, tested-below}
 use borrow.Author.Needs.{needs}
 use mathlib.Core.Bool.{false}

@@ -1,3 +1,4 @@
+-- `walk::note_repeat` changes one count. Assumes nothing.
 use Rattle.walk.proofs.ListLaws.{repeats-as}
 use borrow.Author.Needs.{needs}
 use Rattle.walk.proofs.note_repeat.Statement.{statement}

@@ -1,3 +1,4 @@
+-- `walk::one_more`, by its test. Assumes nothing.
 use Rattle.walk.proofs.ListLaws.{one-more-true, one-more-false}
 use mathlib.Core.Path.{sym, ap, _∙_}
 use native.Mathlib.Omega.{arith}

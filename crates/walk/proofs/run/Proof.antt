@@ -1,3 +1,4 @@
+-- `walk::run`. The invariant: the rest of the run from where the walk stands is the whole run. The measure is the budget that is left. Assumes nothing.
 use borrow.Author.Needs.{needs}
 use native.Mathlib.Omega.{arith}
 use mathlib.Core.Path.{_∙_}

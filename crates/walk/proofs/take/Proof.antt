@@ -1,7 +1,6 @@
+-- `walk::take` takes up one after the other. The invariant: what is taken up from those that are left is what is taken up from all. The measure is the place of the latest. Assumes nothing.
 use native.Mathlib.Omega.{arith}
 use Rattle.walk.proofs.ListLaws.{row-tested}
-
-
 use borrow.Author.Needs.{needs}
 use Rattle.walk.proofs.TakeLaws.{Reaching, reach-first, reach-end, reach-nothing, reach-next, reach-row, reach-less, reach-inside, reach-latest}
 use Rattle.walk.proofs.take.Statement.{statement}

@@ -1,3 +1,4 @@
+-- `walk::take_turn`: charged, closed or handled, and followed. Assumes nothing.
 use native.Mathlib.Omega.{arith}
 use Rattle.walk.proofs.TurnLaws.{may-charge, may-count, row-inside, is-ready, is-row, is-catalogue, rows-fit, limit-fits, may-stop, closed-walking, turns-closed, handled-turning, handled-may, turns-handled}
 use borrow.Author.Needs.{needs}

@@ -1,3 +1,4 @@
+-- `walk::take_up` loads what was taken. Assumes nothing.
 use Rattle.walk.proofs.UpLaws.{none-left, may-load, is-current}
 use borrow.Author.Needs.{needs}
 use Rattle.walk.proofs.take_up.Statement.{statement}
