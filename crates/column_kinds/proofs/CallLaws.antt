@@ -1,0 +1,294 @@
+-- The call in its parts: the refusals in their order, the rows in the area, the walk and its answer. Assumes nothing.
+use mathlib.Core.Path.{_≡_, refl, sym, ap, subst, _∙_}
+use mathlib.Core.Bool.{Bool, true, false, and-eq-true-iff}
+use mathlib.Core.Option.{Option, none, some}
+use mathlib.Core.List.{List}
+use Prim.Native.Nat.{ℕ, _+_, _*_, _/_, _≤_}
+use native.Mathlib.Omega.{arith}
+use lib.Dec.{leb}
+use lib.ListN.{length, replicate, length-replicate}
+use borrow.Author.Tests.{leb-true}
+use Rattle.model.specs.Walk.{Tried, refused, done, Notes}
+use Rattle.model.specs.Row.{Row as Listed}
+use Rattle.model.specs.State.{MemoryState as Defined}
+use Rattle.model.specs.Results.{ResultRow, columnsOf}
+use Rattle.model.specs.Access.{_>>=_}
+use Rattle.model.specs.Answer.{answerOf, outcomeOf}
+use Rattle.model.specs.Catalogue.{CatalogueRecord}
+use Rattle.model.specs.CatalogueText.{readCatalogue}
+use Rattle.model.specs.ListingText.{readListing}
+use Rattle.model.specs.Meaning.{standard}
+use Rattle.model.specs.Run.{walkListing}
+use Rattle.model.specs.Call.{orRefused, doneIf, rowsOf, recordsOf, areaFits, printInto, outcome, leave, call}
+use Rattle.model.specs.CallClaims.{CallClaims}
+use Rattle.model.proofs.CallTheorems.{call-claims}
+use Rattle.area.specs.Cells.{cells}
+use Rattle.area.specs.Counts.{count, home}
+use Rattle.area.proofs.CellLaws.{length-cells}
+use Rattle.area.proofs.CountLaws.{count-same, cleared-count}
+use Rattle.text.specs.Counts.{countedAs, lengthOf}
+use Rattle.text.specs.declared.Counted.{Counted}
+use Rattle.text.specs.declared.Counted.the-variants as counted
+use Rattle.listing.specs.ListingRows.{Room, Loaded}
+use Rattle.branches.proofs.RememberLaws.{Bytes}
+use Rattle.answer.specs.Text.{answerWith, Small, calledOf, Writes}
+use Rattle.answer.specs.declared.Written.{Written}
+use Rattle.answer.specs.declared.Written.the-variants as written
+use Rattle.walk.specs.Walks.{HoldsEnd, Few}
+use Rattle.walk.specs.declared.Walk.{Walk}
+use Rattle.walk.specs.declared.Progress.{Progress}
+use Rattle.walk.specs.declared.Progress.the-variants as progress
+use Rattle.state.specs.declared.MemoryState.{MemoryState}
+use Rattle.column_kinds.specs.Inner.{serves, Prepared, TellsWalk, WalksRows, Writable, WritesWalk, MayWalk, CallsInner}
+use Rattle.column_kinds.specs.Calls.{Calls}
+
+-- ---- what was tried
+
+abbrev IsDone : {A : Type 0} → Tried A → Type 0
+IsDone (refused k) = ⊥
+IsDone (done a) = Unit {0}
+
+refused-done : {A : Type 0} {k : ℕ} {a : A} → _≡_ {A = Tried A} (refused k) (done a) → ⊥
+refused-done e = subst IsDone (sym e) tt
+
+done-same : {A : Type 0} {a b : A} → _≡_ {A = Tried A} (done a) (done b) → a ≡ b
+done-same {a = a} e = ap (λ t. elim t [ refused k ↦ a | done x ↦ x ]) e
+
+refused-same : {A : Type 0} {k j : ℕ} → _≡_ {A = Tried A} (refused k) (refused j) → k ≡ j
+refused-same {k = k} e = ap (λ t. elim t [ refused i ↦ i | done x ↦ k ]) e
+
+-- ---- the answer of a walk
+
+pub small-few : {w : Walk} → Few w → Small (w .width) (w .charged) (w .loopstops) (w .gasstops) (w .repeats)
+small-few f = record { width-small = f .width; charged-small = f .charged; loopstops-small = f .loopstops; gasstops-small = f .gasstops; repeats-small = f .repeats }
+
+module _ (cols answer : List ℕ) (x : Progress) where
+  pub may-write : (w : Walk) → x ≡ progress.Ended w → Writable cols x → Small (w .width) (w .charged) (w .loopstops) (w .gasstops) (w .repeats) × (w .width ≤ length cols)
+  may-write w e h = let t = subst (Writable cols) e h in (small-few (t .0), omega (arith, t .0 .width, t .1))
+
+  pub never-paused : (w : Walk) (s : MemoryState) → x ≡ progress.Paused w s → Writable cols x → ⊥
+  never-paused w s e h = subst (Writable cols) e h
+
+  pub writes-refused : (k : ℕ) → x ≡ progress.Refused k → WritesWalk cols x answer answer (written.Refused k)
+  unfolding outcomeOf leave
+  writes-refused k e =
+      subst (λ y. WritesWalk cols y answer answer (written.Refused k)) (sym e)
+      (record { says = λ w t. sym (ap (λ v. leave answer (outcomeOf v >>= λ a. printInto (length answer) a)) (t .is)) })
+
+  pub writes-ended : (w : Walk) (answerThen : List ℕ) (r : Written) → x ≡ progress.Ended w → Writes cols (w .width) (w .charged) (w .loopstops) (w .gasstops) (w .repeats) answer answerThen r → WritesWalk cols x answer answerThen r
+  unfolding outcomeOf
+  writes-ended w answerThen r e writes =
+      subst (λ y. WritesWalk cols y answer answerThen r) (sym e)
+      (record {
+        says = λ v t.
+            writes .says (columnsOf (t .notes .counted)) (t .end .columns) .is ∙
+            ap (λ a. leave answer (printInto (length answer) a)) (same-answer (t .notes) (t .end)) ∙
+            sym (ap (λ u. leave answer (outcomeOf u >>= λ a. printInto (length answer) a)) (t .is));
+      })
+    where
+      same-answer : (n : Notes Defined ResultRow) → HoldsEnd cols w n → answerWith (w .charged) (w .loopstops) (w .gasstops) (w .repeats) (columnsOf (n .counted)) ≡ answerOf n
+      same-answer n h = rw (h .charged, h .loopstops, h .gasstops, h .repeats)
+
+-- ---- the listing and the catalogue, read
+
+few-rows : (listing : List ℕ) (rows : List Listed) → rowsOf listing ≡ done rows → length rows ≤ 2048
+unfolding rowsOf
+few-rows listing rows e = by (readListing listing) e
+  where
+    inner : (xs : List Listed) (b : Bool) → leb (length xs) 2048 ≡ b → doneIf 3 b xs ≡ done rows → length rows ≤ 2048
+    inner xs true f g = subst (λ l. length l ≤ 2048) (done-same g) (leb-true (length xs) 2048 f)
+    inner xs false f g = absurd (refused-done g)
+
+    by : (o : Option (List Listed)) → (orRefused 1 o >>= λ xs. doneIf 3 (leb (length xs) 2048) xs) ≡ done rows → length rows ≤ 2048
+    by none g = absurd (refused-done g)
+    by (some xs) g = inner xs (leb (length xs) 2048) refl g
+
+catalogue-read : (catalogue : List ℕ) (records : List CatalogueRecord) → recordsOf catalogue ≡ done records → readCatalogue catalogue ≡ some records
+unfolding recordsOf
+catalogue-read catalogue records e = by (readCatalogue catalogue) e
+  where
+    inner : (xs : List CatalogueRecord) (b : Bool) → doneIf 3 b xs ≡ done records → xs ≡ records
+    inner xs true g = done-same g
+    inner xs false g = absurd (refused-done g)
+
+    by : (o : Option (List CatalogueRecord)) → (orRefused 2 o >>= λ xs. doneIf 3 (leb (length xs) 4096) xs) ≡ done records → o ≡ some records
+    by none g = absurd (refused-done g)
+    by (some xs) g = ap some (inner xs (leb (length xs) 4096) g)
+
+-- the call, where nothing is refused before the walk
+call-as : (listing catalogue area answer : List ℕ) (rows : List Listed) (records : List CatalogueRecord) → rowsOf listing ≡ done rows → recordsOf catalogue ≡ done records → serves (length area) (length rows) ≡ true → call listing catalogue (length area) answer ≡ leave answer (outcomeOf (walkListing (standard records) rows (length area)) >>= λ a. printInto (length answer) a)
+unfolding call outcome areaFits
+call-as listing catalogue area answer rows records e f h = rw (e, f, h)
+
+call-unserved : (listing catalogue area answer : List ℕ) (rows : List Listed) (records : List CatalogueRecord) → rowsOf listing ≡ done rows → recordsOf catalogue ≡ done records → serves (length area) (length rows) ≡ false → call listing catalogue (length area) answer ≡ leave answer (refused 4)
+unfolding call outcome areaFits
+call-unserved listing catalogue area answer rows records e f h = rw (e, f, h)
+
+call-unlisted : (listing catalogue area answer : List ℕ) (k : ℕ) → rowsOf listing ≡ refused k → call listing catalogue (length area) answer ≡ leave answer (refused k)
+unfolding call outcome
+call-unlisted listing catalogue area answer k e = rw (e)
+
+call-uncatalogued : (listing catalogue area answer : List ℕ) (rows : List Listed) (k : ℕ) → rowsOf listing ≡ done rows → recordsOf catalogue ≡ refused k → call listing catalogue (length area) answer ≡ leave answer (refused k)
+unfolding call outcome
+call-uncatalogued listing catalogue area answer rows k e f = rw (e, f)
+
+-- ---- an area that serves
+
+record Served (bytes n : ℕ) : Type 0 where
+  enough : 16 * (1024 + 2 * n) ≤ bytes
+  most : bytes ≤ 16777216
+
+served : (bytes n : ℕ) → serves bytes n ≡ true → Served bytes n
+served bytes n e =
+    let (a, b) = and-eq-true-iff (leb (16 * (1024 + 2 * n)) bytes) (leb bytes 16777216) .0 e in
+    record { enough = leb-true (16 * (1024 + 2 * n)) bytes a; most = leb-true bytes 16777216 b }
+
+module _ {listing catalogue area : List ℕ} {n : ℕ} (m : MayWalk listing catalogue area n) where
+  module _ (ys : List ℕ) (cleared : ys ≡ replicate (length area) 0) where
+    as-long : length ys ≡ length area
+    as-long = ap length cleared ∙ length-replicate {A = ℕ} (length area) 0
+
+    pub has-room : Room ys 1024 n
+    has-room =
+        let s = served (length area) n (m .fits) in
+        record { inside = λ lt. record { within = omega (arith, length-cells ys, as-long, s .enough); small = omega (arith, length-cells ys, as-long, s .most) } }
+
+    pub is-prepared : (zs cols : List ℕ) (r : Counted) → Bytes ys → Bytes zs → Loaded listing ys zs 1024 n r → cols ≡ replicate 2000 0 → Prepared catalogue zs cols n
+    is-prepared zs cols r small less loaded zeros =
+        let s = served (length area) n (m .fits) in
+        let long : length (cells zs) ≡ length (cells ys) = length-cells zs ∙ ap (λ k. k / 16) (loaded .bytes) ∙ sym (length-cells ys) in
+        record {
+          rows = m .rows;
+          records = m .records;
+          listed = loaded .rows (m .rows) (m .listed) (omega (arith, m .size));
+          size = m .size;
+          read = catalogue-read catalogue (m .records) (m .catalogued);
+          few = omega (arith, m .size, few-rows listing (m .rows) (m .listed));
+          fits = omega (arith, long, length-cells ys, as-long, s .enough);
+          small = omega (arith, long, length-cells ys, as-long, s .most);
+          zero = λ i lt.
+              count-same zs ys (1024 + n) (1024 + n) i less small
+              (record { within = omega (arith, long, length-cells ys, as-long, s .enough); small = omega (arith, long, length-cells ys, as-long, s .most) })
+              (record { within = omega (arith, length-cells ys, as-long, s .enough); small = omega (arith, length-cells ys, as-long, s .most) })
+              (loaded .above (home (1024 + n) i) (omega arith)) ∙
+              ap (λ l. count l (1024 + n) i) cleared ∙ cleared-count (length area) (1024 + n) i;
+          columns = zeros;
+        }
+
+    -- the walk's outcome is the call's
+    module _ (zs ts cols : List ℕ) (r : Counted) (loaded : Loaded listing ys zs 1024 n r) (x : Progress) (walks : WalksRows catalogue zs ts cols n x) where
+      told : TellsWalk cols x (walkListing (standard (m .records)) (m .rows) (length area))
+      told =
+          subst (λ k. TellsWalk cols x (walkListing (standard (m .records)) (m .rows) k)) (loaded .bytes ∙ as-long)
+          (walks .says (m .rows) (m .records) (loaded .rows (m .rows) (m .listed) (omega (arith, m .size))) (m .size) (catalogue-read catalogue (m .records) (m .catalogued)))
+
+      pub can-write : Writable cols x
+      can-write = by x told
+        where
+          by : (y : Progress) → TellsWalk cols y (walkListing (standard (m .records)) (m .rows) (length area)) → Writable cols y
+          by (progress.Paused w s) t = t
+          by (progress.Refused k) t = tt
+          by (progress.Ended w) t = (t .end .few, walks .columns)
+
+      pub calls-walk : (answer answerThen : List ℕ) (q : Written) → WritesWalk cols x answer answerThen q → CallsInner listing catalogue area ts answer answerThen q
+      calls-walk answer answerThen q writes =
+          record {
+            is = writes .says (walkListing (standard (m .records)) (m .rows) (length area)) told ∙ sym (call-walks answer);
+            bytes = walks .bytes ∙ loaded .bytes ∙ as-long;
+          }
+        where
+          call-walks : (answer : List ℕ) → call listing catalogue (length area) answer ≡ leave answer (outcomeOf (walkListing (standard (m .records)) (m .rows) (length area)) >>= λ a. printInto (length answer) a)
+          call-walks answer = call-as listing catalogue area answer (m .rows) (m .records) (m .listed) (m .catalogued) (ap (λ k. serves (length area) k) (m .size) ∙ m .fits)
+
+-- ---- what was counted
+
+pub record Read {A : Type 0} (t : Tried (List A)) (n : ℕ) : Type 0 where
+  pub items : List A
+  pub is : t ≡ done items
+  pub size : length items ≡ n
+
+module _ {A : Type 0} (t : Tried (List A)) (r : Counted) (count : countedAs r ≡ lengthOf t) where
+  counted-refused : (k : ℕ) → r ≡ counted.Refused k → t ≡ refused k
+  counted-refused k e = by t (sym (ap countedAs e) ∙ count)
+    where
+      by : (u : Tried (List A)) → refused k ≡ lengthOf u → u ≡ refused k
+      by (refused j) f = ap refused (sym (refused-same f))
+      by (done xs) f = absurd (refused-done f)
+
+  counted-read : (n : ℕ) → r ≡ counted.Count n → Read t n
+  counted-read n e = by t refl (sym (ap countedAs e) ∙ count)
+    where
+      by : (u : Tried (List A)) → t ≡ u → done n ≡ lengthOf u → Read t n
+      by (refused j) f g = absurd (refused-done (sym g))
+      by (done xs) f g = record { items = xs; is = f; size = sym (done-same g) }
+
+-- ---- the refusals before the walk
+
+module _ (listing catalogue area ys answer : List ℕ) (r : Counted) (loaded : Loaded listing area ys 0 0 r) where
+  left-refused : (k : ℕ) → leave answer (refused k) ≡ calledOf answer (written.Refused k)
+  unfolding leave
+  left-refused k = refl
+
+  pub calls-unlisted : (k : ℕ) → r ≡ counted.Refused k → CallsInner listing catalogue area ys answer answer (written.Refused k)
+  calls-unlisted k e = record { is = sym (call-unlisted listing catalogue area answer k (counted-refused (rowsOf listing) r (loaded .count) k e) ∙ left-refused k); bytes = loaded .bytes }
+
+  module _ (n : ℕ) (e : r ≡ counted.Count n) where
+    rows-read : Read (rowsOf listing) n
+    rows-read = counted-read (rowsOf listing) r (loaded .count) n e
+
+    pub few-counted : n ≤ 2048
+    few-counted = omega (arith, rows-read .size, few-rows listing (rows-read .items) (rows-read .is))
+
+    module _ (c : Counted) (catalogued : countedAs c ≡ lengthOf (recordsOf catalogue)) where
+      pub calls-uncatalogued : (k : ℕ) → c ≡ counted.Refused k → CallsInner listing catalogue area ys answer answer (written.Refused k)
+      calls-uncatalogued k f = record { is = sym (call-uncatalogued listing catalogue area answer (rows-read .items) k (rows-read .is) (counted-refused (recordsOf catalogue) c catalogued k f) ∙ left-refused k); bytes = loaded .bytes }
+
+      module _ (j : ℕ) (f : c ≡ counted.Count j) (b : Bool) (is : b ≡ serves (length ys) n) where
+        records-read : Read (recordsOf catalogue) j
+        records-read = counted-read (recordsOf catalogue) c catalogued j f
+
+        tested : (x : Bool) → b ≡ x → serves (length area) n ≡ x
+        tested x g = ap (λ k. serves k n) (sym (loaded .bytes)) ∙ sym is ∙ g
+
+        pub calls-unserved : b ≡ false → CallsInner listing catalogue area ys answer answer (written.Refused 4)
+        calls-unserved g =
+            record {
+              is = sym (call-unserved listing catalogue area answer (rows-read .items) (records-read .items) (rows-read .is) (records-read .is) (ap (λ k. serves (length area) k) (rows-read .size) ∙ tested false g) ∙ left-refused 4);
+              bytes = loaded .bytes;
+            }
+
+        pub may-walk : b ≡ true → MayWalk listing catalogue ys n
+        may-walk g = record { rows = rows-read .items; records = records-read .items; listed = rows-read .is; catalogued = records-read .is; size = rows-read .size; fits = sym is ∙ g }
+
+        pub calls-then : (zs answerThen : List ℕ) (q : Written) → CallsInner listing catalogue ys zs answer answerThen q → CallsInner listing catalogue area zs answer answerThen q
+        calls-then zs answerThen q inner =
+            record { is = inner .is ∙ ap (λ k. call listing catalogue k answer) (loaded .bytes); bytes = inner .bytes ∙ loaded .bytes }
+
+-- ---- the entry
+
+module _ (listing catalogue area ys answer answerThen : List ℕ) (q : Written) (inner : CallsInner listing catalogue area ys answer answerThen q) where
+  claims : CallClaims listing catalogue (length area) answer
+  claims = call-claims listing catalogue (length area) answer
+
+  pub refusal-small : (k : ℕ) → q ≡ written.Refused k → k ≤ 12
+  refusal-small k e = subst (λ c. c .number ≤ 12) (sym (inner .is) ∙ ap (calledOf answerThen) e) (claims .number)
+
+  module _ (zs : List ℕ) (cleared : zs ≡ replicate (length ys) 0) where
+    zeros : zs ≡ replicate (length area) 0
+    zeros = cleared ∙ ap (λ k. replicate k 0) (inner .bytes)
+
+    pub calls-refused : (k : ℕ) → q ≡ written.Refused k → Calls listing catalogue area zs answer answerThen (k * 4294967296)
+    calls-refused k e =
+        let is : record { number = k; size = 0; answer = answerThen } ≡ call listing catalogue (length area) answer = ap (calledOf answerThen) (sym e) ∙ inner .is in
+        record { result = no-size k ∙ ap (λ c. c .number * 4294967296 + c .size) is; bytes = ap (λ c. c .answer) is; zero = zeros; claims = claims }
+      where
+        no-size : (i : ℕ) → i * 4294967296 ≡ i * 4294967296 + 0
+        no-size i = omega arith
+
+    pub calls-answered : (n : ℕ) → q ≡ written.Length n → Calls listing catalogue area zs answer answerThen n
+    calls-answered n e =
+        let is : record { number = 0; size = n; answer = answerThen } ≡ call listing catalogue (length area) answer = ap (calledOf answerThen) (sym e) ∙ inner .is in
+        record { result = no-number n ∙ ap (λ c. c .number * 4294967296 + c .size) is; bytes = ap (λ c. c .answer) is; zero = zeros; claims = claims }
+      where
+        no-number : (i : ℕ) → i ≡ 0 * 4294967296 + i
+        no-number i = omega arith

@@ -1,0 +1,134 @@
+// The call: what each result column of a listing is, and whether it may be blank. 01, "The call".
+ghost use mathlib.Core.Path.{_≡_};
+ghost use Prim.Native.Nat.{_≤_};
+ghost use Rattle.column_kinds.specs.Calls.{Calls};
+ghost use Rattle.column_kinds.specs.Inner.{serves, Prepared, WalksRows, Writable, WritesWalk, MayWalk, CallsInner};
+use answer::Written;
+use branches::BranchList;
+use intmap::IntMap;
+use state::MemoryState;
+use text::Counted;
+use walk::Program;
+use walk::Progress;
+use walk::Walk;
+
+// The limit of cells, and the units that a walk has.
+const LIMIT: usize = 512;
+
+const GAS: u64 = 100000;
+
+// Whether an area of so many bytes serves so many rows.
+fn serves(bytes: usize, rows: usize) -> bool
+    requires { ⌜ rows ≤ 2048 ⌝ }
+    ensures { λ r. ⌜ r ≡ serves bytes rows ⌝ }
+{
+    16 * (2 * LIMIT + 2 * rows) <= bytes && bytes <= 16777216
+}
+
+// The walk over n rows that are in the area, from the fresh start.
+fn walk_rows(area: &mut [u8], columns: &mut [u8], catalogue: &[u8], n: usize) -> Progress
+    requires { ⌜ Prepared (now catalogue) (now area) (now columns) n ⌝ }
+    ensures { λ r. ⌜ WalksRows (now (catalogue .entry)) (now (area .entry)) (now (area .exit)) (now (columns .exit)) n r ⌝ }
+{
+    let branches = BranchList::new(LIMIT + LIMIT + n + n);
+    let w = Walk {
+        gas: GAS,
+        charged: 0,
+        loopstops: 0,
+        gasstops: 0,
+        repeats: 0,
+        width: 0,
+        branches,
+    };
+    if n == 0 {
+        return Progress::Ended(w);
+    }
+    let map = IntMap::new(0);
+    let s = MemoryState {
+        row: intmap::ZERO,
+        map,
+    };
+    let p = Program {
+        limit: LIMIT,
+        size: n,
+    };
+    walk::run(w, s, area, columns, catalogue, p, GAS)
+}
+
+// The answer of a walk that was answered, or the refusal.
+fn write_walk(answer: &mut [u8], columns: &[u8], x: Progress) -> Written
+    requires { ⌜ Writable (now columns) x ⌝ }
+    ensures { λ r. ⌜ WritesWalk (now (columns .entry)) x (now (answer .entry)) (now (answer .exit)) r ⌝ }
+{
+    match x {
+        Progress::Paused(_, _) => Written::Refused(0),
+        Progress::Refused(k) => Written::Refused(k),
+        Progress::Ended(w) => answer::write_answer(
+            answer,
+            columns,
+            w.width,
+            w.charged,
+            w.loopstops,
+            w.gasstops,
+            w.repeats,
+        ),
+    }
+}
+
+// The walk over a listing of n rows, in an area that serves so many, and its answer. The rows are read again, into the area.
+fn answer_rows(
+    listing: &[u8],
+    catalogue: &[u8],
+    area: &mut [u8],
+    answer: &mut [u8],
+    n: usize,
+) -> Written
+    requires { ⌜ MayWalk (now listing) (now catalogue) (now area) n ⌝ }
+    ensures { λ r. ⌜ CallsInner (now (listing .entry)) (now (catalogue .entry)) (now (area .entry)) (now (area .exit)) (now (answer .entry)) (now (answer .exit)) r ⌝ }
+{
+    area::clear(area);
+    listing::read_listing(listing, area, 2 * LIMIT, n);
+    let mut columns = [0u8; 2000];
+    let x = walk_rows(area, &mut columns, catalogue, n);
+    write_walk(answer, &columns, x)
+}
+
+// The refusals in their order, and then the walk.
+fn call(listing: &[u8], catalogue: &[u8], area: &mut [u8], answer: &mut [u8]) -> Written
+    ensures { λ r. ⌜ CallsInner (now (listing .entry)) (now (catalogue .entry)) (now (area .entry)) (now (area .exit)) (now (answer .entry)) (now (answer .exit)) r ⌝ }
+{
+    let rows = listing::read_listing(listing, area, 0, 0);
+    match rows {
+        Counted::Refused(k) => Written::Refused(k),
+        Counted::Count(n) => {
+            let records = catalogue::count_records(catalogue);
+            match records {
+                Counted::Refused(k) => Written::Refused(k),
+                Counted::Count(_) => {
+                    if serves(area.len(), n) {
+                        return answer_rows(listing, catalogue, area, answer, n);
+                    }
+                    Written::Refused(4)
+                }
+            }
+        }
+    }
+}
+
+// The entry. Its number is 0 or a refusal; the result is number × 4,294,967,296 + length.
+#[no_mangle]
+pub extern "C" fn column_kinds(
+    listing: &[u8],
+    catalogue: &[u8],
+    area: &mut [u8],
+    answer: &mut [u8],
+) -> u64
+    ensures { λ r. ⌜ Calls (now (listing .entry)) (now (catalogue .entry)) (now (area .entry)) (now (area .exit)) (now (answer .entry)) (now (answer .exit)) r ⌝ }
+{
+    let x = call(listing, catalogue, area, answer);
+    area::clear(area);
+    match x {
+        Written::Refused(k) => k * 4294967296,
+        Written::Length(n) => n as u64,
+    }
+}
