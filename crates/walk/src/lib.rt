@@ -64,15 +64,9 @@ pub enum Progress {
 fn with_branches(w: Walk, branches: BranchList) -> Walk
     ensures { λ r. ⌜ r ≡ withBranches w branches ⌝ }
 {
-    Walk {
-        gas: w.gas,
-        charged: w.charged,
-        loopstops: w.loopstops,
-        gasstops: w.gasstops,
-        repeats: w.repeats,
-        width: w.width,
-        branches,
-    }
+    let mut v = w;
+    v.branches = branches;
+    v
 }
 
 // Whether a row's word is that of a row of the listing.
@@ -165,16 +159,9 @@ fn note_repeat(w: Walk, repeat: bool) -> Walk
     requires { ⌜ w .repeats < 4294967296 ⌝ }
     ensures { λ r. ⌜ r ≡ noteRepeated w repeat ⌝ }
 {
-    let branches = w.branches;
-    Walk {
-        gas: w.gas,
-        charged: w.charged,
-        loopstops: w.loopstops,
-        gasstops: w.gasstops,
-        repeats: one_more(w.repeats, repeat),
-        width: w.width,
-        branches,
-    }
+    let mut v = w;
+    v.repeats = one_more(w.repeats, repeat);
+    v
 }
 
 // At most one branch is offered, and then the state that goes on is current.
@@ -243,16 +230,9 @@ fn follow_three(
 fn with_width(w: Walk, width: usize) -> Walk
     ensures { λ r. ⌜ r ≡ withWidth w width ⌝ }
 {
-    let branches = w.branches;
-    Walk {
-        gas: w.gas,
-        charged: w.charged,
-        loopstops: w.loopstops,
-        gasstops: w.gasstops,
-        repeats: w.repeats,
-        width,
-        branches,
-    }
+    let mut v = w;
+    v.width = width;
+    v
 }
 
 // A result row is merged into the columns, its branch is offered, and the next that waits is current.
@@ -295,16 +275,10 @@ fn charge(w: Walk) -> Walk
     requires { ⌜ (0 < w .gas) × (w .charged < 4294967295) ⌝ }
     ensures { λ r. ⌜ r ≡ chargeOne w ⌝ }
 {
-    let branches = w.branches;
-    Walk {
-        gas: w.gas - 1,
-        charged: w.charged + 1,
-        loopstops: w.loopstops,
-        gasstops: w.gasstops,
-        repeats: w.repeats,
-        width: w.width,
-        branches,
-    }
+    let mut v = w;
+    v.gas -= 1;
+    v.charged += 1;
+    v
 }
 
 // A lineage is closed at a row that it has handled three times.
@@ -312,16 +286,9 @@ fn loop_stop(w: Walk) -> Walk
     requires { ⌜ w .loopstops < 4294967295 ⌝ }
     ensures { λ r. ⌜ r ≡ stopLoop w ⌝ }
 {
-    let branches = w.branches;
-    Walk {
-        gas: w.gas,
-        charged: w.charged,
-        loopstops: w.loopstops + 1,
-        gasstops: w.gasstops,
-        repeats: w.repeats,
-        width: w.width,
-        branches,
-    }
+    let mut v = w;
+    v.loopstops += 1;
+    v
 }
 
 // A lineage is closed since no unit is left.
@@ -329,16 +296,9 @@ fn gas_stop(w: Walk) -> Walk
     requires { ⌜ w .gasstops < 18446744073709551615 ⌝ }
     ensures { λ r. ⌜ r ≡ stopGas w ⌝ }
 {
-    let branches = w.branches;
-    Walk {
-        gas: w.gas,
-        charged: w.charged,
-        loopstops: w.loopstops,
-        gasstops: w.gasstops + 1,
-        repeats: w.repeats,
-        width: w.width,
-        branches,
-    }
+    let mut v = w;
+    v.gasstops += 1;
+    v
 }
 
 // A turn of the walk: the row that the current lineage is on is charged; a lineage that has handled it three times is closed, else it is handled.

@@ -13,7 +13,7 @@ one-more-requires c κs = search needs
 
 -- src/lib.rt:190:1
 returns : tie.Need-returns
-returns c = repeats-as (c .before .before .args .w) (c .before .before .args .repeat) _ (c .one-more .ensures)
+returns c = repeats-as (c .before .args .w) (c .before .args .repeat) _ (c .one-more .ensures)
 
 pub note-repeat-spec : {M : Type 1} → statement M
 note-repeat-spec = tie.close (tie.spec one-more-requires returns)
