@@ -55,7 +55,7 @@ CASES = [
     "Function 0 1 1 date(-1); Function 0 0 2 date(-1); Function 0 1 3 last_insert_rowid(0); ResultRow 1 3 0",
     "AggFinal -1 -1 -1 sum(1); ResultRow 0 1 0",
     "AggFinal -1 -1 -1 x:c0af",
-    "AggStep -1 -1 -1 x:ed a080",
+    "AggStep -1 -1 -1 x:eda080",
     "AggFinal 1 0 2 count(1); AggFinal 3 0 4 percent_rank(0); AggFinal 5 0 6 cume_dist; ResultRow 1 6 0",
     "AggFinal 70000 0 1 count(0)",
     "AggFinal 1 0 70000 cume_dist",
@@ -92,7 +92,8 @@ CASES = [
     "IsNull 1 2 0; ResultRow 1 1 0; ResultRow 1 1 0",
     "String8 0 1 0; IsNull 1 3 0; ResultRow 1 1 0; Halt 0 0 0; ResultRow 1 2 0",
     "Integer 4 1 0; IsNull 1 3 0; ResultRow 1 1 0; ResultRow 1 2 0",
-    "MakeRecord 1 1 1; OpenPseudo 0 1 0; IsNull 1 4 0; Column 0 0 2; ResultRow 1 2 0",
+    "Integer 5 2 0; MakeRecord 2 1 1; OpenPseudo 0 1 0; IsNull 1 5 0; Halt 0 0 0; Column 0 0 3; ResultRow 3 1 0",
+    "Integer 5 2 0; MakeRecord 2 1 1; OpenPseudo 0 1 0; IsNull 1 6 0; Column 0 0 3; ResultRow 3 1 0; Halt 0 0 0",
     "MakeRecord 1 1 1; NotNull 1 3 0; ResultRow 1 1 0; ResultRow 1 2 0",
     "NotNull 1 2 0; ResultRow 1 1 0; ResultRow 1 1 0",
     "Null 0 1 0; NotNull 1 3 0; ResultRow 1 1 0; HaltIfNull 0 0 1; NotNull 1 7 0; ResultRow 1 2 0; Halt 0 0 0; ResultRow 1 3 0",
@@ -167,7 +168,7 @@ DAMAGED = ["addr=0\n", "addr=1\nop=Halt\np1=0\np2=0\np3=0\np4=\n", "addr=0\nop=H
 def row_text(address, row):
     op, p1, p2, p3, *p4 = row.split(" ", 4)
     p4 = p4[0] if p4 else ""
-    given = p4[2:].replace(" ", "") if p4.startswith("x:") else p4.encode().hex()
+    given = p4[2:] if p4.startswith("x:") else p4.encode().hex()
     return f"addr={address}\nop={op}\np1={p1}\np2={p2}\np3={p3}\np4={given}\n"
 
 
