@@ -15,6 +15,13 @@ FULL = "OpenEphemeral 0 510 0"  # a state of 512 cells
 NO_SPACE = FULL + "; " + "; ".join(["ResultRow 0 0 0; Noop 0 0 0"] * 5)
 
 CASES = [
+    # 01, "Sample runs": those that are not in the proved table
+    "Integer 0 65535 0",
+    "Integer 0 65536 0",
+    "OpenEphemeral 0 510 0",
+    "OpenEphemeral 0 511 0",
+    "; ".join(["MakeRecord 1 1 1"] * 8),
+    "; ".join(["MakeRecord 1 1 1"] * 9),
     # Column: the cursor, a pseudo cursor's register, P2 only where there are columns, and always the store
     "Column -1 70000 70000",
     "Column 0 -1 1; ResultRow 1 1 0",

@@ -1,2 +1,3 @@
 pub mod StartLaws
 pub mod CallLaws
+pub mod Stars
