@@ -79,17 +79,17 @@ fn write_walk(answer: &mut [u8], columns: &[u8], x: Progress) -> Written
 fn answer_rows(
     listing: &[u8],
     catalogue: &[u8],
-    area: &mut [u8],
+    work: &mut [u8],
     answer: &mut [u8],
     n: usize,
 ) -> Written
-    requires { ⌜ MayWalk (now listing) (now catalogue) (now area) n ⌝ }
-    ensures { λ r. ⌜ CallsInner (now (listing .entry)) (now (catalogue .entry)) (now (area .entry)) (now (area .exit)) (now (answer .entry)) (now (answer .exit)) r ⌝ }
+    requires { ⌜ MayWalk (now listing) (now catalogue) (now work) n ⌝ }
+    ensures { λ r. ⌜ CallsInner (now (listing .entry)) (now (catalogue .entry)) (now (work .entry)) (now (work .exit)) (now (answer .entry)) (now (answer .exit)) r ⌝ }
 {
-    area::clear(area);
-    listing::read_listing(listing, area, 2 * LIMIT, n);
+    area::clear(work);
+    listing::read_listing(listing, work, 2 * LIMIT, n);
     let mut columns = [0u8; 2000];
-    let x = walk_rows(area, &mut columns, catalogue, n);
+    let x = walk_rows(work, &mut columns, catalogue, n);
     write_walk(answer, &columns, x)
 }
 
