@@ -1,5 +1,5 @@
 -- When the area and a small struct hold a walk between rows: the listing's rows, the columns so far, the remembered states and those that wait, the
--- counts, and the current lineage. DESIGN, in cells: the current state from 0 on, as much for a branch or a value on its way, the rows, the
+-- counts, and the current lineage. In cells: the current state from 0 on, as much for a branch or a value on its way, the rows, the
 -- current lineage's handled counts, and from `firstFrom` on the remembered states. What each part of the loop says of the definition's walk.
 -- Assumes nothing.
 use mathlib.Core.Path.{_≡_}
