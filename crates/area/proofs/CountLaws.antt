@@ -12,7 +12,7 @@ use Rattle.area.specs.Words.{words}
 use Rattle.area.specs.Cells.{blank, cellOf, cells, Inside, CellsNow}
 use Rattle.area.specs.Moves.{moved}
 use Rattle.area.specs.declared.Cell.{Cell}
-use Rattle.area.specs.Counts.{place, home, count, Raised}
+use Rattle.area.specs.Counts.{place, home, count, Raised, CountsCleared}
 use Rattle.area.proofs.WordLaws.{bytes-same, cleared-byte}
 use Rattle.area.proofs.CellLaws.{length-cells, cells-kept, cells-at, cells-byte, cell-head, cell-payload, inside-kept}
 use Rattle.area.proofs.MoveLaws.{moved-in}
@@ -122,3 +122,27 @@ count-moved xs ys from to n i small less hf ht lt put =
 pub cleared-count : (n from i : ℕ) → count (replicate n 0) from i ≡ 0
 unfolding count
 cleared-count n from i = cleared-byte n (place from i)
+
+-- counts cleared one after the other
+pub cleared-none : (xs : List ℕ) (from : ℕ) → CountsCleared xs xs from 0
+cleared-none xs from =
+    record { zero = λ i lt. absurd (omega arith); before = λ k lt. refl; behind = λ k le. refl; below = λ j lt. refl; same = refl; bytes = refl }
+
+pub cleared-next : (xs ys : List ℕ) (from n : ℕ) → place from n < length xs → CountsCleared xs ys from n → CountsCleared xs (set ys (place from n) 0) from (n + 1)
+unfolding count
+cleared-next xs ys from n inside h =
+    let p : ℕ = place from n in
+    record {
+      zero = λ i lt. by i lt (decLt i n);
+      before = λ k lt. getD-set-other ys p k 0 0 (λ e. omega arith) ∙ h .before k lt;
+      behind = λ k le. getD-set-other ys p k 0 0 (λ e. omega arith) ∙ h .behind k (omega arith);
+      below = λ j lt. cells-byte ys p 0 j (λ e. omega arith) ∙ h .below j lt;
+      same = cells-kept ys (set ys p 0) (length-set ys p 0) ∙ h .same;
+      bytes = length-set ys p 0 ∙ h .bytes;
+    }
+  where
+    by : (i : ℕ) → i < n + 1 → Dec (i < n) → getD (set ys (place from n) 0) (place from i) 0 ≡ 0
+    by i lt (yes less) = getD-set-other ys (place from n) (place from i) 0 0 (λ e. omega arith) ∙ h .zero i less
+    by i lt (no ge) =
+        let e : place from i ≡ place from n = omega arith in
+        ap (λ k. getD (set ys (place from n) 0) k 0) e ∙ getD-set-same ys (place from n) 0 0 (omega (arith, h .bytes))

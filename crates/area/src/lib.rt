@@ -6,7 +6,7 @@ ghost use lib.ListN.{length, getD, set, replicate};
 ghost use Rattle.area.specs.Words.{number, eight, words, withBytes, WordsNow};
 ghost use Rattle.area.specs.Cells.{blank, cells, Inside, WordInside, CellsNow};
 ghost use Rattle.area.specs.Moves.{moved};
-ghost use Rattle.area.specs.Counts.{count, home, Raisable, Raised};
+ghost use Rattle.area.specs.Counts.{count, home, Raisable, Raised, HasCounts, CountsCleared};
 
 // Two words, 16 bytes.
 pub struct Cell {
@@ -165,4 +165,17 @@ pub fn raise_count(area: &mut [u8], from: usize, i: usize)
 {
     let p = from * 16 + i;
     area[p] = area[p] + 1;
+}
+
+// Sets the first n counts of those that begin at the cell `from` to 0.
+pub fn clear_counts(area: &mut [u8], from: usize, n: usize)
+    requires { ⌜ HasCounts (now area) from n ⌝ }
+    ensures { λ _. ⌜ CountsCleared (now (area .entry)) (now (area .exit)) from n ⌝ }
+{
+    let p = from * 16;
+    let mut i = 0;
+    while i < n {
+        area[p + i] = 0;
+        i += 1;
+    }
 }

@@ -3,7 +3,7 @@ use mathlib.Core.Path.{_≡_, refl, sym, ap, subst, _∙_}
 use mathlib.Core.Bool.{Bool, true, false, and-eq-true-iff}
 use mathlib.Core.Option.{Option, none, some}
 use mathlib.Core.List.{List}
-use Prim.Native.Nat.{ℕ, _+_, _*_, _/_, _≤_}
+use Prim.Native.Nat.{ℕ, _+_, _-_, _*_, _/_, _<_, _≤_}
 use native.Mathlib.Omega.{arith}
 use lib.Dec.{leb}
 use lib.ListN.{length, replicate, length-replicate}
@@ -23,23 +23,24 @@ use Rattle.model.specs.Call.{orRefused, doneIf, rowsOf, recordsOf, areaFits, pr
 use Rattle.model.specs.CallClaims.{CallClaims}
 use Rattle.model.proofs.CallTheorems.{call-claims}
 use Rattle.area.specs.Cells.{cells}
-use Rattle.area.specs.Counts.{count, home}
+use Rattle.area.specs.Counts.{HasCounts, CountsCleared}
 use Rattle.area.proofs.CellLaws.{length-cells}
-use Rattle.area.proofs.CountLaws.{count-same, cleared-count}
 use Rattle.text.specs.Counts.{countedAs, lengthOf}
 use Rattle.text.specs.declared.Counted.{Counted}
 use Rattle.text.specs.declared.Counted.the-variants as counted
 use Rattle.listing.specs.ListingRows.{Room, Loaded}
-use Rattle.branches.proofs.RememberLaws.{Bytes}
 use Rattle.answer.specs.Text.{answerWith, Small, calledOf, Writes}
 use Rattle.answer.specs.declared.Written.{Written}
 use Rattle.answer.specs.declared.Written.the-variants as written
+use Rattle.root_block.specs.Build.{Indexable, Indexed}
+use Rattle.rows.specs.Judged.{HaveRows}
+use Rattle.walk.proofs.BranchLaws.{rows-kept}
 use Rattle.walk.specs.Walks.{HoldsEnd, Few}
 use Rattle.walk.specs.declared.Walk.{Walk}
 use Rattle.walk.specs.declared.Progress.{Progress}
 use Rattle.walk.specs.declared.Progress.the-variants as progress
 use Rattle.state.specs.declared.MemoryState.{MemoryState}
-use Rattle.column_kinds.specs.Inner.{serves, Prepared, TellsWalk, WalksRows, Writable, WritesWalk, MayWalk, CallsInner}
+use Rattle.column_kinds.specs.Inner.{serves, RowRoom, Prepared, TellsWalk, WalksRows, Writable, WritesWalk, MayWalk, Catalogued, AnswersRows, CallsInner}
 use Rattle.column_kinds.specs.Calls.{Calls}
 
 -- ---- what was tried
@@ -91,17 +92,22 @@ module _ (cols answer : List ℕ) (x : Progress) where
 
 -- ---- the listing and the catalogue, read
 
+-- at most so many items, where more are refused
+few-items : {A : Type 0} (k most : ℕ) (o : Option (List A)) (items : List A) → (orRefused k o >>= λ xs. doneIf 3 (leb (length xs) most) xs) ≡ done items → length items ≤ most
+few-items k most none items g = absurd (refused-done g)
+few-items {A} k most (some xs) items g = inner (leb (length xs) most) refl g
+  where
+    inner : (b : Bool) → leb (length xs) most ≡ b → doneIf 3 b xs ≡ done items → length items ≤ most
+    inner true f h = subst (λ l. length l ≤ most) (done-same h) (leb-true (length xs) most f)
+    inner false f h = absurd (refused-done h)
+
 few-rows : (listing : List ℕ) (rows : List Listed) → rowsOf listing ≡ done rows → length rows ≤ 2048
 unfolding rowsOf
-few-rows listing rows e = by (readListing listing) e
-  where
-    inner : (xs : List Listed) (b : Bool) → leb (length xs) 2048 ≡ b → doneIf 3 b xs ≡ done rows → length rows ≤ 2048
-    inner xs true f g = subst (λ l. length l ≤ 2048) (done-same g) (leb-true (length xs) 2048 f)
-    inner xs false f g = absurd (refused-done g)
+few-rows listing rows e = few-items 1 2048 (readListing listing) rows e
 
-    by : (o : Option (List Listed)) → (orRefused 1 o >>= λ xs. doneIf 3 (leb (length xs) 2048) xs) ≡ done rows → length rows ≤ 2048
-    by none g = absurd (refused-done g)
-    by (some xs) g = inner xs (leb (length xs) 2048) refl g
+few-records : (catalogue : List ℕ) (records : List CatalogueRecord) → recordsOf catalogue ≡ done records → length records ≤ 4096
+unfolding recordsOf
+few-records catalogue records e = few-items 2 4096 (readCatalogue catalogue) records e
 
 catalogue-read : (catalogue : List ℕ) (records : List CatalogueRecord) → recordsOf catalogue ≡ done records → readCatalogue catalogue ≡ some records
 unfolding recordsOf
@@ -143,62 +149,74 @@ served bytes n e =
     let (a, b) = and-eq-true-iff (leb (16 * (1024 + 2 * n)) bytes) (leb bytes 16777216) .0 e in
     record { enough = leb-true (16 * (1024 + 2 * n)) bytes a; most = leb-true bytes 16777216 b }
 
-module _ {listing catalogue area : List ℕ} {n : ℕ} (m : MayWalk listing catalogue area n) where
-  module _ (ys : List ℕ) (cleared : ys ≡ replicate (length area) 0) where
-    as-long : length ys ≡ length area
-    as-long = ap length cleared ∙ length-replicate {A = ℕ} (length area) 0
+-- ---- room for rows
 
-    pub has-room : Room ys 1024 n
-    has-room =
-        let s = served (length area) n (m .fits) in
-        record { inside = λ lt. record { within = omega (arith, length-cells ys, as-long, s .enough); small = omega (arith, length-cells ys, as-long, s .most) } }
+pub no-room : (bytes : ℕ) → 16777216 < bytes → RowRoom bytes 0
+no-room bytes l = record { inside = λ lt. absurd (omega arith); most = λ n e. absurd (omega (arith, served bytes n e .most)) }
 
-    pub is-prepared : (zs cols : List ℕ) (r : Counted) → Bytes ys → Bytes zs → Loaded listing ys zs 1024 n r → cols ≡ replicate 2000 0 → Prepared catalogue zs cols n
-    is-prepared zs cols r small less loaded zeros =
+pub little-room : (bytes : ℕ) → bytes / 16 < 1024 → RowRoom bytes 0
+little-room bytes l = record { inside = λ lt. absurd (omega arith); most = λ n e. absurd (omega (arith, served bytes n e .enough)) }
+
+pub room-behind : (bytes r : ℕ) → bytes ≤ 16777216 → 1024 ≤ bytes / 16 → r ≡ (bytes / 16 - 1024) / 2 → RowRoom bytes r
+room-behind bytes r l g e = record { inside = λ lt. (omega arith, l); most = λ n s. omega (arith, served bytes n s .enough) }
+
+pub has-room : (xs : List ℕ) (r : ℕ) → RowRoom (length xs) r → Room xs 1024 r
+has-room xs r h =
+    record { inside = λ lt. record { within = omega (arith, length-cells xs, h .inside lt .0); small = omega (arith, length-cells xs, h .inside lt .1) } }
+
+-- ---- the blocks
+
+-- zeros are blocks for as many records as there are cells
+pub indexable : (catalogue bs : List ℕ) (records size : ℕ) → Catalogued catalogue records → bs ≡ replicate size 0 → records ≤ size / 16 → 0 < size / 16 → size / 16 ≤ 1048576 → Indexable catalogue bs
+indexable catalogue bs records size c zeros enough any small =
+    let long : length (cells bs) ≡ size / 16 = length-cells bs ∙ ap (λ k. k / 16) (ap length zeros ∙ length-replicate {A = ℕ} size 0) in
+    record { records = c .records; reads = c .read; size = size; zeros = zeros; few = omega (arith, long, c .size); some = omega (arith, long, any); small = omega (arith, long, small) }
+
+-- ---- the walk
+
+module _ {catalogue blocks area : List ℕ} {n : ℕ} (m : MayWalk area n) (i : Indexable catalogue blocks) where
+  pub has-counts : HasCounts area (1024 + n) n
+  has-counts = record { within = omega (arith, served (length area) n (m .fits) .enough) }
+
+  module _ (ys zs : List ℕ) (cleared : CountsCleared area ys (1024 + n) n) (indexed : Indexed catalogue blocks zs) where
+    kept : (rows : List Listed) → length rows ≡ n → HaveRows (cells area) 1024 rows → HaveRows (cells ys) 1024 rows
+    kept rows size h = rows-kept (cells area) (cells ys) 1024 rows (λ i lt. cleared .below (1024 + i) (omega (arith, size))) h
+
+    pub is-prepared : (cols : List ℕ) → cols ≡ replicate 2000 0 → Prepared zs ys cols n
+    is-prepared cols zeros =
         let s = served (length area) n (m .fits) in
-        let long : length (cells zs) ≡ length (cells ys) = length-cells zs ∙ ap (λ k. k / 16) (loaded .bytes) ∙ sym (length-cells ys) in
         record {
           rows = m .rows;
-          records = m .records;
-          listed = loaded .rows (m .rows) (m .listed) (omega (arith, m .size));
+          records = i .records;
+          listed = kept (m .rows) (m .size) (m .listed);
           size = m .size;
-          read = catalogue-read catalogue (m .records) (m .catalogued);
-          few = omega (arith, m .size, few-rows listing (m .rows) (m .listed));
-          fits = omega (arith, long, length-cells ys, as-long, s .enough);
-          small = omega (arith, long, length-cells ys, as-long, s .most);
-          zero = λ i lt.
-              count-same zs ys (1024 + n) (1024 + n) i less small
-              (record { within = omega (arith, long, length-cells ys, as-long, s .enough); small = omega (arith, long, length-cells ys, as-long, s .most) })
-              (record { within = omega (arith, length-cells ys, as-long, s .enough); small = omega (arith, length-cells ys, as-long, s .most) })
-              (loaded .above (home (1024 + n) i) (omega arith)) ∙
-              ap (λ l. count l (1024 + n) i) cleared ∙ cleared-count (length area) (1024 + n) i;
+          has = indexed .says (i .records) (i .reads);
+          few = m .few;
+          fits = omega (arith, cleared .same, length-cells area, s .enough);
+          small = omega (arith, cleared .same, length-cells area, s .most);
+          zero = cleared .zero;
           columns = zeros;
         }
 
-    -- the walk's outcome is the call's
-    module _ (zs ts cols : List ℕ) (r : Counted) (loaded : Loaded listing ys zs 1024 n r) (x : Progress) (walks : WalksRows catalogue zs ts cols n x) where
-      told : TellsWalk cols x (walkListing (standard (m .records)) (m .rows) (length area))
-      told =
-          subst (λ k. TellsWalk cols x (walkListing (standard (m .records)) (m .rows) k)) (loaded .bytes ∙ as-long)
-          (walks .says (m .rows) (m .records) (loaded .rows (m .rows) (m .listed) (omega (arith, m .size))) (m .size) (catalogue-read catalogue (m .records) (m .catalogued)))
+    module _ (ts cols : List ℕ) (x : Progress) (walks : WalksRows zs ys ts cols n x) where
+      told : (rows : List Listed) (records : List CatalogueRecord) → HaveRows (cells area) 1024 rows → length rows ≡ n → readCatalogue catalogue ≡ some records → TellsWalk cols x (walkListing (standard records) rows (length area))
+      told rows records h size read =
+          subst (λ k. TellsWalk cols x (walkListing (standard records) rows k)) (cleared .bytes) (walks .says rows records (kept rows size h) size (indexed .says records read))
 
       pub can-write : Writable cols x
-      can-write = by x told
+      can-write = by x (told (m .rows) (i .records) (m .listed) (m .size) (i .reads))
         where
-          by : (y : Progress) → TellsWalk cols y (walkListing (standard (m .records)) (m .rows) (length area)) → Writable cols y
+          by : (y : Progress) → TellsWalk cols y (walkListing (standard (i .records)) (m .rows) (length area)) → Writable cols y
           by (progress.Paused w s) t = t
           by (progress.Refused k) t = tt
           by (progress.Ended w) t = (t .end .few, walks .columns)
 
-      pub calls-walk : (answer answerThen : List ℕ) (q : Written) → WritesWalk cols x answer answerThen q → CallsInner listing catalogue area ts answer answerThen q
-      calls-walk answer answerThen q writes =
+      pub answers-walk : (answer answerThen : List ℕ) (q : Written) → WritesWalk cols x answer answerThen q → AnswersRows catalogue area ts answer answerThen n q
+      answers-walk answer answerThen q writes =
           record {
-            is = writes .says (walkListing (standard (m .records)) (m .rows) (length area)) told ∙ sym (call-walks answer);
-            bytes = walks .bytes ∙ loaded .bytes ∙ as-long;
+            says = λ rows records h size read. writes .says (walkListing (standard records) rows (length area)) (told rows records h size read);
+            bytes = walks .bytes ∙ cleared .bytes;
           }
-        where
-          call-walks : (answer : List ℕ) → call listing catalogue (length area) answer ≡ leave answer (outcomeOf (walkListing (standard (m .records)) (m .rows) (length area)) >>= λ a. printInto (length answer) a)
-          call-walks answer = call-as listing catalogue area answer (m .rows) (m .records) (m .listed) (m .catalogued) (ap (λ k. serves (length area) k) (m .size) ∙ m .fits)
 
 -- ---- what was counted
 
@@ -224,7 +242,7 @@ module _ {A : Type 0} (t : Tried (List A)) (r : Counted) (count : countedAs r �
 
 -- ---- the refusals before the walk
 
-module _ (listing catalogue area ys answer : List ℕ) (r : Counted) (loaded : Loaded listing area ys 0 0 r) where
+module _ (listing catalogue area ys answer : List ℕ) (room : ℕ) (r : Counted) (has : RowRoom (length area) room) (loaded : Loaded listing area ys 1024 room r) where
   left-refused : (k : ℕ) → leave answer (refused k) ≡ calledOf answer (written.Refused k)
   unfolding leave
   left-refused k = refl
@@ -257,12 +275,31 @@ module _ (listing catalogue area ys answer : List ℕ) (r : Counted) (loaded : L
               bytes = loaded .bytes;
             }
 
-        pub may-walk : b ≡ true → MayWalk listing catalogue ys n
-        may-walk g = record { rows = rows-read .items; records = records-read .items; listed = rows-read .is; catalogued = records-read .is; size = rows-read .size; fits = sym is ∙ g }
+        module _ (g : b ≡ true) where
+          laid : HaveRows (cells ys) 1024 (rows-read .items)
+          laid = loaded .rows (rows-read .items) (rows-read .is) (omega (arith, rows-read .size, has .most n (tested true g)))
 
-        pub calls-then : (zs answerThen : List ℕ) (q : Written) → CallsInner listing catalogue ys zs answer answerThen q → CallsInner listing catalogue area zs answer answerThen q
-        calls-then zs answerThen q inner =
-            record { is = inner .is ∙ ap (λ k. call listing catalogue k answer) (loaded .bytes); bytes = inner .bytes ∙ loaded .bytes }
+          pub may-walk : MayWalk ys n
+          may-walk = record { rows = rows-read .items; listed = laid; size = rows-read .size; few = few-counted; fits = sym is ∙ g }
+
+          pub has-records : Catalogued catalogue j
+          has-records =
+              record {
+                records = records-read .items;
+                read = catalogue-read catalogue (records-read .items) (records-read .is);
+                size = records-read .size;
+                few = omega (arith, records-read .size, few-records catalogue (records-read .items) (records-read .is));
+              }
+
+          pub calls-then : (zs answerThen : List ℕ) (q : Written) → AnswersRows catalogue ys zs answer answerThen n q → CallsInner listing catalogue area zs answer answerThen q
+          calls-then zs answerThen q inner =
+              record {
+                is =
+                    inner .says (rows-read .items) (records-read .items) laid (rows-read .size) (catalogue-read catalogue (records-read .items) (records-read .is)) ∙
+                    ap (λ k. leave answer (outcomeOf (walkListing (standard (records-read .items)) (rows-read .items) k) >>= λ a. printInto (length answer) a)) (loaded .bytes) ∙
+                    sym (call-as listing catalogue area answer (rows-read .items) (records-read .items) (rows-read .is) (records-read .is) (ap (λ k. serves (length area) k) (rows-read .size) ∙ tested true g));
+                bytes = inner .bytes ∙ loaded .bytes;
+              }
 
 -- ---- the entry
 

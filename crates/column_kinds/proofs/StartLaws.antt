@@ -12,7 +12,7 @@ use Rattle.model.specs.State.{MemoryState as Defined, fresh}
 use Rattle.model.specs.Equality.{eqState}
 use Rattle.model.specs.Results.{ResultRow, columnsOf}
 use Rattle.model.specs.Catalogue.{CatalogueRecord}
-use Rattle.model.specs.CatalogueText.{readCatalogue}
+use Rattle.root_block.specs.Blocks.{HasBlocks}
 use Rattle.model.specs.Meaning.{standard}
 use Rattle.model.specs.Offer.{rowAt}
 use Rattle.model.specs.Explain.{rowOf, numberAt, ways, units, spaceOf}
@@ -105,8 +105,8 @@ module _ (rows : List Listed) (records : List CatalogueRecord) (area : ℕ) wher
   unfolding walk
   runs-whole f e = run-all eqState (rowOf rows) (ways (standard records) rows) (units rows) 100000 100000 f (omega arith) ∙ ap (λ x. ended (walkOn eqState (rowOf rows) (ways (standard records) rows) (units rows) 100000 x)) (sym e)
 
-module _ {catalogue xs cols : List ℕ} {n : ℕ} (q : Prepared catalogue xs cols n) (b : BranchList) (is-b : b ≡ noBranches (512 + 512 + n + n)) where
-  module _ (rows : List Listed) (records : List CatalogueRecord) (listed : HaveRows (cells xs) 1024 rows) (size : length rows ≡ n) (read : readCatalogue catalogue ≡ some records) where
+module _ {blocks xs cols : List ℕ} {n : ℕ} (q : Prepared blocks xs cols n) (b : BranchList) (is-b : b ≡ noBranches (512 + 512 + n + n)) where
+  module _ (rows : List Listed) (records : List CatalogueRecord) (listed : HaveRows (cells xs) 1024 rows) (size : length rows ≡ n) (read : HasBlocks blocks records) where
     space-is : length (cells xs) - (512 + 512 + n + n) ≡ space rows records (length xs)
     unfolding spaceOf
     space-is = omega (arith, length-cells xs, size)
@@ -114,10 +114,10 @@ module _ {catalogue xs cols : List ℕ} {n : ℕ} (q : Prepared catalogue xs col
     abbrev front-is : Fronted Defined ResultRow
     front-is = onRow 0 (record { mem = fresh; past = [] }) [] (notes rows (space rows records (length xs)))
 
-    start-list : HoldsList (programOf n) (givenOf rows records) catalogue xs cols (walkWith b) [] [] (space rows records (length xs)) []
+    start-list : HoldsList (programOf n) (givenOf rows records) blocks xs cols (walkWith b) [] [] (space rows records (length xs)) []
     unfolding columnsOf
     start-list =
-        subst (λ x. HoldsList (programOf n) (givenOf rows records) catalogue xs cols (walkWith x) [] [] (space rows records (length xs)) []) (sym is-b)
+        subst (λ x. HoldsList (programOf n) (givenOf rows records) blocks xs cols (walkWith x) [] [] (space rows records (length xs)) []) (sym is-b)
         (record {
           size = size;
           few = q .few;
@@ -134,7 +134,7 @@ module _ {catalogue xs cols : List ℕ} {n : ℕ} (q : Prepared catalogue xs col
           left = space-is;
         })
 
-    start-walk : HoldsWalk (programOf n) (givenOf rows records) catalogue xs cols (walkWith b) [] (notes rows (space rows records (length xs)))
+    start-walk : HoldsWalk (programOf n) (givenOf rows records) blocks xs cols (walkWith b) [] (notes rows (space rows records (length xs)))
     start-walk =
         record {
           list = start-list;
@@ -143,10 +143,10 @@ module _ {catalogue xs cols : List ℕ} {n : ℕ} (q : Prepared catalogue xs col
         }
 
     -- the fresh start is on the first row
-    pub start-row : 0 < n → (a : IntMap) → a ≡ empty 0 → HoldsRow (programOf n) (givenOf rows records) catalogue xs cols (walkWith b) (stateWith a) front-is
+    pub start-row : 0 < n → (a : IntMap) → a ≡ empty 0 → HoldsRow (programOf n) (givenOf rows records) blocks xs cols (walkWith b) (stateWith a) front-is
     unfolding times
     start-row lt a e =
-        subst (λ x. HoldsRow (programOf n) (givenOf rows records) catalogue xs cols (walkWith b) (stateWith x) front-is) (sym e)
+        subst (λ x. HoldsRow (programOf n) (givenOf rows records) blocks xs cols (walkWith b) (stateWith x) front-is) (sym e)
         (record {
           row = 0;
           lineage = record { mem = fresh; past = [] };
@@ -178,32 +178,32 @@ module _ {catalogue xs cols : List ℕ} {n : ℕ} (q : Prepared catalogue xs col
         none-walk = same-walk (sym (runs-whole rows records (length xs) (noneLeft (notes rows (space rows records (length xs)))) (begins-off rows (space rows records (length xs)) (size ∙ z))) ∙ run-none eqState (rowOf rows) (ways (standard records) rows) (units rows) 100000 100000 (notes rows (space rows records (length xs))))
 
   -- what the run asks, and what follows for the walk
-  pub may-run : 0 < n → (a : IntMap) → a ≡ empty 0 → Running (programOf n) catalogue xs cols (walkWith b) (stateWith a)
+  pub may-run : 0 < n → (a : IntMap) → a ≡ empty 0 → Running (programOf n) blocks xs cols (walkWith b) (stateWith a)
   may-run lt a e =
       record {
         given = givenOf (q .rows) (q .records);
-        front = front-is (q .rows) (q .records) (q .listed) (q .size) (q .read);
-        holds = start-row (q .rows) (q .records) (q .listed) (q .size) (q .read) lt a e;
+        front = front-is (q .rows) (q .records) (q .listed) (q .size) (q .has);
+        holds = start-row (q .rows) (q .records) (q .listed) (q .size) (q .has) lt a e;
         width = ap length (q .columns) ∙ zeros-long;
         unclosed = refl;
       }
 
-  pub walks-none : n ≡ 0 → WalksRows catalogue xs xs cols n (progress.Ended (walkWith b))
+  pub walks-none : n ≡ 0 → WalksRows blocks xs xs cols n (progress.Ended (walkWith b))
   walks-none z = record { says = λ rows records listed size read. start-none rows records listed size read z; bytes = refl; columns = ap length (q .columns) ∙ zeros-long }
 
-  pub walks-run : 0 < n → (a : IntMap) → a ≡ empty 0 → (ys dols : List ℕ) (r : Progress) → Runs (programOf n) catalogue xs ys cols dols (walkWith b) (stateWith a) 100000 r → WalksRows catalogue xs ys dols n r
+  pub walks-run : 0 < n → (a : IntMap) → a ≡ empty 0 → (ys dols : List ℕ) (r : Progress) → Runs (programOf n) blocks xs ys cols dols (walkWith b) (stateWith a) 100000 r → WalksRows blocks xs ys dols n r
   walks-run lt a e ys dols r runs =
       record {
         says = λ rows records listed size read.
             whole r rows records
-            (subst (TellsRun (programOf n) (givenOf rows records) catalogue ys dols r)
+            (subst (TellsRun (programOf n) (givenOf rows records) blocks ys dols r)
             (ap (λ k. theRun (programOf k) (givenOf rows records) 100000 100000 (front-is rows records listed size read)) (sym size) ∙ runs-whole rows records (length xs) (front-is rows records listed size read) (begins-on rows (space rows records (length xs)) (omega (arith, size, lt))))
             (runs .says (givenOf rows records) (front-is rows records listed size read) (start-row rows records listed size read lt a e) refl));
         bytes = runs .bytes;
         columns = runs .columns ∙ ap length (q .columns) ∙ zeros-long;
       }
     where
-      whole : (x : Progress) (rows : List Listed) (records : List CatalogueRecord) → TellsRun (programOf n) (givenOf rows records) catalogue ys dols x (ended (walkListing (standard records) rows (length xs))) → TellsWalk dols x (walkListing (standard records) rows (length xs))
+      whole : (x : Progress) (rows : List Listed) (records : List CatalogueRecord) → TellsRun (programOf n) (givenOf rows records) blocks ys dols x (ended (walkListing (standard records) rows (length xs))) → TellsWalk dols x (walkListing (standard records) rows (length xs))
       whole (progress.Paused w s) rows records t = paused-ended (t .is)
       whole (progress.Refused k) rows records t = record { notes = t .notes; is = same-walk (t .is) }
       whole (progress.Ended w) rows records t = record { notes = t .notes; is = same-walk (t .is); end = t .end }

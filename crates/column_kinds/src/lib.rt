@@ -2,7 +2,8 @@
 ghost use mathlib.Core.Path.{_≡_};
 ghost use Prim.Native.Nat.{_≤_};
 ghost use Rattle.column_kinds.specs.Calls.{Calls};
-ghost use Rattle.column_kinds.specs.Inner.{serves, Prepared, WalksRows, Writable, WritesWalk, MayWalk, CallsInner};
+ghost use Rattle.column_kinds.specs.Inner.{serves, RowRoom, Prepared, WalksRows, Writable, WritesWalk, MayWalk, Catalogued, AnswersRows, CallsInner};
+ghost use Rattle.root_block.specs.Build.{Indexable};
 use answer::Written;
 use branches::BranchList;
 use intmap::IntMap;
@@ -25,10 +26,24 @@ fn serves(bytes: usize, rows: usize) -> bool
     16 * (2 * LIMIT + 2 * rows) <= bytes && bytes <= 16777216
 }
 
+// How many rows an area of so many bytes has room for; none if it is larger than may be lent.
+fn row_room(bytes: usize) -> usize
+    ensures { λ r. ⌜ RowRoom bytes r ⌝ }
+{
+    if 16777216 < bytes {
+        return 0;
+    }
+    let cells = bytes / 16;
+    if cells < 2 * LIMIT {
+        return 0;
+    }
+    (cells - 2 * LIMIT) / 2
+}
+
 // The walk over n rows that are in the area, from the fresh start.
-fn walk_rows(area: &mut [u8], columns: &mut [u8], catalogue: &[u8], n: usize) -> Progress
-    requires { ⌜ Prepared (now catalogue) (now area) (now columns) n ⌝ }
-    ensures { λ r. ⌜ WalksRows (now (catalogue .entry)) (now (area .entry)) (now (area .exit)) (now (columns .exit)) n r ⌝ }
+fn walk_rows(area: &mut [u8], columns: &mut [u8], blocks: &[u8], n: usize) -> Progress
+    requires { ⌜ Prepared (now blocks) (now area) (now columns) n ⌝ }
+    ensures { λ r. ⌜ WalksRows (now (blocks .entry)) (now (area .entry)) (now (area .exit)) (now (columns .exit)) n r ⌝ }
 {
     let branches = BranchList::new(LIMIT + LIMIT + n + n);
     let w = Walk {
@@ -52,7 +67,7 @@ fn walk_rows(area: &mut [u8], columns: &mut [u8], catalogue: &[u8], n: usize) ->
         limit: LIMIT,
         size: n,
     };
-    walk::run(w, s, area, columns, catalogue, p, GAS)
+    walk::run(w, s, area, columns, blocks, p, GAS)
 }
 
 // The answer of a walk that was answered, or the refusal.
@@ -75,38 +90,58 @@ fn write_walk(answer: &mut [u8], columns: &[u8], x: Progress) -> Written
     }
 }
 
-// The walk over a listing of n rows, in an area that serves so many, and its answer. The rows are read again, into the area.
+// The walk over n rows that are in the area, and its answer. The catalogue's columns go into the blocks first.
 fn answer_rows(
-    listing: &[u8],
     catalogue: &[u8],
+    blocks: &mut [u8],
     work: &mut [u8],
     answer: &mut [u8],
     n: usize,
 ) -> Written
-    requires { ⌜ MayWalk (now listing) (now catalogue) (now work) n ⌝ }
-    ensures { λ r. ⌜ CallsInner (now (listing .entry)) (now (catalogue .entry)) (now (work .entry)) (now (work .exit)) (now (answer .entry)) (now (answer .exit)) r ⌝ }
+    requires { ⌜ MayWalk (now work) n × Indexable (now catalogue) (now blocks) ⌝ }
+    ensures { λ r. ⌜ AnswersRows (now (catalogue .entry)) (now (work .entry)) (now (work .exit)) (now (answer .entry)) (now (answer .exit)) n r ⌝ }
 {
-    area::clear(work);
-    listing::read_listing(listing, work, 2 * LIMIT, n);
+    area::clear_counts(work, 2 * LIMIT + n, n);
+    root_block::root_block_columns(catalogue, blocks);
     let mut columns = [0u8; 2000];
-    let x = walk_rows(work, &mut columns, catalogue, n);
+    let x = walk_rows(work, &mut columns, blocks, n);
     write_walk(answer, &columns, x)
 }
 
-// The refusals in their order, and then the walk.
+// The same, with as many blocks as so many records may take: clearing those for the most would be the larger part of a short call.
+fn answer_with(
+    catalogue: &[u8],
+    records: usize,
+    work: &mut [u8],
+    answer: &mut [u8],
+    n: usize,
+) -> Written
+    requires { ⌜ MayWalk (now work) n × Catalogued (now catalogue) records ⌝ }
+    ensures { λ r. ⌜ AnswersRows (now (catalogue .entry)) (now (work .entry)) (now (work .exit)) (now (answer .entry)) (now (answer .exit)) n r ⌝ }
+{
+    if records <= 256 {
+        let mut few = [0u8; 4096];
+        return answer_rows(catalogue, &mut few, work, answer, n);
+    }
+    let mut many = [0u8; 65536];
+    answer_rows(catalogue, &mut many, work, answer, n)
+}
+
+// The refusals in their order, and then the walk. The rows are laid down in the area while they are read, as far as there is room.
 fn call(listing: &[u8], catalogue: &[u8], area: &mut [u8], answer: &mut [u8]) -> Written
     ensures { λ r. ⌜ CallsInner (now (listing .entry)) (now (catalogue .entry)) (now (area .entry)) (now (area .exit)) (now (answer .entry)) (now (answer .exit)) r ⌝ }
 {
-    let rows = listing::read_listing(listing, area, 0, 0);
+    let room = row_room(area.len());
+    let rows = listing::read_listing(listing, area, 2 * LIMIT, room);
     match rows {
         Counted::Refused(k) => Written::Refused(k),
         Counted::Count(n) => {
             let records = catalogue::count_records(catalogue);
             match records {
                 Counted::Refused(k) => Written::Refused(k),
-                Counted::Count(_) => {
+                Counted::Count(k) => {
                     if serves(area.len(), n) {
-                        return answer_rows(listing, catalogue, area, answer, n);
+                        return answer_with(catalogue, k, area, answer, n);
                     }
                     Written::Refused(4)
                 }

@@ -203,7 +203,7 @@ onward g t n i j =
     let e : n ≡ suc n - 1 = omega arith in
     ap (λ k. t >>= g n k (sucℤ (intOf j))) (int-suc i) ∙ ap (λ k. t >>= g n (intOf (i + 1)) k) (int-suc j) ∙ ap (λ k. t >>= g k (intOf (i + 1)) (intOf (j + 1))) e
 
-regroup : {A B C : Type 0} (t : Tried A) (f : A → Tried B) (g : B → Tried C) → (t >>= λ v. f v >>= g) ≡ t >>= f >>= g
+pub regroup : {A B C : Type 0} (t : Tried A) (f : A → Tried B) (g : B → Tried C) → (t >>= λ v. f v >>= g) ≡ t >>= f >>= g
 regroup (refused n) f g = refl
 regroup (done v) f g = refl
 
@@ -223,7 +223,7 @@ module _ (limit : ℕ) where
   carries-end moves (suc n) i j le m = absurd (omega arith)
 
   -- the same turns, said otherwise
-  carries-same : (moves : Bool) (n i j k p q : ℕ) → n ≡ k → i ≡ p → j ≡ q → (m : MemoryState) → carryMany limit moves n (intOf i) (intOf j) m ≡ carryMany limit moves k (intOf p) (intOf q) m
+  pub carries-same : (moves : Bool) (n i j k p q : ℕ) → n ≡ k → i ≡ p → j ≡ q → (m : MemoryState) → carryMany limit moves n (intOf i) (intOf j) m ≡ carryMany limit moves k (intOf p) (intOf q) m
   carries-same moves n i j k p q ne ie je m =
       ap (λ z. carryMany limit moves z (intOf i) (intOf j) m) ne ∙ ap (λ z. carryMany limit moves k (intOf z) (intOf j) m) ie ∙ ap (λ z. carryMany limit moves k (intOf p) (intOf z) m) je
 

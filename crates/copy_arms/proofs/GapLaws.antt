@@ -194,6 +194,10 @@ module _ (limit bound : ℕ) (cs : List Cell) (a : IntMap) (m : MemoryState) (h 
           let le = ltb-false k r e in
           (λ few. stops le (ltb r 65536) refl ∙ omega (arith, next .from), λ many. absurd (omega arith))
 
+pub gap-zero : (cs : List Cell) (a : IntMap) (i n : ℕ) → n ≡ 0 → Gap cs a i n 0
+unfolding gap
+gap-zero cs a i n e = record { most = omega arith; says = λ limit bound m h. sym (ap (λ k. gap k (intOf i) m) e) }
+
 module _ (cs : List Cell) (a : IntMap) (i n : ℕ) (x : Index) (judged : Judges i x) where
   pub gap-bad : (t : ℕ) → x ≡ index-is.Bad t → Gap cs a i n 0
   gap-bad t e = record { most = omega arith; says = λ limit bound m h. sym (go n m) }

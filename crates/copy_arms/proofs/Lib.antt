@@ -1,2 +1,5 @@
 pub mod CopyLaws
 pub mod GapLaws
+pub mod PlaceLaws
+pub mod CellLaws
+pub mod TurnLaws

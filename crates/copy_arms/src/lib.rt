@@ -1,18 +1,20 @@
 // The arms of `explain` that copy or move registers. Translated from sqlx-sqlite 0.9.0, src/connection/explain.rs: OP_SCOPY, OP_INT_COPY,
 // OP_NOT, OP_COPY, OP_MOVE.
 ghost use mathlib.Core.Path.{_≡_};
+ghost use mathlib.Core.Bool.{true};
 ghost use Prim.Native.Nat.{_+_, _-_, _<_, _≤_};
 ghost use Rattle.model.specs.RegisterArms.{copyTo};
 ghost use Rattle.model.specs.Operation.{opCopyOne, opCopy, opMove};
 ghost use Rattle.area.specs.Cells.{cells};
 ghost use Rattle.intmap.specs.Map.{levels, IsMap};
 ghost use Rattle.intmap.specs.Runs.{size};
-ghost use Rattle.intmap.specs.Signed.{intOf};
+ghost use Rattle.intmap.specs.Signed.{offset, intOf};
 ghost use Rattle.rows.specs.Rows.{Fits};
 ghost use Rattle.state.specs.Leads.{Current, Leads};
 ghost use Rattle.state.specs.Arms.{RegisterArm};
 ghost use Rattle.copy_arms.specs.Copies.{StoresFrom, carryOne, carryMany};
 ghost use Rattle.copy_arms.specs.Gaps.{Next, Gap};
+ghost use Rattle.copy_arms.specs.InPlace.{Alone, FoundAt, Leading, CarriesCell, CarriesRun};
 use intmap::Index;
 use intmap::IntMap;
 use intmap::Slot;
@@ -102,6 +104,9 @@ fn absent(map: IntMap, area: &[u8], i: u64, n: u64) -> u64
     requires { ⌜ IsMap (cells (now area)) map ⌝ }
     ensures { λ r. ⌜ Gap (cells (now (area .entry))) map i n r ⌝ }
 {
+    if n == 0 {
+        return 0;
+    }
     let x = intmap::judge_index(i);
     match x {
         Index::Bad(_) => 0,
@@ -115,8 +120,97 @@ fn absent(map: IntMap, area: &[u8], i: u64, n: u64) -> u64
     }
 }
 
-// Carries n registers from i on to those from j on, in their order. After each one it goes on to the next that is present, and that one stays
-// present, or to the first index above 65,535, which is refused: the turns are at most two more than the entries that the limit allows.
+// Whether the cell at `at` is register k, and no record.
+fn is_alone(map: IntMap, area: &[u8], at: usize, k: u64) -> bool
+    requires { ⌜ IsMap (cells (now area)) map ⌝ }
+    ensures { λ r. ⌜ (r ≡ true → Alone (cells (now (area .entry))) map at k) ⌝ }
+{
+    if map.base + map.used <= at {
+        return false;
+    }
+    if 65535 < k {
+        return false;
+    }
+    let c = area::cell_at(area, at);
+    if intmap::key_of(c) != k {
+        return false;
+    }
+    intmap::tag_of(c) != intmap::RECORD
+}
+
+// Carries register k, the cell at p, to register l, the cell at q, which keeps its key.
+fn carry_cell(map: IntMap, area: &mut [u8], p: usize, q: usize, k: u64, l: u64, moves: bool)
+    requires { ⌜ IsMap (cells (now area)) map × Alone (cells (now area)) map p k × FoundAt (cells (now area)) map p k × Alone (cells (now area)) map q l × FoundAt (cells (now area)) map q l ⌝ }
+    ensures { λ _. ⌜ CarriesCell (cells (now (area .entry))) (cells (now (area .exit))) map moves k l ⌝ }
+{
+    let c = area::cell_at(area, p);
+    area::put_cell(area, q, intmap::with_key(c, l));
+    if !moves {
+        return;
+    }
+    let null = state::single(DataType::Null, state::NULLABLE);
+    area::put_cell(area, p, intmap::with_key(null, k));
+}
+
+// Carries registers from k on, which begin at p, to those from l on, which begin at q, as long as each is one cell where the one before it ends, and
+// at most n. Gives how many.
+fn carry_cells(
+    map: IntMap,
+    area: &mut [u8],
+    p: usize,
+    q: usize,
+    k: u64,
+    l: u64,
+    n: u64,
+    moves: bool,
+) -> u64
+    requires { ⌜ IsMap (cells (now area)) map × Leading (cells (now area)) map p k × Leading (cells (now area)) map q l × (k ≤ 65535) × (l ≤ 65535) ⌝ }
+    ensures { λ r. ⌜ CarriesRun (cells (now (area .entry))) (cells (now (area .exit))) map moves (offset + k) (offset + l) n r ⌝ }
+{
+    let mut done = 0;
+    while done < n {
+        let at = p + done as usize;
+        let to = q + done as usize;
+        if !is_alone(map, area, at, k + done) {
+            return done;
+        }
+        if !is_alone(map, area, to, l + done) {
+            return done;
+        }
+        carry_cell(map, area, at, to, k + done, l + done, moves);
+        done += 1;
+    }
+    done
+}
+
+// Carries registers from i on to those from j on where they stand, as long as each is there and one cell, and at most n. Gives how many. The two
+// searches are all, however many it carries.
+fn carry_run(map: IntMap, area: &mut [u8], i: u64, j: u64, n: u64, moves: bool) -> u64
+    requires { ⌜ IsMap (cells (now area)) map ⌝ }
+    ensures { λ r. ⌜ CarriesRun (cells (now (area .entry))) (cells (now (area .exit))) map moves i j n r ⌝ }
+{
+    let x = intmap::judge_index(i);
+    let Index::At(k) = x else {
+        return 0;
+    };
+    let y = intmap::judge_index(j);
+    let Index::At(l) = y else {
+        return 0;
+    };
+    let target = map.find(area, intmap::class_key(state::REGISTERS, l));
+    if !target.present {
+        return 0;
+    }
+    let source = map.find(area, intmap::class_key(state::REGISTERS, k));
+    if !source.present {
+        return 0;
+    }
+    carry_cells(map, area, source.at, target.at, k, l, n, moves)
+}
+
+// Carries n registers from i on to those from j on, in their order: in a turn those that can be where they stand, and one by a store. Then it goes on
+// to the next that is present, and that one stays present, or to the first index above 65,535, which is refused: the turns are at most two more
+// than the entries that the limit allows.
 fn carry_many(
     map: IntMap,
     area: &mut [u8],
@@ -130,11 +224,13 @@ fn carry_many(
     ensures { λ r. ⌜ Leads limit (cells (now (area .entry))) (cells (now (area .exit))) map r (carryMany limit moves n (intOf i) (intOf j)) ⌝ }
 {
     let mut m = map;
-    let mut from = i;
-    let mut to = j;
-    let mut left = n;
-    while 0 < left {
-        let x = carry_register(m, area, from, to, moves, limit);
+    let mut done = 0;
+    while done < n {
+        done += carry_run(m, area, i + done, j + done, n - done, moves);
+        if done == n {
+            return Stored::Done(m);
+        }
+        let x = carry_register(m, area, i + done, j + done, moves, limit);
         match x {
             Stored::Refused(k) => {
                 return Stored::Refused(k);
@@ -143,10 +239,7 @@ fn carry_many(
                 m = b;
             }
         }
-        let step = 1 + absent(m, area, from + 1, left - 1);
-        from += step;
-        to += step;
-        left -= step;
+        done += 1 + absent(m, area, i + done + 1, n - done - 1);
     }
     Stored::Done(m)
 }

@@ -74,8 +74,8 @@ told-as limit bound ds repeat (step.Ways b w) o m told =
 operation-is : {k : ℕ} {x : Row} {l : Listed} → k ≡ x .op → Judged l x → operationAt k ≡ operationOf (l .op)
 operation-is e j = ap operationAt e ∙ j .op .value
 
-module _ {limit from n : ℕ} {cs ds : List Cell} {catalogue : List ℕ} {s : MemoryState} {x : Row} {again : Bool} where
-  pub number-handles : {op : ℕ} (r : Step) → op ≡ x .op → NumberArm limit from n cs ds catalogue s x op r → Handles limit from n cs ds catalogue s x again (asHandling false r)
+module _ {limit from n : ℕ} {cs ds : List Cell} {blocks : List ℕ} {s : MemoryState} {x : Row} {again : Bool} where
+  pub number-handles : {op : ℕ} (r : Step) → op ≡ x .op → NumberArm limit from n cs ds blocks s x op r → Handles limit from n cs ds blocks s x again (asHandling false r)
   number-handles r e told =
       record {
         says = λ rows records l have long cat j bound m le top h.
@@ -85,7 +85,7 @@ module _ {limit from n : ℕ} {cs ds : List Cell} {catalogue : List ℕ} {s : Me
         frame = told .frame;
       }
 
-  pub if-pos-handles : (r : Step) → 15 ≡ x .op → IfPosArm limit cs ds s x again r → Handles limit from n cs ds catalogue s x again (asHandling again r)
+  pub if-pos-handles : (r : Step) → 15 ≡ x .op → IfPosArm limit cs ds s x again r → Handles limit from n cs ds blocks s x again (asHandling again r)
   unfolding arm operationAt arms
   if-pos-handles r e told =
       record {
@@ -98,8 +98,8 @@ module _ {limit from n : ℕ} {cs ds : List Cell} {catalogue : List ℕ} {s : Me
 
 -- ---- the arms that write nothing
 
-module _ {limit from n : ℕ} {cs : List Cell} {catalogue : List ℕ} {s : MemoryState} {x : Row} {again : Bool} (current : Current limit cs (s .map)) where
-  pub three-handles : 13 ≡ x .op → Handles limit from n cs cs catalogue s x again (handling.Three (at (x .p1) (s .map)) (at (x .p2) (s .map)) (at (x .p3) (s .map)) (at (s .row + 1) (s .map)))
+module _ {limit from n : ℕ} {cs : List Cell} {blocks : List ℕ} {s : MemoryState} {x : Row} {again : Bool} (current : Current limit cs (s .map)) where
+  pub three-handles : 13 ≡ x .op → Handles limit from n cs cs blocks s x again (handling.Three (at (x .p1) (s .map)) (at (x .p2) (s .map)) (at (x .p3) (s .map)) (at (s .row + 1) (s .map)))
   unfolding arm operationAt arms jumpArm
   three-handles e =
       record {
@@ -131,8 +131,8 @@ result-is : {x : Row} {l : Listed} → 42 ≤ x .op → Judged l x → opResultR
 unfolding operationAt arms
 result-is last j = operation-is {k = 42} (omega (arith, last, j .op .below)) j
 
-module _ {limit from n : ℕ} {cs : List Cell} {catalogue : List ℕ} {s : MemoryState} {x : Row} {again : Bool} (last : 42 ≤ x .op) where
-  pub result-refused : (k : ℕ) → JudgesRow x (columns.Refused k) → Handles limit from n cs cs catalogue s x again (handling.Refused k)
+module _ {limit from n : ℕ} {cs : List Cell} {blocks : List ℕ} {s : MemoryState} {x : Row} {again : Bool} (last : 42 ≤ x .op) where
+  pub result-refused : (k : ℕ) → JudgesRow x (columns.Refused k) → Handles limit from n cs cs blocks s x again (handling.Refused k)
   unfolding arm
   result-refused k told =
       record {
@@ -142,7 +142,7 @@ module _ {limit from n : ℕ} {cs : List Cell} {catalogue : List ℕ} {s : Memor
         frame = unchanged cs _ _;
       }
 
-  pub result-handles : (first k : ℕ) → Current limit cs (s .map) → JudgesRow x (columns.Registers first k) → Handles limit from n cs cs catalogue s x again (handling.Result (at (s .row + 1) (s .map)) first k)
+  pub result-handles : (first k : ℕ) → Current limit cs (s .map) → JudgesRow x (columns.Registers first k) → Handles limit from n cs cs blocks s x again (handling.Result (at (s .row + 1) (s .map)) first k)
   unfolding arm
   result-handles first k current told =
       record {

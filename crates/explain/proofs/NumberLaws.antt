@@ -2,7 +2,6 @@
 -- Assumes nothing.
 use mathlib.Core.Path.{_≡_, refl, sym, ap, subst, _∙_}
 use mathlib.Core.Bool.{Bool}
-use mathlib.Core.Option.{some}
 use mathlib.Core.List.{List, [], _∷_}
 use Prim.Native.Nat.{ℕ, zero, suc, _+_, _-_, _<_, _≤_}
 use native.Mathlib.Omega.{arith}
@@ -11,7 +10,7 @@ use Rattle.model.specs.Walk.{Tried}
 use Rattle.model.specs.Row.{Row as Listed}
 use Rattle.model.specs.State.{MemoryState as Defined}
 use Rattle.model.specs.Catalogue.{CatalogueRecord}
-use Rattle.model.specs.CatalogueText.{readCatalogue}
+use Rattle.root_block.specs.Blocks.{HasBlocks, IsBlocks}
 use Rattle.model.specs.Operation.{JumpOperation, RegisterOperation, CursorOperation, jumps, registers, cursors, noArm, opConstant, opOpenRead}
 use Rattle.model.specs.Offer.{turns}
 use Rattle.model.specs.RegisterArms.{registerArm}
@@ -39,7 +38,7 @@ use Rattle.jump_arms.proofs.StoreSteps.{SameRow, leaves-after}
 use Rattle.coroutine_arms.specs.Arms.{RowsArm}
 use Rattle.read_arm.specs.Gathers.{ReadsTable}
 use Rattle.explain.specs.Handles.{meaningOf}
-use Rattle.explain.specs.Numbers.{IsRow, IsCatalogue, NumberArm}
+use Rattle.explain.specs.Numbers.{IsRow, NumberArm}
 use Rattle.explain.proofs.RowKept.{register-row, cursor-row}
 
 -- ---- the last number of a `match`
@@ -75,9 +74,9 @@ constant-number {op} low high e =
 -- ---- the arms that name the next row
 
 module _ {limit from n : ℕ} {cs ds : List Cell} {s : MemoryState} {x : Row} {op : ℕ} where
-  pub rows-number : {o : JumpOperation} {r : Step} → operationAt op ≡ jumps o → RowsArm limit cs ds s x from n o r → (catalogue : List ℕ) → NumberArm limit from n cs ds catalogue s x op r
+  pub rows-number : {o : JumpOperation} {r : Step} → operationAt op ≡ jumps o → RowsArm limit cs ds s x from n o r → (blocks : List ℕ) → NumberArm limit from n cs ds blocks s x op r
   unfolding arm
-  rows-number {r = r} is told catalogue =
+  rows-number {r = r} is told blocks =
       record {
         says = λ again rows records l have long cat j bound m le h.
             subst (λ w. TellsStep limit bound ds r (arm (meaningOf limit records) rows again m l w)) (sym is) (told .says rows have long l j bound m le h);
@@ -85,7 +84,7 @@ module _ {limit from n : ℕ} {cs ds : List Cell} {s : MemoryState} {x : Row} {o
         frame = told .frame;
       }
 
-  pub jump-number : {o : JumpOperation} {r : Step} → operationAt op ≡ jumps o → JumpArm limit cs ds s x o r → (catalogue : List ℕ) → NumberArm limit from n cs ds catalogue s x op r
+  pub jump-number : {o : JumpOperation} {r : Step} → operationAt op ≡ jumps o → JumpArm limit cs ds s x o r → (blocks : List ℕ) → NumberArm limit from n cs ds blocks s x op r
   jump-number is told =
       rows-number is (record { says = λ rows have long l j bound m le h. told .says rows l j bound m le h; leaves = told .leaves; frame = told .frame })
 
@@ -106,29 +105,29 @@ module _
     {x : Row}
     {op : ℕ}
     {r : Stored}
-    {catalogue : List ℕ}
+    {blocks : List ℕ}
     (row : IsRow x)
-    (whole : IsCatalogue catalogue)
+    (whole : IsBlocks blocks)
     (f : Listed → List CatalogueRecord → Defined → Tried Defined)
-    (leads : (l : Listed) → Judged l x → (records : List CatalogueRecord) → readCatalogue catalogue ≡ some records → Leads limit cs ds (s .map) r (f l records))
+    (leads : (l : Listed) → Judged l x → (records : List CatalogueRecord) → HasBlocks blocks records → Leads limit cs ds (s .map) r (f l records))
     (keeps : (l : Listed) (records : List CatalogueRecord) (m : Defined) → Kept (SameRow m) (f l records m))
     (is : (again : Bool) (rows : List Listed) (records : List CatalogueRecord) (l : Listed) (m : Defined) → intOf (s .row) ≡ m .programI → arm (meaningOf limit records) rows again m l (operationAt op) ≡ fallsThrough (f l records m))
   where
-    access-number : NumberArm limit from n cs ds catalogue s x op (stepAfter (s .row + 1) r)
+    access-number : NumberArm limit from n cs ds blocks s x op (stepAfter (s .row + 1) r)
     access-number =
         record {
           says = λ again rows records l have long cat j bound m le h.
               subst (TellsStep limit bound ds (stepAfter (s .row + 1) r)) (sym (is again rows records l m (h .row)))
               (falls limit bound ds r (s .row) m _ (leads l j records cat .says bound m le (h .map)) (keeps l records m) (h .row));
-          leaves = leaves-after s r (s .row + 1) (leads (row .listed) (row .judged) (whole .records) (whole .read));
-          frame = leads (row .listed) (row .judged) (whole .records) (whole .read) .frame;
+          leaves = leaves-after s r (s .row + 1) (leads (row .listed) (row .judged) (whole .records) (whole .has));
+          frame = leads (row .listed) (row .judged) (whole .records) (whole .has) .frame;
         }
 
 standard : (limit : ℕ) (records : List CatalogueRecord) → Standard limit (meaningOf limit records)
 standard limit records = record { cells = refl; functions = λ t. refl }
 
-module _ {limit from n : ℕ} {cs ds : List Cell} {s : MemoryState} {x : Row} {op : ℕ} {r : Stored} {catalogue : List ℕ} (row : IsRow x) (whole : IsCatalogue catalogue) where
-  pub register-number : {o : RegisterOperation} → operationAt op ≡ registers o → RegisterArm limit cs ds (s .map) x o r → NumberArm limit from n cs ds catalogue s x op (stepAfter (s .row + 1) r)
+module _ {limit from n : ℕ} {cs ds : List Cell} {s : MemoryState} {x : Row} {op : ℕ} {r : Stored} {blocks : List ℕ} (row : IsRow x) (whole : IsBlocks blocks) where
+  pub register-number : {o : RegisterOperation} → operationAt op ≡ registers o → RegisterArm limit cs ds (s .map) x o r → NumberArm limit from n cs ds blocks s x op (stepAfter (s .row + 1) r)
   unfolding arm
   register-number {o} is told =
       access-number row whole (λ l records m. registerArm (meaningOf limit records) l m o) (λ l j records cat. told .leads (meaningOf limit records) l (standard limit records) j)
@@ -136,7 +135,7 @@ module _ {limit from n : ℕ} {cs ds : List Cell} {s : MemoryState} {x : Row} {o
       (λ again rows records l m e. ap (arm (meaningOf limit records) rows again m l) is)
 
   -- the row's number is told by its word
-  cursor-access : {o : CursorOperation} → operationAt op ≡ cursors o → ((l : Listed) → Judged l x → (records : List CatalogueRecord) → readCatalogue catalogue ≡ some records → Leads limit cs ds (s .map) r (λ m. cursorArm (meaningOf limit records) (s .row - offset) l m o)) → NumberArm limit from n cs ds catalogue s x op (stepAfter (s .row + 1) r)
+  cursor-access : {o : CursorOperation} → operationAt op ≡ cursors o → ((l : Listed) → Judged l x → (records : List CatalogueRecord) → HasBlocks blocks records → Leads limit cs ds (s .map) r (λ m. cursorArm (meaningOf limit records) (s .row - offset) l m o)) → NumberArm limit from n cs ds blocks s x op (stepAfter (s .row + 1) r)
   unfolding arm
   cursor-access {o} is told =
       access-number row whole (λ l records m. cursorArm (meaningOf limit records) (s .row - offset) l m o) told
@@ -145,15 +144,15 @@ module _ {limit from n : ℕ} {cs ds : List Cell} {s : MemoryState} {x : Row} {o
       ap (arm (meaningOf limit records) rows again m l) is
       ∙ ap (λ k. fallsThrough (cursorArm (meaningOf limit records) k l m o)) (sym (ap turns e) ∙ int-turns (s .row)))
 
-  pub cursor-number : {o : CursorOperation} → operationAt op ≡ cursors o → CursorArm limit cs ds (s .map) (s .row - offset) x o r → NumberArm limit from n cs ds catalogue s x op (stepAfter (s .row + 1) r)
+  pub cursor-number : {o : CursorOperation} → operationAt op ≡ cursors o → CursorArm limit cs ds (s .map) (s .row - offset) x o r → NumberArm limit from n cs ds blocks s x op (stepAfter (s .row + 1) r)
   cursor-number {o} is told = cursor-access {o = o} is (λ l j records cat. told .leads (meaningOf limit records) l (standard limit records) j)
 
-  pub read-number : operationAt op ≡ cursors opOpenRead → ReadsTable limit cs ds (s .map) catalogue (s .row - offset) x r → NumberArm limit from n cs ds catalogue s x op (stepAfter (s .row + 1) r)
+  pub read-number : operationAt op ≡ cursors opOpenRead → ReadsTable limit cs ds (s .map) blocks (s .row - offset) x r → NumberArm limit from n cs ds blocks s x op (stepAfter (s .row + 1) r)
   read-number is told =
       cursor-access {o = opOpenRead} is (λ l j records cat. told .leads (meaningOf limit records) records l (standard limit records) cat (λ db page. refl) j)
 
 -- no arm
-pub none-number : {limit from n : ℕ} {cs : List Cell} {s : MemoryState} {x : Row} {op : ℕ} {catalogue : List ℕ} → operationAt op ≡ noArm → Current limit cs (s .map) → NumberArm limit from n cs cs catalogue s x op (stepAfter (s .row + 1) (stored.Done (s .map)))
+pub none-number : {limit from n : ℕ} {cs : List Cell} {s : MemoryState} {x : Row} {op : ℕ} {blocks : List ℕ} → operationAt op ≡ noArm → Current limit cs (s .map) → NumberArm limit from n cs cs blocks s x op (stepAfter (s .row + 1) (stored.Done (s .map)))
 unfolding arm
 none-number {limit} {cs = cs} {s = s} is current =
     record {

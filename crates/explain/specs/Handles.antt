@@ -13,7 +13,7 @@ use Rattle.model.specs.Row.{Row as Listed}
 use Rattle.model.specs.State.{ColumnType, MemoryState as Defined}
 use Rattle.model.specs.Access.{next, readColumns}
 use Rattle.model.specs.Catalogue.{CatalogueRecord, columnsAt}
-use Rattle.model.specs.CatalogueText.{readCatalogue}
+use Rattle.root_block.specs.Blocks.{HasBlocks}
 use Rattle.model.specs.Functions.{builtIn, functionIn}
 use Rattle.model.specs.Meaning.{Meaning}
 use Rattle.model.specs.Results.{resultColumns}
@@ -78,7 +78,7 @@ LeavesHandling limit ds s (handling.Three a b c w) =
 LeavesHandling limit ds s (handling.Result b first n) = Lies limit ds (s .map .base) b × (first + n ≤ 65536) × (n ≤ 2000)
 
 -- the listing's n rows are in the cells from `from` on
-pub record Handles (limit from n : ℕ) (cs ds : List Cell) (catalogue : List ℕ) (s : MemoryState) (x : Row) (again : Bool) (r : Handling) : Type 0 where
-  pub says : (rows : List Listed) (records : List CatalogueRecord) (l : Listed) → HaveRows cs from rows → length rows ≡ n → readCatalogue catalogue ≡ some records → Judged l x → (bound : ℕ) (m : Defined) → operands ≤ bound → bound + 1 ≤ largest → HoldsState limit bound cs s m → TellsHandling limit (bound + 1) ds m r (arm (meaningOf limit records) rows again m l (operationOf (l .op)))
+pub record Handles (limit from n : ℕ) (cs ds : List Cell) (blocks : List ℕ) (s : MemoryState) (x : Row) (again : Bool) (r : Handling) : Type 0 where
+  pub says : (rows : List Listed) (records : List CatalogueRecord) (l : Listed) → HaveRows cs from rows → length rows ≡ n → HasBlocks blocks records → Judged l x → (bound : ℕ) (m : Defined) → operands ≤ bound → bound + 1 ≤ largest → HoldsState limit bound cs s m → TellsHandling limit (bound + 1) ds m r (arm (meaningOf limit records) rows again m l (operationOf (l .op)))
   pub leaves : LeavesHandling limit ds s r
   pub frame : Frame cs ds (s .map .base) (limit + limit)

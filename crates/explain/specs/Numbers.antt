@@ -1,15 +1,14 @@
 -- The arm of an operation's number, as far as it offers at most one branch and does not count a repeat: its step is what the definition's arm
--- offers. And a step as what handling a row gives, and what is asked of a row and of a catalogue: that they stand for something. Assumes nothing.
+-- offers. And a step as what handling a row gives, and what is asked of a row: that it stands for one. Assumes nothing.
 use mathlib.Core.Path.{_≡_}
 use mathlib.Core.Bool.{Bool}
-use mathlib.Core.Option.{some}
 use mathlib.Core.List.{List}
 use Prim.Native.Nat.{ℕ, _+_, _≤_}
 use lib.ListN.{length}
 use Rattle.model.specs.Row.{Row as Listed}
 use Rattle.model.specs.State.{MemoryState as Defined}
 use Rattle.model.specs.Catalogue.{CatalogueRecord}
-use Rattle.model.specs.CatalogueText.{readCatalogue}
+use Rattle.root_block.specs.Blocks.{HasBlocks}
 use Rattle.model.specs.Explain.{arm}
 use Rattle.area.specs.declared.Cell.{Cell}
 use Rattle.intmap.specs.Map.{Frame}
@@ -30,14 +29,9 @@ pub record IsRow (x : Row) : Type 0 where
   pub listed : Listed
   pub judged : Judged listed x
 
--- the text is a catalogue's
-pub record IsCatalogue (text : List ℕ) : Type 0 where
-  pub records : List CatalogueRecord
-  pub read : readCatalogue text ≡ some records
-
--- as `JumpArm`, of the number `op`, and of the listing and the catalogue at hand
-pub record NumberArm (limit from n : ℕ) (cs ds : List Cell) (catalogue : List ℕ) (s : MemoryState) (x : Row) (op : ℕ) (r : Step) : Type 0 where
-  pub says : (again : Bool) (rows : List Listed) (records : List CatalogueRecord) (l : Listed) → HaveRows cs from rows → length rows ≡ n → readCatalogue catalogue ≡ some records → Judged l x → (bound : ℕ) (m : Defined) → operands ≤ bound → HoldsState limit bound cs s m → TellsStep limit bound ds r (arm (meaningOf limit records) rows again m l (operationAt op))
+-- as `JumpArm`, of the number `op`, and of the listing and the catalogue's blocks at hand
+pub record NumberArm (limit from n : ℕ) (cs ds : List Cell) (blocks : List ℕ) (s : MemoryState) (x : Row) (op : ℕ) (r : Step) : Type 0 where
+  pub says : (again : Bool) (rows : List Listed) (records : List CatalogueRecord) (l : Listed) → HaveRows cs from rows → length rows ≡ n → HasBlocks blocks records → Judged l x → (bound : ℕ) (m : Defined) → operands ≤ bound → HoldsState limit bound cs s m → TellsStep limit bound ds r (arm (meaningOf limit records) rows again m l (operationAt op))
   pub leaves : LeavesStep limit ds s r
   pub frame : Frame cs ds (s .map .base) (limit + limit)
 

@@ -8,7 +8,8 @@ ghost use Rattle.area.specs.Cells.{cells};
 ghost use Rattle.rows.specs.Rows.{Fits};
 ghost use Rattle.jump_arms.specs.Arms.{Ready, stepAfter};
 ghost use Rattle.explain.specs.Handles.{Handles};
-ghost use Rattle.explain.specs.Numbers.{IsRow, IsCatalogue, NumberArm, asHandling};
+ghost use Rattle.root_block.specs.Blocks.{IsBlocks};
+ghost use Rattle.explain.specs.Numbers.{IsRow, NumberArm, asHandling};
 use intmap::Stored;
 use result_arm::Columns;
 use rows::Row;
@@ -61,7 +62,7 @@ fn jump(
     limit: usize,
 ) -> Step
     requires { ⌜ Ready limit (cells (now area)) s x × (from + n ≤ length (cells (now area))) × (1 ≤ op) × (op ≤ 14) × (op ≡ 13 → ⊥) ⌝ }
-    ensures { λ r. ⌜ ((catalogue : List ℕ) → NumberArm limit from n (cells (now (area .entry))) (cells (now (area .exit))) catalogue s x op r) ⌝ }
+    ensures { λ r. ⌜ ((blocks : List ℕ) → NumberArm limit from n (cells (now (area .entry))) (cells (now (area .exit))) blocks s x op r) ⌝ }
 {
     match op {
         opcode::OP_GOTO => jump_arms::goto(s, area, x, limit),
@@ -83,7 +84,7 @@ fn jump(
 // The arms that write registers.
 fn register(s: MemoryState, area: &mut [u8], x: Row, op: u8, limit: usize) -> Stored
     requires { ⌜ Ready limit (cells (now area)) s x × IsRow x × (16 ≤ op) × (op ≤ 32) ⌝ }
-    ensures { λ r. ⌜ ((from n : ℕ) (catalogue : List ℕ) → IsCatalogue catalogue → NumberArm limit from n (cells (now (area .entry))) (cells (now (area .exit))) catalogue s x op (stepAfter (s .row + 1) r)) ⌝ }
+    ensures { λ r. ⌜ ((from n : ℕ) (blocks : List ℕ) → IsBlocks blocks → NumberArm limit from n (cells (now (area .entry))) (cells (now (area .exit))) blocks s x op (stepAfter (s .row + 1) r)) ⌝ }
 {
     let map = s.map;
     if opcode::OP_ARITHMETIC < op {
@@ -107,9 +108,9 @@ fn register(s: MemoryState, area: &mut [u8], x: Row, op: u8, limit: usize) -> St
 }
 
 // The arms that use a cursor.
-fn cursor(s: MemoryState, area: &mut [u8], catalogue: &[u8], x: Row, op: u8, limit: usize) -> Stored
-    requires { ⌜ Ready limit (cells (now area)) s x × IsRow x × IsCatalogue (now catalogue) × (limit ≤ 65535) × (33 ≤ op) × (op ≤ 41) ⌝ }
-    ensures { λ r. ⌜ ((from n : ℕ) → NumberArm limit from n (cells (now (area .entry))) (cells (now (area .exit))) (now (catalogue .entry)) s x op (stepAfter (s .row + 1) r)) ⌝ }
+fn cursor(s: MemoryState, area: &mut [u8], blocks: &[u8], x: Row, op: u8, limit: usize) -> Stored
+    requires { ⌜ Ready limit (cells (now area)) s x × IsRow x × IsBlocks (now blocks) × (limit ≤ 65535) × (33 ≤ op) × (op ≤ 41) ⌝ }
+    ensures { λ r. ⌜ ((from n : ℕ) → NumberArm limit from n (cells (now (area .entry))) (cells (now (area .exit))) (now (blocks .entry)) s x op (stepAfter (s .row + 1) r)) ⌝ }
 {
     let map = s.map;
     let row = s.row - intmap::ZERO;
@@ -120,7 +121,7 @@ fn cursor(s: MemoryState, area: &mut [u8], catalogue: &[u8], x: Row, op: u8, lim
         opcode::OP_DELETE => cursor_arms::delete(map, area, x),
         opcode::OP_OPEN_PSEUDO => cursor_arms::open_pseudo(map, area, x, limit),
         opcode::OP_OPEN_DUP => cursor_arms::open_dup(map, area, x, limit),
-        opcode::OP_OPEN_READ => read_arm::open_read(map, area, catalogue, row, x, limit),
+        opcode::OP_OPEN_READ => read_arm::open_read(map, area, blocks, row, x, limit),
         opcode::OP_OPEN_EPHEMERAL => open_arms::open_ephemeral(map, area, row, x, limit),
         _ => table_arms::null_row(map, area, x),
     }
@@ -129,7 +130,7 @@ fn cursor(s: MemoryState, area: &mut [u8], catalogue: &[u8], x: Row, op: u8, lim
 // Jump: branches at P1, P2 and P3, and the state goes on.
 fn jump_three(s: MemoryState, area: &[u8], x: Row, limit: usize) -> Handling
     requires { ⌜ Ready limit (cells (now area)) s x × (x .op ≡ 13) ⌝ }
-    ensures { λ r. ⌜ ((from n : ℕ) (catalogue : List ℕ) (again : Bool) → Handles limit from n (cells (now (area .entry))) (cells (now (area .entry))) catalogue s x again r) ⌝ }
+    ensures { λ r. ⌜ ((from n : ℕ) (blocks : List ℕ) (again : Bool) → Handles limit from n (cells (now (area .entry))) (cells (now (area .entry))) blocks s x again r) ⌝ }
 {
     let map = s.map;
     Handling::Three(
@@ -146,7 +147,7 @@ fn jump_three(s: MemoryState, area: &[u8], x: Row, limit: usize) -> Handling
 // ResultRow, whose number is the last.
 fn result_row(s: MemoryState, area: &[u8], x: Row, limit: usize) -> Handling
     requires { ⌜ Ready limit (cells (now area)) s x × (42 ≤ x .op) ⌝ }
-    ensures { λ r. ⌜ ((from n : ℕ) (catalogue : List ℕ) (again : Bool) → Handles limit from n (cells (now (area .entry))) (cells (now (area .entry))) catalogue s x again r) ⌝ }
+    ensures { λ r. ⌜ ((from n : ℕ) (blocks : List ℕ) (again : Bool) → Handles limit from n (cells (now (area .entry))) (cells (now (area .entry))) blocks s x again r) ⌝ }
 {
     let map = s.map;
     let columns = result_arm::result_row(x);
@@ -168,15 +169,15 @@ fn result_row(s: MemoryState, area: &[u8], x: Row, limit: usize) -> Handling
 pub fn handle(
     s: MemoryState,
     area: &mut [u8],
-    catalogue: &[u8],
+    blocks: &[u8],
     x: Row,
     again: bool,
     from: usize,
     n: usize,
     limit: usize,
 ) -> Handling
-    requires { ⌜ Ready limit (cells (now area)) s x × (from + n ≤ length (cells (now area))) × (limit ≤ 65535) × IsRow x × IsCatalogue (now catalogue) ⌝ }
-    ensures { λ r. ⌜ Handles limit from n (cells (now (area .entry))) (cells (now (area .exit))) (now (catalogue .entry)) s x again r ⌝ }
+    requires { ⌜ Ready limit (cells (now area)) s x × (from + n ≤ length (cells (now area))) × (limit ≤ 65535) × IsRow x × IsBlocks (now blocks) ⌝ }
+    ensures { λ r. ⌜ Handles limit from n (cells (now (area .entry))) (cells (now (area .exit))) (now (blocks .entry)) s x again r ⌝ }
 {
     let map = s.map;
     let op = number(x);
@@ -196,7 +197,7 @@ pub fn handle(
         return falls_through(register(s, area, x, op, limit), s.row);
     }
     if op < opcode::OP_RESULT_ROW {
-        return falls_through(cursor(s, area, catalogue, x, op, limit), s.row);
+        return falls_through(cursor(s, area, blocks, x, op, limit), s.row);
     }
     result_row(s, area, x, limit)
 }

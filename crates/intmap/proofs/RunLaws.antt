@@ -45,6 +45,10 @@ sizes-turn f n at k r s lt e h =
     let a : at + (k + r) ≡ at + k + f (at + k) = omega arith in
     rw a (omega (arith, sizes-step f n (at + k) lt))
 
+-- the same, where the place that the next turn begins at is given
+pub sizes-then : (f : ℕ → ℕ) (n at k r s k′ : ℕ) → k′ ≡ k + r → 0 < n → r ≡ f (at + k) → k + sizes f n (at + k) ≡ s → k′ + sizes f (n - 1) (at + k′) ≡ s
+sizes-then f n at k r s k′ e lt g h = rw e (sizes-turn f n at k r s lt g h)
+
 whole-pos : (f : ℕ → ℕ) (b : Bool) (n p : ℕ) → 1 ≤ whole f b n p
 unfolding whole
 whole-pos f true n p = omega arith

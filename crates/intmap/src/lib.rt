@@ -2,8 +2,8 @@
 use area::Cell;
 ghost use mathlib.Core.Path.{_≡_};
 ghost use Prim.Native.Nat.{_+_, _<_, _≤_, max};
-ghost use lib.ListN.{length};
-ghost use Rattle.area.specs.Cells.{cells};
+ghost use lib.ListN.{length, getD};
+ghost use Rattle.area.specs.Cells.{blank, cells};
 ghost use Rattle.intmap.specs.Pack.{Parts, head, tagOf, kindOf, nullableOf, keyOf, withKey, withNullable, classKey};
 ghost use Rattle.intmap.specs.Runs.{size, sizes, IsColumn, AreColumns, eqColumn, eqColumns, Copyable, Copied};
 ghost use Rattle.intmap.specs.Depth.{nesting};
@@ -103,10 +103,27 @@ pub fn count(area: &[u8], at: usize, depth: usize) -> usize
     let mut left = c.payload;
     let mut k: usize = 1;
     while 0 < left {
-        k += count(area, at + k, depth - 1);
+        let x = area::cell_at(area, at + k);
+        if x.head % 256 == RECORD {
+            k += count(area, at + k, depth - 1);
+        } else {
+            k += 1;
+        }
         left -= 1;
     }
     k
+}
+
+// The same, where the column's first cell is c: most are alone, and cost no call.
+pub fn count_from(area: &[u8], at: usize, c: Cell, depth: usize) -> usize
+    requires { ⌜ IsColumn (cells (now area)) depth at × (c ≡ getD (cells (now area)) at blank) ⌝ }
+    ensures { λ r. ⌜ r ≡ size (cells (now (area .entry))) depth at ⌝ }
+{
+    let tag = c.head % 256;
+    if tag != RECORD {
+        return 1;
+    }
+    count(area, at, depth)
 }
 
 // Whether the columns at a and b are the same, keys too.
@@ -204,11 +221,24 @@ pub fn depth_of(area: &[u8], at: usize, depth: usize) -> usize
     let mut k = 1;
     let mut best: usize = 0;
     while 0 < left {
-        best = larger(best, depth_of(area, at + k, depth - 1));
-        k += count(area, at + k, depth - 1);
+        let x = area::cell_at(area, at + k);
+        best = larger(best, depth_from(area, at + k, x, depth - 1));
+        k += count_from(area, at + k, x, depth - 1);
         left -= 1;
     }
     best + 1
+}
+
+// The same, where the column's first cell is c.
+fn depth_from(area: &[u8], at: usize, c: Cell, depth: usize) -> usize
+    requires { ⌜ IsColumn (cells (now area)) depth at × (c ≡ getD (cells (now area)) at blank) ⌝ }
+    ensures { λ r. ⌜ r ≡ nesting (cells (now (area .entry))) depth at ⌝ }
+{
+    let tag = c.head % 256;
+    if tag != RECORD {
+        return 0;
+    }
+    depth_of(area, at, depth)
 }
 
 // Writes n cells from `at` on that are the same but for their keys, 0 to n - 1.
@@ -350,7 +380,7 @@ impl IntMap {
                     present: k == key,
                 };
             }
-            at += count(area, at, LEVELS);
+            at += count_from(area, at, c, LEVELS);
             left -= 1;
         }
         Found {

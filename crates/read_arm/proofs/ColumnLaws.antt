@@ -1,25 +1,21 @@
--- A record of the catalogue: when it is one for a row, its column's cell, and that cell among the columns gathered so far. Assumes nothing.
-use mathlib.Core.Path.{_≡_, refl, sym, ap, ap₂, subst, _∙_}
+-- A record in a cell of the blocks: when it is one for a row, and its column among the columns gathered so far. Assumes nothing.
+use mathlib.Core.Path.{_≡_, refl, sym, ap, ap₂, _∙_}
 use mathlib.Core.Bool.{Bool, true, false, _&&_, not}
 use mathlib.Core.Option.{some}
 use mathlib.Core.List.{List, [], _∷_}
-use Prim.Native.Nat.{ℕ, _+_, _-_, _*_, _<_, _≤_}
+use Prim.Native.Nat.{ℕ, _+_, _*_}
 use native.Mathlib.Omega.{arith}
 use lib.Dec.{eqb}
 use lib.IntN.{pos}
-use lib.ListN.{length, take, drop}
 use borrow.Author.Tests.{le-leb, eq-eqb, ne-eqb}
 use Rattle.type_info.specs.Kind.{kindOf}
-use Rattle.type_info.specs.declared.DataType.{DataType}
 use Rattle.model.specs.Walk.{done, refused}
 use Rattle.model.specs.IntMap.{Entry, insert}
 use Rattle.model.specs.State.{ColumnType, asColumns, datatypeCode}
 use Rattle.model.specs.Equality.{eqInt}
-use Rattle.model.specs.Catalogue.{recordColumn, isFor, addIf}
-use Rattle.model.specs.CatalogueText.{ValidRecord}
-use Rattle.model.proofs.CatalogueTextLaws.{record-takes}
+use Rattle.model.specs.Catalogue.{CatalogueRecord, recordColumn, isFor, addIf}
 use Rattle.area.specs.declared.Cell.{Cell}
-use Rattle.intmap.specs.Pack.{tagOf, withKey}
+use Rattle.intmap.specs.Pack.{tagOf}
 use Rattle.intmap.specs.Pick.{pick}
 use Rattle.intmap.specs.Swap.{swap}
 use Rattle.intmap.specs.Entries.{total}
@@ -33,20 +29,16 @@ use Rattle.intmap.proofs.EntryLaws.{total-sizes}
 use Rattle.intmap.proofs.StoreLaws.{frame-same}
 use Rattle.intmap.proofs.SignedLaws.{int-above, int-same}
 use Rattle.encoding.specs.Encode.{nullableCode, single, runColumn, columnRuns, runMap}
-use Rattle.encoding.proofs.Dense.{column-rekey}
 use Rattle.encoding.proofs.Packing.{column-key}
 use Rattle.encoding.proofs.MapRuns.{insert-map}
 use Rattle.rows.specs.declared.Row.{Row}
-use Rattle.catalogue.specs.Records.{recordIn, RecordAt}
-use Rattle.catalogue.specs.declared.Record.{Record}
-use Rattle.catalogue.specs.declared.RecordRead.{RecordRead}
-use Rattle.catalogue.specs.declared.RecordRead.the-variants.{Is}
-use Rattle.read_arm.specs.Gathers.{IsColumn, Adds}
+use Rattle.root_block.specs.Blocks.{pageOf, dbOf, columnOf, IsBlock}
+use Rattle.read_arm.specs.Gathers.{Adds}
 
 -- ---- a database and a page
 
 -- a number is the one that a word stands for
-number-same : (n w : ℕ) → eqInt (pos n) (intOf w) ≡ eqb (offset + n) w
+pub number-same : (n w : ℕ) → eqInt (pos n) (intOf w) ≡ eqb (offset + n) w
 number-same n w =
     let e : intOf (offset + n) ≡ pos n = int-above (offset + n) (omega arith) ∙ ap pos (omega arith) in
     ap (λ i. eqInt i (intOf w)) (sym e) ∙ int-same (offset + n) w
@@ -60,23 +52,12 @@ module _ (db page p3 p2 : ℕ) where
 
 -- ---- a column's cell
 
-pub code-few : (b : Bool) → nullableCode (some b) < 3
-code-few true = omega arith
-code-few false = omega arith
-
-pub column-made : (t : List ℕ) (r : Record) (d : DataType) (n : ℕ) (k c : Cell) → d ≡ kindOf (take (r .from + r .size - r .from) (drop (r .from) t)) → n ≡ nullableCode (some (not (r .notnull))) → k ≡ single (datatypeCode d) n 0 → c ≡ withKey (r .col) k → IsColumn t r c
+-- it is no record's
+pub column-plain : (c : Cell) (r : CatalogueRecord) → IsBlock c r → tagOf (columnOf c) ≡ 2 → ⊥
 unfolding runColumn recordColumn
-column-made t r d n k c de ne ke ce =
-    let z : r .from + r .size - r .from ≡ r .size = omega arith in
-    ap (λ y. y ∷ []) (ce ∙ ap (withKey (r .col)) ke)
-    ∙ ap₂ (λ y v. withKey (r .col) (single (datatypeCode y) v 0) ∷ []) (de ∙ ap (λ s. kindOf (take s (drop (r .from) t))) z) ne
-    ∙ column-rekey (recordColumn (recordIn t r)) 0 (r .col)
-
-pub column-plain : (t : List ℕ) (r : Record) (c : Cell) → IsColumn t r c → tagOf c ≡ 2 → ⊥
-unfolding runColumn recordColumn
-column-plain t r c e h =
-    let x = recordIn t r in
-    let same : c ≡ single (datatypeCode (kindOf (x .declared))) (nullableCode (some (not (x .notnull)))) (r .col) = cc in
+column-plain c r is h =
+    let e = is .column in
+    let same : columnOf c ≡ single (datatypeCode (kindOf (r .declared))) (nullableCode (some (not (r .notnull)))) (r .col) = cc in
     omega (arith, ap tagOf same)
 
 -- ---- among the columns gathered
@@ -94,38 +75,34 @@ put-column k v es =
     ∙ insert-map runColumn column-key 0 k v es
     ∙ as-map (insert k v es)
 
-module _ (limit : ℕ) (cs : List Cell) (m : IntMap) (t : List ℕ) (r : Record) (x : Row) where
+module _ (limit : ℕ) (cs : List Cell) (m : IntMap) (c : Cell) (x : Row) where
   -- what the test says of the record
   abbrev its : Bool
-  its = eqInt (pos (r .db)) (intOf (x .p3)) && eqInt (pos (r .page)) (intOf (x .p2))
+  its = eqInt (pos (dbOf c)) (intOf (x .p3)) && eqInt (pos (pageOf c)) (intOf (x .p2))
 
-  pub added-not : its ≡ false → HasRoom cs limit m → Adds limit cs cs m t r x (insertion.Done m)
+  its-for : (r : CatalogueRecord) → IsBlock c r → isFor (intOf (x .p3)) (intOf (x .p2)) r ≡ its
   unfolding isFor
+  its-for r is = ap₂ (λ d p. eqInt (pos d) (intOf (x .p3)) && eqInt (pos p) (intOf (x .p2))) (sym (is .db)) (sym (is .page))
+
+  pub added-not : its ≡ false → HasRoom cs limit m → Adds limit cs cs m c x (insertion.Done m)
   added-not f room =
       record {
-        answer = λ es e.
+        answer = λ r is es e.
             ap (λ b. pick b (done (runsAt cs m)) (refused 8)) (sym (le-leb (total (runsAt cs m)) limit (omega (arith, room .used, room .most, total-sizes cs levels (m .len) (m .base)))))
             ∙ ap (judgeRuns limit) e
-            ∙ ap (λ b. judgeRuns limit (columnRuns (asColumns (addIf b (recordIn t r) es)))) (sym f);
+            ∙ ap (λ b. judgeRuns limit (columnRuns (asColumns (addIf b r es)))) (sym (its-for r is ∙ f));
         leaves = record { base = refl; room = room };
         frame = frame-same cs cs (m .base) limit refl;
       }
 
-  pub added : its ≡ true → (ds : List Cell) (c : Cell) (y : Insertion) → IsColumn t r c → Inserts cs ds limit m (c ∷ []) y → Adds limit cs ds m t r x y
-  unfolding isFor
-  added f ds c y ce ins =
+  pub added : its ≡ true → (ds : List Cell) (y : Insertion) → Inserts cs ds limit m (columnOf c ∷ []) y → Adds limit cs ds m c x y
+  added f ds y ins =
       record {
-        answer = λ es e.
+        answer = λ r is es e.
             ins .answer
-            ∙ ap₂ (λ run l. judgeRuns limit (put run l)) ce e
-            ∙ ap (judgeRuns limit) (put-column (r .col) (recordColumn (recordIn t r)) es)
-            ∙ ap (λ b. judgeRuns limit (columnRuns (asColumns (addIf b (recordIn t r) es)))) (sym f);
+            ∙ ap₂ (λ run l. judgeRuns limit (put run l)) (is .column) e
+            ∙ ap (judgeRuns limit) (put-column (r .col) (recordColumn r) es)
+            ∙ ap (λ b. judgeRuns limit (columnRuns (asColumns (addIf b r es)))) (sym (its-for r is ∙ f));
         leaves = ins .leaves;
         frame = ins .frame;
       }
-
--- what is known of a record that was read
-pub record-read : (t : List ℕ) (at : ℕ) (y : RecordRead) (r : Record) → RecordAt t at y → y ≡ Is r → (r .from + r .size ≤ length t) × ValidRecord (recordIn t r)
-record-read t at y r h e =
-    let g = subst (RecordAt t at) e h in
-    (g .inside, record-takes .is (drop at t) (recordIn t r) (drop (r .next) t) .0 (sym (g .reads .is)) .0)

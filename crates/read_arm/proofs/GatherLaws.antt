@@ -1,27 +1,27 @@
--- Columns gathered record by record: the invariant of the loop, each turn of it, and that columns which are too many stay so. Assumes nothing.
+-- Columns gathered along a chain of the blocks: the invariant of the loop, each turn of it, that columns which are too many stay so, and that the
+-- records of other buckets would add none. Assumes nothing.
 use mathlib.Core.Path.{_≡_, refl, sym, ap, subst, _∙_}
-use mathlib.Core.Bool.{Bool, true, false, _||_}
-use mathlib.Core.Option.{Option, none, some, Option·none-ne-some, Option·some-injective}
-use mathlib.Core.List.{List, [], _∷_, _++_}
-use Prim.Native.Nat.{ℕ, zero, suc, _+_, _-_, _<_, _≤_, compare, Ordering, Ordering·lt, Ordering·eq, Ordering·gt}
+use mathlib.Core.Bool.{Bool, true, false, _&&_, _||_}
+use mathlib.Core.Logic.{_⊎_, inl, inr}
+use mathlib.Core.List.{List, [], _∷_, _++_, append-nil, append-assoc}
+use Prim.Native.Nat.{ℕ, zero, suc, _+_, _-_, _%_, _<_, _≤_, compare, Ordering, Ordering·lt, Ordering·eq, Ordering·gt}
 use native.Mathlib.Omega.{arith}
-use lib.Dec.{leb}
+use native.Mathlib.Nat.{mod-lt}
+use lib.Dec.{eqb, leb}
 use lib.IntN.{pos}
-use lib.ListN.{length, drop}
-use borrow.Author.Tests.{leb-false, ne-eqb}
+use lib.ListN.{length, getD}
+use borrow.Author.Tests.{leb-false, eqb-false, ne-eqb}
 use Rattle.model.specs.Walk.{Tried, refused, done}
 use Rattle.model.specs.IntMap.{Entry, _⇒_, insertBy, insert}
-use Rattle.model.specs.State.{ColumnType, end, asColumns}
+use Rattle.model.specs.State.{ColumnType, asColumns}
 use Rattle.model.specs.Equality.{eqInt, isZeroInt}
-use Rattle.model.specs.Cells.{columnCells, columnsCells, columnsDepth}
+use Rattle.model.specs.Cells.{columnCells, columnsCells}
 use Rattle.model.specs.Catalogue.{CatalogueRecord, recordColumn, isFor, addIf, columnsAfter, columnsAt}
-use Rattle.model.specs.CatalogueText.{takeRecord, readCatalogue}
 use Rattle.model.specs.CursorArms.{columnsIf}
 use Rattle.model.specs.Good.{Each}
-use Rattle.model.specs.Reader.{_then_}
-use Rattle.model.specs.Fields.{itemsUpTo}
-use Rattle.model.proofs.Catalogue.{columnsAt-flat}
+use Rattle.area.specs.Cells.{blank, cells, Inside}
 use Rattle.area.specs.declared.Cell.{Cell}
+use Rattle.intmap.specs.Pack.{tagOf}
 use Rattle.intmap.specs.Pick.{pick}
 use Rattle.intmap.specs.Entries.{Runs, entries, total}
 use Rattle.intmap.specs.Map.{empty, runsAt, HasRoom, Frame}
@@ -37,12 +37,9 @@ use Rattle.encoding.specs.Encode.{columnRuns}
 use Rattle.encoding.proofs.Lengths.{length-flatten, columns-length}
 use Rattle.rows.specs.declared.Row.{Row}
 use Rattle.state.proofs.LeadsLaws.{frame-then}
-use Rattle.text.proofs.ItemLaws.{ItemsRead, items-start, items-next, items-end, items-bad}
-use Rattle.catalogue.specs.Records.{recordIn, recordAt, RecordAt}
-use Rattle.catalogue.specs.declared.Record.{Record}
-use Rattle.catalogue.specs.declared.RecordRead.{RecordRead}
-use Rattle.catalogue.specs.declared.RecordRead.the-variants.{Is, Bad}
+use Rattle.root_block.specs.Blocks.{nextOf, columnOf, firstOf, IsBlock, inBucket, Chain, HasBlocks, IsBlocks}
 use Rattle.read_arm.specs.Gathers.{Adds, atPage, atDatabase, Gathers, GathersTo}
+use Rattle.read_arm.proofs.ColumnLaws.{number-same, column-plain}
 
 -- ---- judged runs
 
@@ -141,103 +138,181 @@ module _ (x : Row) where
         more-after (after [] first) more,
       )
 
+  -- the records of other buckets are for other pages
+  for-none : (n : ℕ) (r : CatalogueRecord) → ((offset + r .page) % n ≡ x .p2 % n → ⊥) → isFor (intOf (x .p3)) (intOf (x .p2)) r ≡ false
+  unfolding isFor
+  for-none n r ne = ap (λ b. eqInt (pos (r .db)) (intOf (x .p3)) && b) (number-same (r .page) (x .p2) ∙ ne-eqb (offset + r .page) (x .p2) (λ e. ne (ap (λ w. w % n) e))) ∙ and-false (eqInt (pos (r .db)) (intOf (x .p3)))
+    where
+      and-false : (b : Bool) → (b && false) ≡ false
+      and-false true = refl
+      and-false false = refl
+
+  after-bucket : (n : ℕ) (es : List (Entry ColumnType)) (records : List CatalogueRecord) → after es (inBucket n (x .p2 % n) records) ≡ after es records
+  unfolding columnsAfter inBucket
+  after-bucket n es [] = refl
+  after-bucket n es (r ∷ rs) = by (eqb ((offset + r .page) % n) (x .p2 % n)) refl (after-bucket n (adding es r) rs) (after-bucket n es rs)
+    where
+      by : (b : Bool) → eqb ((offset + r .page) % n) (x .p2 % n) ≡ b → after (adding es r) (inBucket n (x .p2 % n) rs) ≡ after (adding es r) rs → after es (inBucket n (x .p2 % n) rs) ≡ after es rs → after es (pick b (r ∷ inBucket n (x .p2 % n) rs) (inBucket n (x .p2 % n) rs)) ≡ after (adding es r) rs
+      by true q own other = unfold columnsAfter in own
+      by false q own other = other ∙ ap (λ b. after (addIf b r es) rs) (sym (for-none n r (eqb-false ((offset + r .page) % n) (x .p2 % n) q)))
+
 -- ---- the loop
 
--- the records before `at` are read, and the map holds their columns
-pub record Gathering (limit : ℕ) (cs ds : List Cell) (base : ℕ) (t : List ℕ) (x : Row) (at : ℕ) (m : IntMap) : Type 0 where
-  pub count : ℕ
-  pub before : List CatalogueRecord
-  pub read : ItemsRead (λ _. takeRecord) t at count before
-  pub runs : runsAt ds m ≡ columnRuns (asColumns (after x [] before))
+-- how far a link is from the end: links lead on
+pub ahead : ℕ → ℕ → ℕ
+ahead n zero = 0
+ahead n (suc i) = n - i
+
+ahead-less : (n link next : ℕ) → 0 < link → link ≤ n → (next ≡ 0) ⊎ (link < next) → ahead n next < ahead n link
+unfolding ahead
+ahead-less n zero next h l o = absurd (omega arith)
+ahead-less n (suc i) zero h l o = omega arith
+ahead-less n (suc i) (suc j) h l (inl e) = absurd (omega arith)
+ahead-less n (suc i) (suc j) h l (inr m) = omega arith
+
+-- the records of the row's bucket: those whose columns the map holds, and those that the link leads to
+pub record Followed (ds : List Cell) (bs : List ℕ) (x : Row) (link : ℕ) (m : IntMap) (records : List CatalogueRecord) : Type 0 where
+  pub first : List CatalogueRecord
+  pub rest : List CatalogueRecord
+  pub low : ℕ
+  pub all : inBucket (length (cells bs)) (x .p2 % length (cells bs)) records ≡ first ++ rest
+  pub chain : Chain (cells bs) low link rest
+  pub runs : runsAt ds m ≡ columnRuns (asColumns (after x [] first))
+
+pub record Gathering (limit : ℕ) (cs ds : List Cell) (base : ℕ) (bs : List ℕ) (x : Row) (link : ℕ) (m : IntMap) : Type 0 where
+  pub says : (records : List CatalogueRecord) → HasBlocks bs records → Followed ds bs x link m records
   pub place : m .base ≡ base
   pub room : HasRoom ds limit m
   pub frame : Frame cs ds base limit
 
-pub gathering-first : (limit : ℕ) (cs : List Cell) (base : ℕ) (t : List ℕ) (x : Row) (m : IntMap) → base + limit ≤ length cs → length cs ≤ 1048576 → m ≡ empty base → Gathering limit cs cs base t x 0 m
+pub gathering-first : (limit : ℕ) (cs : List Cell) (base : ℕ) (bs : List ℕ) (x : Row) (link : ℕ) (m : IntMap) → base + limit ≤ length cs → length cs ≤ 1048576 → m ≡ empty base → link ≡ firstOf (getD (cells bs) (x .p2 % length (cells bs)) blank) → Gathering limit cs cs base bs x link m
 unfolding entries columnsAfter asColumns columnRuns
-gathering-first limit cs base t x m fits small e =
-    subst (Gathering limit cs cs base t x 0) (sym e)
+gathering-first limit cs base bs x link m fits small e f =
+    subst (Gathering limit cs cs base bs x link) (sym e)
     (record {
-      count = 0;
-      before = [];
-      read = items-start (λ _. takeRecord) t;
-      runs = refl;
+      says = λ records h. record {
+        first = [];
+        rest = inBucket (length (cells bs)) (x .p2 % length (cells bs)) records;
+        low = 0;
+        all = refl;
+        chain = subst (λ l. Chain (cells bs) 0 l (inBucket (length (cells bs)) (x .p2 % length (cells bs)) records)) (sym f) (h .chains (x .p2 % length (cells bs)) (mod-lt (x .p2) (h .some)));
+        runs = refl;
+      };
       place = refl;
       room = empty-room cs limit base fits small;
       frame = frame-same cs cs base limit refl;
     })
 
--- the text's records begin with those that are read
-begins : (t : List ℕ) (at k : ℕ) (first records : List CatalogueRecord) → ItemsRead (λ _. takeRecord) t at k first → readCatalogue t ≡ some records → (more : List CatalogueRecord) × (records ≡ first ++ more)
-unfolding readCatalogue
-begins t at k first records h e = go (itemsUpTo (λ _. takeRecord) (length t - k) k (drop at t)) (h .all ∙ e)
-  where
-    go : (o : Option (List CatalogueRecord)) → (o then λ more. some (first ++ more)) ≡ some records → (more : List CatalogueRecord) × (records ≡ first ++ more)
-    go none e = absurd (Option·none-ne-some records e)
-    go (some more) e = (more, sym (Option·some-injective (first ++ more) records e))
+-- no record is left behind a link of 0
+chain-end : (cs : List Cell) (low link : ℕ) (rest : List CatalogueRecord) → link ≤ 0 → Chain cs low link rest → rest ≡ []
+chain-end cs low link [] le c = refl
+chain-end cs low link (r ∷ rest) le c = let above : low < link = c .0 in absurd (omega arith)
 
-module _ {limit : ℕ} {cs ds : List Cell} {base : ℕ} {t : List ℕ} {x : Row} {at : ℕ} {m : IntMap} (g : Gathering limit cs ds base t x at m) where
-  pub gathering-end : length t ≤ at → Gathers limit cs ds base t (atPage x) (insertion.Done m)
-  unfolding columnsAt readCatalogue
-  gathering-end l =
+-- another link has a record, and leads on
+record Link (cs : List Cell) (link : ℕ) (rest : List CatalogueRecord) : Type 0 where
+  one : CatalogueRecord
+  more : List CatalogueRecord
+  are : rest ≡ one ∷ more
+  is : IsBlock (getD cs (link - 1) blank) one
+  fits : link ≤ length cs
+  chain : Chain cs link (nextOf (getD cs (link - 1) blank)) more
+
+chain-link : (cs : List Cell) (low link : ℕ) (rest : List CatalogueRecord) → 0 < link → Chain cs low link rest → Link cs link rest
+chain-link cs low link [] lt c = absurd (omega arith)
+chain-link cs low link (r ∷ rest) lt c = record { one = r; more = rest; are = refl; is = c .2; fits = c .1; chain = c .3 }
+
+chain-on : (cs : List Cell) (low link : ℕ) (rest : List CatalogueRecord) → Chain cs low link rest → (link ≡ 0) ⊎ (low < link)
+chain-on cs low link [] c = inl c
+chain-on cs low link (r ∷ rest) c = inr (c .0)
+
+module _ {limit : ℕ} {cs ds : List Cell} {base : ℕ} {bs : List ℕ} {x : Row} {link : ℕ} {m : IntMap} (g : Gathering limit cs ds base bs x link m) where
+  -- the columns of the bucket's records are those of all
+  of-all : (records first : List CatalogueRecord) → inBucket (length (cells bs)) (x .p2 % length (cells bs)) records ≡ first → asColumns (after x [] first) ≡ atPage x records
+  unfolding columnsAt
+  of-all records first e = ap (λ xs. asColumns (after x [] xs)) (sym e) ∙ ap asColumns (after-bucket x (length (cells bs)) [] records)
+
+  pub gathering-end : link ≤ 0 → Gathers limit cs ds base bs (atPage x) (insertion.Done m)
+  gathering-end le =
       record {
         answer = record {
-          columns = asColumns (after x [] (g .before));
-          are = λ records e. ap (λ xs. asColumns (after x [] xs)) (Option·some-injective records (g .before) (sym e ∙ items-end (λ _. takeRecord) (g .read) l));
-          flat = columnsAt-flat (g .before) (intOf (x .p3)) (intOf (x .p2));
-          runs = g .runs;
+          runs = λ records h.
+              (let f = g .says records h in
+              let none = chain-end (cells bs) (f .low) link (f .rest) le (f .chain) in
+              f .runs ∙ ap columnRuns (of-all records (f .first) (f .all ∙ ap (λ l. f .first ++ l) none ∙ append-nil (f .first))));
           place = g .place;
           room = g .room;
         };
         frame = g .frame;
       }
 
-  module _ (l : at < length t) (y : RecordRead) (h : RecordAt t at y) where
-    pub gathering-bad : y ≡ Bad → Gathers limit cs ds base t (atPage x) insertion.Full
-    unfolding readCatalogue
-    gathering-bad e =
-        record {
-          answer = λ records read. absurd (Option·none-ne-some records (sym (items-bad (λ _. takeRecord) (g .read) l (h .reads) (ap (recordAt t) e)) ∙ read));
-          frame = g .frame;
-        }
+  module _ (lt : 0 < link) where
+    linked : (records : List CatalogueRecord) (h : HasBlocks bs records) → Link (cells bs) link (g .says records h .rest)
+    linked records h = let f = g .says records h in chain-link (cells bs) (f .low) link (f .rest) lt (f .chain)
 
-    module _ (r : Record) (e : y ≡ Is r) (es : List Cell) (z : Insertion) (a : Adds limit ds es m t r x z) where
-      abbrev first : List CatalogueRecord
-      first = g .before ++ (recordIn t r ∷ [])
+    pub gathering-inside : IsBlocks bs → Inside bs (link - 1) 1
+    gathering-inside w = let l = linked (w .records) (w .has) in record { within = omega (arith, l .fits); small = w .has .small }
 
-      next : ItemsRead (λ _. takeRecord) t (r .next) (g .count + 1) first
-      next = items-next (λ _. takeRecord) (g .read) l (h .reads) (ap (recordAt t) e)
+    module _ (c : Cell) (ce : c ≡ getD (cells bs) (link - 1) blank) where
+      block : (records : List CatalogueRecord) (h : HasBlocks bs records) → IsBlock c (linked records h .one)
+      block records h = subst (λ d. IsBlock d (linked records h .one)) (sym ce) (linked records h .is)
 
-      answer : answerOf es z ≡ judgeRuns limit (columnRuns (asColumns (after x [] first)))
-      unfolding columnsAfter
-      answer = a .answer (after x [] (g .before)) (g .runs) ∙ ap (λ n. judgeRuns limit (columnRuns (asColumns n))) (sym (after-append x [] (g .before) (recordIn t r ∷ [])))
+      pub gathering-plain : IsBlocks bs → tagOf (columnOf c) ≡ 2 → ⊥
+      gathering-plain w = column-plain c (linked (w .records) (w .has) .one) (block (w .records) (w .has))
 
-      framed : Frame cs es base limit
-      framed = frame-then cs ds es base limit (g .frame) (subst (λ p. Frame ds es p limit) (g .place) (a .frame))
+      pub gathering-less : IsBlocks bs → ahead (length (cells bs)) (nextOf c) < ahead (length (cells bs)) link
+      gathering-less w =
+          let l = linked (w .records) (w .has) in
+          ahead-less (length (cells bs)) link (nextOf c) lt (l .fits) (subst (λ d. (nextOf d ≡ 0) ⊎ (link < nextOf d)) (sym ce) (chain-on (cells bs) link (nextOf (getD (cells bs) (link - 1) blank)) (l .more) (l .chain)))
 
-      pub gathering-full : z ≡ insertion.Full → Gathers limit cs es base t (atPage x) insertion.Full
-      unfolding columnsAt
-      gathering-full f =
-          record {
-            answer = λ records read.
-                (let b = begins t (r .next) (g .count + 1) first records next read in
-                let over = judged-full limit (columnRuns (asColumns (after x [] first))) (sym (ap (answerOf es) f) ∙ answer) in
-                subst (λ xs. limit < columnsCells (asColumns (after x [] xs))) (sym (b .1)) (omega (arith, over, more-cells x first (b .0))));
-            frame = framed;
-          }
+      module _ (es : List Cell) (z : Insertion) (a : Adds limit ds es m c x z) where
+        -- the records passed then
+        passed : (records : List CatalogueRecord) → HasBlocks bs records → List CatalogueRecord
+        passed records h = g .says records h .first ++ (linked records h .one ∷ [])
 
-      pub gathering-next : (b : IntMap) → z ≡ insertion.Done b → Gathering limit cs es base t x (r .next) b
-      gathering-next b f =
-          let kept = subst (Adds limit ds es m t r x) f a in
-          record {
-            count = g .count + 1;
-            before = first;
-            read = next;
-            runs = judged-done limit (runsAt es b) (columnRuns (asColumns (after x [] first))) (sym (ap (answerOf es) f) ∙ answer);
-            place = kept .leaves .base ∙ g .place;
-            room = kept .leaves .room;
-            frame = framed;
-          }
+        passed-all : (records : List CatalogueRecord) (h : HasBlocks bs records) → inBucket (length (cells bs)) (x .p2 % length (cells bs)) records ≡ passed records h ++ linked records h .more
+        unfolding passed
+        passed-all records h =
+            let f = g .says records h in
+            let l = linked records h in
+            f .all ∙ ap (λ r. f .first ++ r) (l .are) ∙ sym (append-assoc (f .first) (l .one ∷ []) (l .more))
+
+        answer : (records : List CatalogueRecord) (h : HasBlocks bs records) → answerOf es z ≡ judgeRuns limit (columnRuns (asColumns (after x [] (passed records h))))
+        unfolding columnsAfter passed
+        answer records h =
+            let f = g .says records h in
+            let r = linked records h .one in
+            a .answer r (block records h) (after x [] (f .first)) (f .runs) ∙ ap (λ n. judgeRuns limit (columnRuns (asColumns n))) (sym (after-append x [] (f .first) (r ∷ [])))
+
+        framed : Frame cs es base limit
+        framed = frame-then cs ds es base limit (g .frame) (subst (λ p. Frame ds es p limit) (g .place) (a .frame))
+
+        pub gathering-full : z ≡ insertion.Full → Gathers limit cs es base bs (atPage x) insertion.Full
+        gathering-full full =
+            record {
+              answer = λ records h.
+                  (let first = passed records h in
+                  let more = linked records h .more in
+                  let over = judged-full limit (columnRuns (asColumns (after x [] first))) (sym (ap (answerOf es) full) ∙ answer records h) in
+                  subst (λ k. limit < columnsCells k) (of-all records (first ++ more) (passed-all records h)) (omega (arith, over, more-cells x first more)));
+              frame = framed;
+            }
+
+        pub gathering-next : (b : IntMap) → z ≡ insertion.Done b → Gathering limit cs es base bs x (nextOf c) b
+        gathering-next b is =
+            let kept = subst (Adds limit ds es m c x) is a in
+            record {
+              says = λ records h. record {
+                first = passed records h;
+                rest = linked records h .more;
+                low = link;
+                all = passed-all records h;
+                chain = subst (λ d. Chain (cells bs) link (nextOf d) (linked records h .more)) (sym ce) (linked records h .chain);
+                runs = judged-done limit (runsAt es b) (columnRuns (asColumns (after x [] (passed records h)))) (sym (ap (answerOf es) is) ∙ answer records h);
+              };
+              place = kept .leaves .base ∙ g .place;
+              room = kept .leaves .room;
+              frame = framed;
+            }
 
 -- ---- the database
 
@@ -271,15 +346,12 @@ module _ (x : Row) where
 
   module _ (limit : ℕ) (cs : List Cell) (base : ℕ) (t : List ℕ) where
     pub no-database : isDatabase ≡ false → (m : IntMap) → base + limit ≤ length cs → length cs ≤ 1048576 → m ≡ empty base → Gathers limit cs cs base t (atDatabase x) (insertion.Done m)
-    unfolding entries columnRuns columnsDepth
+    unfolding entries columnRuns
     no-database h m fits small e =
         subst (λ n. Gathers limit cs cs base t (atDatabase x) (insertion.Done n)) (sym e)
         (record {
           answer = record {
-            columns = end;
-            are = λ records read. ap (λ b. columnsIf b (atPage x records)) h;
-            flat = refl;
-            runs = refl;
+            runs = λ records read. ap (λ b. columnRuns (columnsIf b (atPage x records))) (sym h);
             place = refl;
             room = empty-room cs limit base fits small;
           };

@@ -1,7 +1,7 @@
 -- The table of the gathered columns, its run, and the arm. Assumes nothing.
 use mathlib.Core.Path.{_≡_, refl, sym, ap, ap₂, subst, _∙_}
 use mathlib.Core.Bool.{Bool, true, false, _||_}
-use mathlib.Core.Option.{none, some}
+use mathlib.Core.Option.{none}
 use mathlib.Core.List.{List, [], _∷_}
 use Prim.Native.Nat.{ℕ, suc, _+_, _-_, _<_, _≤_}
 use native.Mathlib.Omega.{arith}
@@ -14,13 +14,12 @@ use Rattle.model.specs.State.{Columns, end, TableDataType, MemoryState}
 use Rattle.model.specs.Equality.{eqInt, isZeroInt}
 use Rattle.model.specs.Cells.{columnsDepth, tableCells}
 use Rattle.model.specs.Catalogue.{CatalogueRecord, columnsAt}
-use Rattle.model.specs.CatalogueText.{ValidRecord, readCatalogue}
+use Rattle.model.specs.CatalogueText.{ValidRecord}
 use Rattle.model.specs.CursorArms.{columnsIf, openedColumns, openTable, cursorArm}
 use Rattle.model.specs.Operation.{opOpenRead}
 use Rattle.model.specs.Good.{Each, SortedColumns}
 use Rattle.model.specs.Meaning.{Meaning}
 use Rattle.model.proofs.Catalogue.{SmallColumn, columnsAt-flat, columnsAt-sorted}
-use Rattle.model.proofs.CatalogueTextLaws.{catalogue-exact}
 use Rattle.area.specs.Cells.{cell, blank}
 use Rattle.area.specs.declared.Cell.{Cell}
 use Rattle.intmap.specs.Pack.{head}
@@ -46,6 +45,7 @@ use Rattle.state.specs.Arms.{Standard}
 use Rattle.state.proofs.LeadsLaws.{frame-within, frame-then}
 use Rattle.open_arms.specs.Tables.{OpensTable}
 use Rattle.open_arms.proofs.OpenLaws.{open-large, frame-set, behind-same, behind-current}
+use Rattle.root_block.specs.Blocks.{HasBlocks, IsBlocks}
 use Rattle.read_arm.specs.Gathers.{atPage, atDatabase, Gathered, Gathers, ReadsTable}
 use Rattle.read_arm.proofs.GatherLaws.{isDatabase}
 
@@ -75,13 +75,13 @@ module _ (t : List ℕ) (x : Row) (records : List CatalogueRecord) where
   unfolding columnsDepth
   database-flat = either (λ c. columnsDepth c ≤ 8) (isDatabase x) (atPage x records) (omega (arith, columnsAt-flat records (intOf (x .p3)) (intOf (x .p2)))) (omega arith)
 
-  database-sorted : readCatalogue t ≡ some records → SortedColumns (atDatabase x records) 0
+  database-sorted : HasBlocks t records → SortedColumns (atDatabase x records) 0
   unfolding SortedColumns
-  database-sorted e = either (λ c. SortedColumns c 0) (isDatabase x) (atPage x records) (columnsAt-sorted records (small-columns records (catalogue-exact .is t records .0 e .0)) (intOf (x .p3)) (intOf (x .p2))) tt
+  database-sorted h = either (λ c. SortedColumns c 0) (isDatabase x) (atPage x records) (columnsAt-sorted records (small-columns records (h .valid)) (intOf (x .p3)) (intOf (x .p2))) tt
 
 module _ (limit : ℕ) (cs : List Cell) (a : IntMap) (t : List ℕ) (x : Row) where
   -- a table that alone has more cells than there may be
-  stops : (row : ℕ) (ds : List Cell) → Frame cs ds (a .base) (limit + limit) → ((records : List CatalogueRecord) → readCatalogue t ≡ some records → limit < tableCells (table (atDatabase x records))) → ReadsTable limit cs ds a t row x (stored.Refused 8)
+  stops : (row : ℕ) (ds : List Cell) → Frame cs ds (a .base) (limit + limit) → ((records : List CatalogueRecord) → HasBlocks t records → limit < tableCells (table (atDatabase x records))) → ReadsTable limit cs ds a t row x (stored.Refused 8)
   stops row ds f large =
       record {
         leads = λ meaning records l s read columns j. record {
@@ -113,9 +113,6 @@ module _ (limit : ℕ) (cs : List Cell) (a : IntMap) (t : List ℕ) (x : Row) wh
       read-few = omega (arith, got .room .most)
 
       module _ (h : ℕ) (he : h ≡ head 2 0 0 0) (es : List Cell) (ee : es ≡ set ds (a .base + limit) (cell h (m .len))) (current : Current limit cs a) where
-        abbrev its : TableDataType
-        its = table (got .columns)
-
         headed : Frame ds es (a .base + limit) 1
         headed = frame-set ds es (a .base + limit) (cell h (m .len)) ee
 
@@ -125,37 +122,40 @@ module _ (limit : ℕ) (cs : List Cell) (a : IntMap) (t : List ℕ) (x : Row) wh
         pub read-current : Current limit es a
         read-current = behind-current limit cs es a limit current written
 
-        taken : m .used ≡ length (runColumns (got .columns))
-        taken = got .room .used ∙ total-sizes ds levels (m .len) (m .base) ∙ ap total (got .runs) ∙ sym (length-flatten (columnRuns (got .columns)))
+        module _ (records : List CatalogueRecord) (b : HasBlocks t records) where
+          abbrev columns : Columns
+          columns = atDatabase x records
 
-        many : m .len ≡ count (got .columns)
-        many = sym (entries-count ds levels (m .len) (m .base)) ∙ ap length (got .runs) ∙ count-runs (got .columns)
+          taken : m .used ≡ length (runColumns columns)
+          taken = got .room .used ∙ total-sizes ds levels (m .len) (m .base) ∙ ap total (got .runs records b) ∙ sym (length-flatten (columnRuns columns))
 
-        first : getD es (a .base + limit) blank ≡ cell (head 2 0 0 0) (count (got .columns))
-        first =
-            ap (λ l. getD l (a .base + limit) blank) ee
-            ∙ getD-set-same ds (a .base + limit) (cell h (m .len)) blank (omega (arith, current .scratch, behind .long))
-            ∙ ap₂ cell he many
+          many : m .len ≡ count columns
+          many = sym (entries-count ds levels (m .len) (m .base)) ∙ ap length (got .runs records b) ∙ count-runs columns
 
-        rest : span es (a .base + limit + 1) (m .used) ≡ runColumns (got .columns)
-        rest =
-            span-same ds es (m .used) (a .base + limit + 1) (a .base + limit + 1) (λ j lt. headed .above (a .base + limit + 1 + j) (omega arith))
-            ∙ ap₂ (span ds) (sym (got .place)) taken
-            ∙ stand-entries ds levels (m .len) (m .base) (columnRuns (got .columns)) (got .runs)
+          first : getD es (a .base + limit) blank ≡ cell (head 2 0 0 0) (count columns)
+          first =
+              ap (λ l. getD l (a .base + limit) blank) ee
+              ∙ getD-set-same ds (a .base + limit) (cell h (m .len)) blank (omega (arith, current .scratch, behind .long))
+              ∙ ap₂ cell he many
 
-        run : span es (a .base + limit) (1 + m .used) ≡ runTable 0 its
-        unfolding span runTable
-        run =
-            let z : 1 + m .used ≡ suc (m .used) = omega arith in
-            ap (span es (a .base + limit)) z ∙ ap₂ (λ (c : Cell) (l : List Cell). c ∷ l) first rest
+          rest : span es (a .base + limit + 1) (m .used) ≡ runColumns columns
+          rest =
+              span-same ds es (m .used) (a .base + limit + 1) (a .base + limit + 1) (λ j lt. headed .above (a .base + limit + 1 + j) (omega arith))
+              ∙ ap₂ (span ds) (sym (got .place)) taken
+              ∙ stand-entries ds levels (m .len) (m .base) (columnRuns columns) (got .runs records b)
 
-        deep : columnsDepth (got .columns) ≤ 8
-        deep = omega (arith, got .flat)
+          run : span es (a .base + limit) (1 + m .used) ≡ runTable 0 (table columns)
+          unfolding span runTable
+          run =
+              let z : 1 + m .used ≡ suc (m .used) = omega arith in
+              ap (span es (a .base + limit)) z ∙ ap₂ (λ (c : Cell) (l : List Cell). c ∷ l) first rest
 
-        pub read-above : RunAbove es limit a (a .base + limit) (1 + m .used)
-        read-above =
-            let long : length (runTable 0 its) ≡ 1 + m .used = ap length (sym run) ∙ length-span es (a .base + limit) (1 + m .used) in
-            let whole = table-whole its 0 deep es (a .base + limit) (ap (span es (a .base + limit)) long ∙ run) in
+        pub read-above : IsBlocks t → RunAbove es limit a (a .base + limit) (1 + m .used)
+        read-above w =
+            let its = table (atDatabase x (w .records)) in
+            let its-run = run (w .records) (w .has) in
+            let long : length (runTable 0 its) ≡ 1 + m .used = ap length (sym its-run) ∙ length-span es (a .base + limit) (1 + m .used) in
+            let whole = table-whole its 0 (database-flat t x (w .records)) es (a .base + limit) (ap (span es (a .base + limit)) long ∙ its-run) in
             record { whole = sym (whole ∙ long); above = omega arith; fits = omega (arith, written .long, current .scratch, got .room .most) }
 
         pub arm-opened : (row : ℕ) (fs : List Cell) (r : Stored) → OpensTable limit es fs a row (x .p1) (a .base + limit) (1 + m .used) r → ReadsTable limit cs fs a t row x r
@@ -163,10 +163,9 @@ module _ (limit : ℕ) (cs : List Cell) (a : IntMap) (t : List ℕ) (x : Row) wh
             record {
               leads = λ meaning records l s read columns j. record {
                 says = λ bound n le held.
-                    (let are = got .are records read in
-                    subst (Tells limit bound fs r) (sym (arm-is limit x row meaning records l s columns j n ∙ ap (λ c. openTable limit row l (table c) n) are))
-                    (o .says l (sym (j .p1)) its 0 deep (λ _. subst (λ c. SortedColumns c 0) are (database-sorted t x records read)) run bound n le
-                    (held-elsewhere limit bound cs (a .base) (a .len) (a .used) n held es (a .base) (behind-same limit cs es a limit current written))));
+                    subst (Tells limit bound fs r) (sym (arm-is limit x row meaning records l s columns j n))
+                    (o .says l (sym (j .p1)) (table (atDatabase x records)) 0 (database-flat t x records) (λ _. database-sorted t x records read) (run records read) bound n le
+                    (held-elsewhere limit bound cs (a .base) (a .len) (a .used) n held es (a .base) (behind-same limit cs es a limit current written)));
                 leaves = o .leaves;
                 frame = frame-then cs es fs (a .base) (limit + limit) (frame-within cs es (a .base + limit) limit (a .base) (limit + limit) (omega arith) (omega arith) written) (o .frame);
               };

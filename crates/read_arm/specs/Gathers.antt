@@ -1,18 +1,16 @@
--- OpenRead and OpenWrite: the columns that the catalogue's text has for a row's database and page, gathered in the area as runs in the order of
--- their numbers, and the arm. P3 is the database and P2 the page. Assumes nothing.
+-- OpenRead and OpenWrite: the columns that the catalogue's records have for a row's database and page, gathered in the area as runs in the order
+-- of their numbers, and the arm. P3 is the database and P2 the page. The records are in the blocks' bytes. Assumes nothing.
 use mathlib.Core.Path.{_≡_}
 use mathlib.Core.Bool.{_||_}
-use mathlib.Core.Option.{some}
-use mathlib.Core.List.{List, [], _∷_}
+use mathlib.Core.List.{List}
 use Prim.Native.Nat.{ℕ, _<_}
 use lib.IntN.{ℤ, pos}
 use Rattle.model.specs.Row.{Row as Listed}
 use Rattle.model.specs.IntMap.{Entry}
 use Rattle.model.specs.State.{ColumnType, Columns, asColumns}
 use Rattle.model.specs.Equality.{eqInt, isZeroInt}
-use Rattle.model.specs.Cells.{columnsCells, columnsDepth}
-use Rattle.model.specs.Catalogue.{CatalogueRecord, recordColumn, isFor, addIf, columnsAt}
-use Rattle.model.specs.CatalogueText.{readCatalogue}
+use Rattle.model.specs.Cells.{columnsCells}
+use Rattle.model.specs.Catalogue.{CatalogueRecord, isFor, addIf, columnsAt}
 use Rattle.model.specs.Meaning.{Meaning}
 use Rattle.model.specs.Operation.{opOpenRead}
 use Rattle.model.specs.CursorArms.{columnsIf, cursorArm}
@@ -24,21 +22,17 @@ use Rattle.intmap.specs.declared.IntMap.{IntMap}
 use Rattle.intmap.specs.declared.Insertion.{Insertion}
 use Rattle.intmap.specs.declared.Insertion.the-variants as insertion
 use Rattle.intmap.specs.declared.Stored.{Stored}
-use Rattle.encoding.specs.Encode.{runColumn, columnRuns}
+use Rattle.encoding.specs.Encode.{columnRuns}
 use Rattle.rows.specs.Judged.{Judged}
 use Rattle.rows.specs.declared.Row.{Row}
 use Rattle.state.specs.Leads.{Leads}
 use Rattle.state.specs.Arms.{Standard}
-use Rattle.catalogue.specs.Records.{recordIn}
-use Rattle.catalogue.specs.declared.Record.{Record}
+use Rattle.root_block.specs.Blocks.{IsBlock, HasBlocks}
 
--- a cell is the run of a record's column
-abbrev pub IsColumn : List ℕ → Record → Cell → Type 0
-IsColumn t r c = c ∷ [] ≡ runColumn (r .col) (recordColumn (recordIn t r))
-
--- of any columns that the map holds, it then holds those with the record's, if the record is one for the row; they may be too many
-pub record Adds (limit : ℕ) (cs ds : List Cell) (m : IntMap) (t : List ℕ) (r : Record) (x : Row) (y : Insertion) : Type 0 where
-  pub answer : (es : List (Entry ColumnType)) → runsAt cs m ≡ columnRuns (asColumns es) → answerOf ds y ≡ judgeRuns limit (columnRuns (asColumns (addIf (isFor (intOf (x .p3)) (intOf (x .p2)) (recordIn t r)) (recordIn t r) es)))
+-- of any columns that the map holds, it then holds those with the column of the record in a cell, if the record is one for the row; they may be
+-- too many
+pub record Adds (limit : ℕ) (cs ds : List Cell) (m : IntMap) (c : Cell) (x : Row) (y : Insertion) : Type 0 where
+  pub answer : (r : CatalogueRecord) → IsBlock c r → (es : List (Entry ColumnType)) → runsAt cs m ≡ columnRuns (asColumns es) → answerOf ds y ≡ judgeRuns limit (columnRuns (asColumns (addIf (isFor (intOf (x .p3)) (intOf (x .p2)) r) r es)))
   pub leaves : Leaves cs ds limit m y
   pub frame : Frame cs ds (m .base) limit
 
@@ -49,24 +43,21 @@ atPage x records = columnsAt records (intOf (x .p3)) (intOf (x .p2))
 abbrev pub atDatabase : Row → List CatalogueRecord → Columns
 atDatabase x records = columnsIf (isZeroInt (intOf (x .p3)) || eqInt (intOf (x .p3)) (pos 1)) (atPage x records)
 
--- the map holds plain columns, which are those that f makes of the text's records, if the text has records
+-- the map holds the columns that f makes of the records in the bytes t
 pub record Gathered (limit : ℕ) (ds : List Cell) (base : ℕ) (t : List ℕ) (f : List CatalogueRecord → Columns) (m : IntMap) : Type 0 where
-  pub columns : Columns
-  pub are : (records : List CatalogueRecord) → readCatalogue t ≡ some records → f records ≡ columns
-  pub flat : columnsDepth columns ≡ 0
-  pub runs : runsAt ds m ≡ columnRuns columns
+  pub runs : (records : List CatalogueRecord) → HasBlocks t records → runsAt ds m ≡ columnRuns (f records)
   pub place : m .base ≡ base
   pub room : HasRoom ds limit m
 
 -- or they are more than `limit` cells
 abbrev pub GathersTo : ℕ → List Cell → ℕ → List ℕ → (List CatalogueRecord → Columns) → Insertion → Type 0
-GathersTo limit ds base t f insertion.Full = (records : List CatalogueRecord) → readCatalogue t ≡ some records → limit < columnsCells (f records)
+GathersTo limit ds base t f insertion.Full = (records : List CatalogueRecord) → HasBlocks t records → limit < columnsCells (f records)
 GathersTo limit ds base t f (insertion.Done m) = Gathered limit ds base t f m
 
 pub record Gathers (limit : ℕ) (cs ds : List Cell) (base : ℕ) (t : List ℕ) (f : List CatalogueRecord → Columns) (r : Insertion) : Type 0 where
   pub answer : GathersTo limit ds base t f r
   pub frame : Frame cs ds base limit
 
--- for every meaning whose columns are those of the catalogue's records, the answer is what the definition's arm gives
+-- for every meaning whose columns are those of the records, the answer is what the definition's arm gives
 pub record ReadsTable (limit : ℕ) (cs ds : List Cell) (a : IntMap) (t : List ℕ) (row : ℕ) (x : Row) (r : Stored) : Type 0 where
-  pub leads : (meaning : Meaning) (records : List CatalogueRecord) (l : Listed) → Standard limit meaning → readCatalogue t ≡ some records → ((db page : ℤ) → meaning .columnsFor db page ≡ columnsAt records db page) → Judged l x → Leads limit cs ds a r (λ m. cursorArm meaning row l m opOpenRead)
+  pub leads : (meaning : Meaning) (records : List CatalogueRecord) (l : Listed) → Standard limit meaning → HasBlocks t records → ((db page : ℤ) → meaning .columnsFor db page ≡ columnsAt records db page) → Judged l x → Leads limit cs ds a r (λ m. cursorArm meaning row l m opOpenRead)

@@ -1,8 +1,8 @@
--- The record's run is built from its end: the column of a register, absent or present, stands below those that stand already; then its head.
+-- The record's run is built column after column: that of a register, absent or present, stands behind those that stand already; then its head.
 -- Assumes nothing.
 use mathlib.Core.Path.{_≡_, refl, sym, ap, ap₂, subst, _∙_}
 use mathlib.Core.Bool.{Bool, true, false}
-use mathlib.Core.Option.{none, some}
+use mathlib.Core.Option.{some}
 use mathlib.Core.List.{List, [], _∷_, flatten}
 use Prim.Native.Nat.{ℕ, zero, suc, _+_, _-_, _<_, _≤_}
 use native.Mathlib.Omega.{arith}
@@ -19,14 +19,14 @@ use Rattle.intmap.specs.Runs.{size, sizes, Agree}
 use Rattle.intmap.specs.Entries.{Runs, span, entries, total}
 use Rattle.intmap.specs.Find.{seek}
 use Rattle.intmap.specs.Swap.{lookup}
-use Rattle.intmap.specs.Map.{levels, runsAt, IsMap, Frame}
+use Rattle.intmap.specs.Map.{levels, runsAt, Frame}
 use Rattle.intmap.specs.Change.{onHead, rekey, rekeyed}
 use Rattle.intmap.specs.declared.Found.{Found}
 use Rattle.intmap.specs.declared.IntMap.{IntMap}
 use Rattle.intmap.proofs.RunLaws.{size-single, size-record, size-pos}
 use Rattle.intmap.proofs.EntryLaws.{span-same, length-span, total-sizes, entries-same}
 use Rattle.intmap.proofs.SameCells.{copied, agree-head, size-same, sizes-same}
-use Rattle.intmap.proofs.MapLaws.{copied-frame, copied-agree, placed-map, placed-runs}
+use Rattle.intmap.proofs.MapLaws.{copied-frame, copied-agree}
 use Rattle.intmap.proofs.FindLaws.{found-whole}
 use Rattle.intmap.proofs.Swapped.{seek-some, seek-none}
 use Rattle.intmap.proofs.ChangeLaws.{with-size, total-rekeyed}
@@ -35,9 +35,12 @@ use Rattle.encoding.specs.Heads.{asColumn}
 use Rattle.encoding.specs.Changes.{columnRun}
 use Rattle.encoding.proofs.Standing.{entries-flat}
 use Rattle.state.specs.Leads.{Current}
-use Rattle.record_arms.specs.Records.{runsFrom, Flat, Put, PutOr, PutsColumn, Laid, LaidOr, PutsColumns, BuildsRecord}
+use Rattle.record_arms.specs.Records.{runsFrom, Flat, Puttable, Ahead, PutOr, PutsColumn, Laid, LaidOr, PutsColumns, BuildsRecord}
 use Rattle.record_arms.specs.declared.Room.{Room}
 use Rattle.record_arms.specs.declared.Room.the-variants as room
+use Rattle.record_arms.specs.declared.Step.{Step}
+use Rattle.record_arms.specs.declared.Step.the-variants as step
+use Rattle.record_arms.proofs.SearchLaws.{seek-left, ahead-there, ahead-behind}
 
 -- ---- frames
 
@@ -101,273 +104,300 @@ column-long (c ∷ run) = refl
 
 -- ---- the column of a register
 
-module _ (cs : List Cell) (a : IntMap) (k key low to : ℕ) (is : IsMap cs a) (found : ℕ) (ke : found ≡ classKey 0 k) (w : Found) (we : w ≡ seek cs levels found (a .len) (a .base))
-    (below : a .base + a .used ≤ low) (le : low ≤ to) (ends : to ≤ length cs)
-  where
-    there : w ≡ seek cs levels (classKey 0 k) (a .len) (a .base)
-    there = we ∙ ap (λ z. seek cs levels z (a .len) (a .base)) ke
+module _ (cs : List Cell) (at left k key to end : ℕ) (ok : Puttable cs at left k to end) (found : ℕ) (ke : found ≡ classKey 0 k) (w : Found) (we : w ≡ seek cs levels found left at) where
+  abbrev runs : Runs
+  runs = entries cs levels left at
 
-    present-is : (b : Bool) → w .present ≡ b → seek cs levels (classKey 0 k) (a .len) (a .base) .present ≡ b
-    present-is b e = ap (λ (v : Found). v .present) (sym there) ∙ e
+  there : w ≡ seek cs levels (classKey 0 k) left at
+  there = we ∙ ap (λ z. seek cs levels z left at) ke
 
-    -- it is absent
-    module _ (e : w .present ≡ false) where
-      gone : lookup (classKey 0 k) (runsAt cs a) ≡ none
-      gone = seek-none cs levels (classKey 0 k) (a .len) (a .base) (present-is false e)
+  present-is : (b : Bool) → w .present ≡ b → seek cs levels (classKey 0 k) left at .present ≡ b
+  present-is b e = ap (λ (v : Found). v .present) (sym there) ∙ e
 
-      its-one : columnRun (lookup (classKey 0 k) (runsAt cs a)) ≡ single 0 0 0 ∷ []
-      unfolding runColumn
-      its-one = ap columnRun gone
+  -- it is absent
+  module _ (e : w .present ≡ false) where
+    its-one : columnRun (lookup (classKey 0 k) runs) ≡ single 0 0 0 ∷ []
+    unfolding runColumn
+    its-one = ap columnRun (seek-none cs levels (classKey 0 k) left at (present-is false e))
 
-      pub absent-full : to ≤ low → PutsColumn cs cs a k key low to room.Full
-      absent-full h = record { answer = omega (arith, ap length its-one); frame = frame-none cs low (to - low) }
+    pub absent-full : end ≤ to → PutsColumn cs cs at left k key to end step.Full
+    absent-full h = record { answer = omega (arith, ap length its-one); frame = frame-none cs to (end - to) }
 
-      module _ (ds : List Cell) (c x : Cell) (ce : c ≡ single 0 0 0) (xe : x ≡ withKey key c) (de : ds ≡ set cs (to - 1) x) (lt : low < to) where
-        default-here : getD ds (to - 1) blank ≡ withKey key (single 0 0 0)
-        default-here = ap (λ l. getD l (to - 1) blank) de ∙ getD-set-same cs (to - 1) x blank (omega arith) ∙ xe ∙ ap (withKey key) ce
+    module _ (ds : List Cell) (c x : Cell) (ce : c ≡ single 0 0 0) (xe : x ≡ withKey key c) (de : ds ≡ set cs to x) (lt : to < end) where
+      default-here : getD ds to blank ≡ withKey key (single 0 0 0)
+      default-here = ap (λ l. getD l to blank) de ∙ getD-set-same cs to x blank (omega (arith, ok .fits)) ∙ xe ∙ ap (withKey key) ce
 
-        default-size : size ds 8 (to - 1) ≡ 1
-        default-size = sym (size-single ds 8 (to - 1) (withKey key (single 0 0 0)) (sym default-here) (omega arith))
+      default-size : size ds 8 to ≡ 1
+      default-size = sym (size-single ds 8 to (withKey key (single 0 0 0)) (sym default-here) (omega arith))
 
-        default-span : span ds (to - 1) 1 ≡ withKey key (single 0 0 0) ∷ []
-        unfolding span
-        default-span = ap (λ y. y ∷ []) default-here
+      default-span : span ds to 1 ≡ withKey key (single 0 0 0) ∷ []
+      unfolding span
+      default-span = ap (λ y. y ∷ []) default-here
 
-        pub absent-put : PutsColumn cs ds a k key low to (room.At (to - 1))
-        absent-put =
-            record {
-              answer =
-                  record {
-                    above = omega arith;
-                    ends = omega (arith, default-size);
-                    run = ap (span ds (to - 1)) default-size ∙ default-span ∙ sym (ap (rekey key) its-one);
-                  };
-              frame = frame-within cs ds (to - 1) 1 low (to - low) (omega arith) (omega arith) (frame-set cs ds (to - 1) x de);
-            }
+      pub absent-put : PutsColumn cs ds at left k key to end (step.Next (to + 1) (w .at) (w .left))
+      absent-put =
+          record {
+            answer = (
+              record { within = omega arith; ends = omega (arith, default-size); run = ap (span ds to) default-size ∙ default-span ∙ sym (ap (rekey key) its-one) },
+              subst (λ (v : Found). Ahead cs at left k (v .at) (v .left)) (sym there) (ahead-there cs at left k),
+            );
+            frame = frame-within cs ds to 1 to (end - to) (omega arith) (omega arith) (frame-set cs ds to x de);
+          }
 
-    -- it is present, and takes n cells
-    module _ (e : w .present ≡ true) (n : ℕ) (counted : n ≡ size cs levels (w .at)) where
-      run-found : lookup (classKey 0 k) (runsAt cs a) ≡ some (span cs (w .at) n)
+  -- it is present
+  module _ (e : w .present ≡ true) where
+    pub present-within : w .at + size cs levels (w .at) ≤ to
+    present-within = omega (arith, found-whole cs levels found left at w we e, ok .below)
+
+    pub present-left : 0 < w .left
+    present-left = subst (λ (v : Found). 0 < v .left) (sym there) (seek-left cs levels (classKey 0 k) left at (present-is true e))
+
+    -- and takes n cells
+    module _ (n : ℕ) (counted : n ≡ size cs levels (w .at)) where
+      run-found : lookup (classKey 0 k) runs ≡ some (span cs (w .at) n)
       run-found =
-          seek-some cs levels (classKey 0 k) (a .len) (a .base) (present-is true e)
+          seek-some cs levels (classKey 0 k) left at (present-is true e)
           ∙ ap (λ (v : Found). some (span cs (v .at) (size cs levels (v .at)))) (sym there) ∙ ap (λ z. some (span cs (w .at) z)) (sym counted)
 
-      pub present-within : w .at + n ≤ low
-      present-within = omega (arith, found-whole cs levels found (a .len) (a .base) w we e, is .used)
-
-      pub present-some : 0 < n
+      present-some : 0 < n
       present-some = omega (arith, size-pos cs levels (w .at))
 
-      its-run : columnRun (lookup (classKey 0 k) (runsAt cs a)) ≡ columnRun (some (span cs (w .at) n))
+      its-run : columnRun (lookup (classKey 0 k) runs) ≡ columnRun (some (span cs (w .at) n))
       its-run = ap columnRun run-found
 
-      pub present-full : to < low + n → PutsColumn cs cs a k key low to room.Full
+      behind : Ahead cs at left k (w .at + n) (w .left - 1)
+      behind =
+          subst (λ z. Ahead cs at left k (w .at + z) (w .left - 1)) (sym counted)
+          (subst (λ (v : Found). Ahead cs at left k (v .at + size cs levels (v .at)) (v .left - 1)) (sym there) (ahead-behind cs at left k (present-is true e)))
+
+      pub present-full : end < to + n → PutsColumn cs cs at left k key to end step.Full
       present-full h =
           record {
             answer = omega (arith, ap length its-run, column-long (span cs (w .at) n), length-span cs (w .at) n);
-            frame = frame-none cs low (to - low);
+            frame = frame-none cs to (end - to);
           }
 
-      module _ (flat : Flat k (runsAt cs a)) (fits : low + n ≤ to) (es ds : List Cell) (c y x : Cell) (ce : c ≡ getD cs (w .at) blank) (ye : y ≡ asColumn c) (xe : x ≡ withKey key y)
-          (ee : es ≡ moved cs (w .at) (to - n) n) (de : ds ≡ set es (to - n) x)
-        where
-          agree : Agree cs (w .at) es (to - n) n
-          agree = copied-agree cs es (w .at) (to - n) n n (copied refl ee) (omega arith)
+      module _ (fits : to + n ≤ end) (es ds : List Cell) (c y x : Cell) (ce : c ≡ getD cs (w .at) blank) (ye : y ≡ asColumn c) (xe : x ≡ withKey key y) (ee : es ≡ moved cs (w .at) to n) (de : ds ≡ set es to x) where
+        agree : Agree cs (w .at) es to n
+        agree = copied-agree cs es (w .at) to n n (copied refl ee) (omega (arith, ok .fits))
 
-          moved-frame : Frame cs es (to - n) n
-          moved-frame = copied-frame cs es (w .at) (to - n) n n (copied refl ee)
+        moved-frame : Frame cs es to n
+        moved-frame = copied-frame cs es (w .at) to n n (copied refl ee)
 
-          stands : span es (to - n) n ≡ span cs (w .at) n
-          stands = span-same cs es n (w .at) (to - n) agree
+        stands : span es to n ≡ span cs (w .at) n
+        stands = span-same cs es n (w .at) to agree
 
-          moved-size : size es 8 (to - n) ≡ n
-          moved-size = flat (span cs (w .at) n) run-found es (to - n) (ap (span es (to - n)) (length-span cs (w .at) n) ∙ stands) ∙ length-span cs (w .at) n
+        moved-size : size es 8 to ≡ n
+        moved-size = ok .flat (span cs (w .at) n) run-found es to (ap (span es to) (length-span cs (w .at) n) ∙ stands) ∙ length-span cs (w .at) n
 
-          first : getD es (to - n) blank ≡ getD cs (w .at) blank
-          first = agree-head cs es (w .at) (to - n) n present-some agree
+        first : getD es to blank ≡ getD cs (w .at) blank
+        first = agree-head cs es (w .at) to n present-some agree
 
-          written : ds ≡ set es (to - n) (withKey key (asColumn (getD es (to - n) blank)))
-          written = de ∙ ap (set es (to - n)) (xe ∙ ap (λ z. withKey key z) (ye ∙ ap (λ z. asColumn z) (ce ∙ sym first)))
+        written : ds ≡ set es to (withKey key (asColumn (getD es to blank)))
+        written = de ∙ ap (set es to) (xe ∙ ap (λ z. withKey key z) (ye ∙ ap (λ z. asColumn z) (ce ∙ sym first)))
 
-          inside : to - n < length es
-          inside = omega (arith, moved-frame .long, present-some)
+        inside : to < length es
+        inside = omega (arith, moved-frame .long, present-some, ok .fits)
 
-          put-size : size ds 8 (to - n) ≡ n
-          put-size = head-size es ds (to - n) key inside written 8 ∙ moved-size
+        put-size : size ds 8 to ≡ n
+        put-size = head-size es ds to key inside written 8 ∙ moved-size
 
-          pub present-put : PutsColumn cs ds a k key low to (room.At (to - n))
-          present-put =
-              record {
-                answer =
-                    record {
-                      above = omega arith;
-                      ends = omega (arith, put-size);
-                      run =
-                          ap (span ds (to - n)) put-size ∙ head-span es ds (to - n) key inside written n present-some
-                          ∙ ap (λ r. rekey key (rekey 0 (onHead asColumn r))) stands ∙ sym (ap (rekey key) its-run);
-                    };
-                frame =
-                    frame-then cs es ds low (to - low) (frame-within cs es (to - n) n low (to - low) (omega arith) (omega arith) moved-frame)
-                    (frame-within es ds (to - n) 1 low (to - low) (omega arith) (omega (arith, present-some)) (frame-set es ds (to - n) x de));
-              }
+        pub present-put : PutsColumn cs ds at left k key to end (step.Next (to + n) (w .at + n) (w .left - 1))
+        present-put =
+            record {
+              answer = (
+                record {
+                  within = fits;
+                  ends = omega (arith, put-size);
+                  run =
+                      ap (span ds to) put-size ∙ head-span es ds to key inside written n present-some
+                      ∙ ap (λ r. rekey key (rekey 0 (onHead asColumn r))) stands ∙ sym (ap (rekey key) its-run);
+                },
+                behind,
+              );
+              frame =
+                  frame-then cs es ds to (end - to) (frame-within cs es to n to (end - to) (omega arith) (omega arith) moved-frame)
+                  (frame-within es ds to 1 to (end - to) (omega arith) (omega (arith, present-some)) (frame-set es ds to x de));
+            }
 
--- ---- the columns of registers, the last first
+-- ---- the columns of registers, one after the other
 
-pub laid-first : (cs : List Cell) (es : Runs) (first n low to : ℕ) → low ≤ to → Laid cs es (first + n) n (n - n) low to to
+-- with one more at their end
+grown : (ds : List Cell) (es : Runs) (n k j p q : ℕ) → p + sizes (size ds 8) n p ≡ q → entries ds 8 n p ≡ rekeyed j (runsFrom n k es) → span ds q (size ds 8 q) ≡ rekey (j + n) (columnRun (lookup (classKey 0 (k + n)) es)) → entries ds 8 (suc n) p ≡ rekeyed j (runsFrom (suc n) k es)
 unfolding sizes entries runsFrom rekeyed
-laid-first cs es first n low to le =
-    let z : 0 ≡ n - n = omega arith in
-    subst (λ c. Laid cs es (first + n) n c low to to) z (record { above = le; ends = omega arith; runs = refl })
+grown ds es zero k j p q at e r =
+    let x : p ≡ q = omega arith in
+    let y : j + 0 ≡ j = omega arith in
+    let z : k + 0 ≡ k = omega arith in
+    ap (λ l. l ∷ []) (ap (λ t. span ds t (size ds 8 t)) x ∙ r ∙ ap₂ (λ (s t : ℕ). rekey s (columnRun (lookup (classKey 0 t) es))) y z)
+grown ds es (suc n) k j p q at e r =
+    let head : span ds p (size ds 8 p) ≡ rekey j (columnRun (lookup (classKey 0 k) es)) = cc in
+    let rest : entries ds 8 n (p + size ds 8 p) ≡ rekeyed (suc j) (runsFrom n (suc k) es) = cc in
+    let y : j + suc n ≡ suc j + n = omega arith in
+    let z : k + suc n ≡ suc k + n = omega arith in
+    ap₂ (λ (l : List Cell) (ls : Runs). l ∷ ls) head
+    (grown ds es n (suc k) (suc j) (p + size ds 8 p) q (omega arith) rest (r ∙ ap₂ (λ (s t : ℕ). rekey s (columnRun (lookup (classKey 0 t) es))) y z))
 
-module _ (ds fs : List Cell) (es : Runs) (k j n low to p q : ℕ) (laid : Laid ds es (suc k) (suc j) n low to p) (put : Put fs es k j low p q) (frame : Frame ds fs low (p - low)) where
-  kept : Agree ds p fs p (sizes (size ds 8) n p)
-  kept i lt = frame .above (p + i) (omega (arith, laid .above))
+sizes-grown : (f : ℕ → ℕ) (n p : ℕ) → sizes f (suc n) p ≡ sizes f n p + f (p + sizes f n p)
+unfolding sizes
+sizes-grown f zero p =
+    let x : p + 0 ≡ p = omega arith in
+    rw x (omega arith)
+sizes-grown f (suc n) p =
+    let x : p + (f p + sizes f n (p + f p)) ≡ p + f p + sizes f n (p + f p) = omega arith in
+    rw x (omega (arith, sizes-grown f n (p + f p)))
 
-  laid-more : Laid fs es k j (suc n) low to q
-  unfolding sizes entries runsFrom rekeyed
-  laid-more =
-      let s : sizes (size fs 8) n (q + size fs 8 q) ≡ sizes (size ds 8) n p = ap (sizes (size fs 8) n) (put .ends) ∙ sizes-same (size ds 8) (size fs 8) ds fs (size-same ds fs 8) n p p kept in
-      record {
-        above = put .above;
-        ends = omega (arith, s, put .ends, laid .ends);
-        runs = ap₂ (λ (r : List Cell) (rs : Runs). r ∷ rs) (put .run) (ap (entries fs 8 n) (put .ends) ∙ entries-same ds fs 8 n p p kept ∙ laid .runs);
-      }
-
--- a turn of the loop
-pub laid-turn : (ds fs : List Cell) (es : Runs) (first n left low to p q : ℕ) → 0 < left → left ≤ n → Laid ds es (first + left) left (n - left) low to p → Put fs es (first + (left - 1)) (left - 1) low p q → Frame ds fs low (p - low) → Laid fs es (first + (left - 1)) (left - 1) (n - (left - 1)) low to q
-laid-turn ds fs es first n zero low to p q lt le laid put frame = absurd (omega arith)
-laid-turn ds fs es first n (suc l) low to p q lt le laid put frame =
-    let z : suc l - 1 ≡ l = omega arith in
-    let x : first + suc l ≡ suc (first + l) = omega arith in
-    let y : suc (n - suc l) ≡ n - l = omega arith in
-    subst (λ t. Laid fs es (first + t) t (n - t) low to q) (sym z)
-    (subst (λ t. Laid fs es (first + l) l t low to q) y
-    (laid-more ds fs es (first + l) l (n - suc l) low to p q (subst (λ t. Laid ds es t (suc l) (n - suc l) low to p) x laid) (subst (λ t. Put fs es (first + t) t low p q) z put) frame))
-
--- those from a later register on take no more cells
-tail-total : (es : Runs) (l n first : ℕ) → total (runsFrom n (first + l) es) ≤ total (runsFrom (l + n) first es)
+-- the first i of n, and the next, take no more cells than all
+first-total : (es : Runs) (i n k : ℕ) → i < n → total (runsFrom i k es) + length (columnRun (lookup (classKey 0 (k + i)) es)) ≤ total (runsFrom n k es)
 unfolding runsFrom total
-tail-total es zero n first =
-    let x : first + 0 ≡ first = omega arith in
-    let y : 0 + n ≡ n = omega arith in
-    rw (x, y) (omega arith)
-tail-total es (suc l) n first =
-    let x : first + suc l ≡ suc first + l = omega arith in
-    let y : suc l + n ≡ suc (l + n) = omega arith in
-    rw (x, y) (omega (arith, tail-total es l n (suc first)))
+first-total es zero zero k lt = absurd (omega arith)
+first-total es (suc i) zero k lt = absurd (omega arith)
+first-total es zero (suc n) k lt =
+    let x : k + 0 ≡ k = omega arith in
+    rw x (omega arith)
+first-total es (suc i) (suc n) k lt =
+    let x : k + suc i ≡ suc k + i = omega arith in
+    rw x (omega (arith, first-total es i n (suc k) (omega arith)))
 
-laid-cells : (ds : List Cell) (es : Runs) (k j n low to p : ℕ) → Laid ds es k j n low to p → p + total (runsFrom n k es) ≡ to
-laid-cells ds es k j n low to p laid =
-    let c : sizes (size ds 8) n p ≡ total (runsFrom n k es) = total-sizes ds 8 n p ∙ ap total (laid .runs) ∙ total-rekeyed j (runsFrom n k es) in
+laid-cells : (ds : List Cell) (es : Runs) (k n low end q : ℕ) → Laid ds es k n low end q → low + total (runsFrom n k es) ≡ q
+laid-cells ds es k n low end q laid =
+    let c : sizes (size ds 8) n low ≡ total (runsFrom n k es) = total-sizes ds 8 n low ∙ ap total (laid .runs) ∙ total-rekeyed 0 (runsFrom n k es) in
     omega (arith, c, laid .ends)
 
-pub laid-full : (ds : List Cell) (es : Runs) (first n left low to p : ℕ) → 0 < left → left ≤ n → Laid ds es (first + left) left (n - left) low to p → p < low + length (columnRun (lookup (classKey 0 (first + (left - 1))) es)) → to < low + total (runsFrom n first es)
-laid-full ds es first n zero low to p lt le laid over = absurd (omega arith)
-laid-full ds es first n (suc l) low to p lt le laid over =
-    let z : suc l - 1 ≡ l = omega arith in
-    let x : first + suc l ≡ suc (first + l) = omega arith in
-    let y : l + suc (n - suc l) ≡ n = omega arith in
-    let rest = laid-cells ds es (suc (first + l)) (suc l) (n - suc l) low to p (subst (λ t. Laid ds es t (suc l) (n - suc l) low to p) x laid) in
-    let here : p < low + length (columnRun (lookup (classKey 0 (first + l)) es)) = subst (λ t. p < low + length (columnRun (lookup (classKey 0 (first + t)) es))) z over in
-    let all : total (runsFrom (suc (n - suc l)) (first + l) es) ≤ total (runsFrom n first es) = subst (λ t. total (runsFrom (suc (n - suc l)) (first + l) es) ≤ total (runsFrom t first es)) y (tail-total es l (suc (n - suc l)) first) in
-    omega (arith, rest, here, all, opened (n - suc l) (first + l))
-  where
-    opened : (c k : ℕ) → total (runsFrom (suc c) k es) ≡ length (columnRun (lookup (classKey 0 k) es)) + total (runsFrom c (suc k) es)
-    opened c k = unfold runsFrom total in refl
+-- k of them stand from `low` on up to `to`, and the entries from `at` on have the registers after them
+pub record Going (cs ds : List Cell) (es : Runs) (first k low end to at left : ℕ) : Type 0 where
+  pub laid : Laid ds es first k low end to
+  pub below : at + sizes (size ds levels) left at ≤ low
+  pub same : (j : ℕ) → first + k ≤ j → lookup (classKey 0 j) (entries ds levels left at) ≡ lookup (classKey 0 j) es
+  pub frame : Frame cs ds low (end - low)
 
--- the map is as it was
-module _ (cs ds : List Cell) (a : IntMap) (low n : ℕ) (frame : Frame cs ds low n) (below : a .base + a .used ≤ low) where
-  pub map-agree : Agree cs (a .base) ds (a .base) (a .used)
-  map-agree j lt = frame .below (a .base + j) (omega arith)
-
-  pub map-kept : IsMap cs a → IsMap ds a
-  map-kept is = placed-map cs ds a (a .base) is map-agree (frame .long) (omega (arith, frame .long, is .inside))
-
-  pub runs-kept : IsMap cs a → runsAt ds a ≡ runsAt cs a
-  runs-kept is = placed-runs cs ds a (a .base) is map-agree
+pub going-first : (cs : List Cell) (base len first low end : ℕ) → base + sizes (size cs levels) len base ≤ low → low ≤ end → Going cs cs (entries cs levels len base) first 0 low end low base len
+unfolding sizes entries runsFrom rekeyed
+going-first cs base len first low end below le =
+    record {
+      laid = record { within = le; ends = omega arith; runs = refl };
+      below = below;
+      same = λ j h. refl;
+      frame = frame-none cs low (end - low);
+    }
 
 -- where the loop is
-module _ (cs ds : List Cell) (a : IntMap) (first n left low to p : ℕ) (is : IsMap cs a) (below : a .base + a .used ≤ low) (frame : Frame cs ds low (to - low))
-    (laid : Laid ds (runsAt cs a) (first + left) left (n - left) low to p)
-  where
-    pub still-flat : (k : ℕ) → Flat k (runsAt cs a) → Flat k (runsAt ds a)
-    still-flat k flat = subst (λ es. Flat k es) (sym (runs-kept cs ds a low (to - low) frame below is)) flat
+module _ (cs ds : List Cell) (es : Runs) (first k low end to at left : ℕ) (going : Going cs ds es first k low end to at left) where
+  pub going-puttable : end ≤ length cs → length cs ≤ 1048576 → Flat (first + k) es → Puttable ds at left (first + k) to end
+  going-puttable fits small flat =
+      record {
+        below = omega (arith, going .below, going .laid .ends);
+        ordered = going .laid .within;
+        fits = omega (arith, going .frame .long);
+        small = omega (arith, going .frame .long);
+        flat = λ run e. flat run (sym (going .same (first + k) (omega arith)) ∙ e);
+      }
 
-    pub laid-within : p ≤ to
-    laid-within = omega (arith, laid .ends)
+  -- a turn
+  module _ (fs : List Cell) (x : Step) (puts : PutsColumn ds fs at left (first + k) k to end x) where
+    framed : Frame cs fs low (end - low)
+    framed =
+        frame-then cs ds fs low (end - low) (going .frame)
+        (frame-within ds fs to (end - to) low (end - low) (omega (arith, going .laid .ends)) (omega (arith, going .laid .ends, going .laid .within)) (puts .frame))
 
-    module _ (lt : 0 < left) (le : left ≤ n) (fs : List Cell) (x : Room) (puts : PutsColumn ds fs a (first + (left - 1)) (left - 1) low p x) where
-      framed : Frame cs fs low (to - low)
-      framed =
-          frame-then cs ds fs low (to - low) frame
-          (frame-within ds fs low (p - low) low (to - low) (omega arith) (omega (arith, laid-within, laid .above)) (puts .frame))
+    its-column : columnRun (lookup (classKey 0 (first + k)) (entries ds levels left at)) ≡ columnRun (lookup (classKey 0 (first + k)) es)
+    its-column = ap columnRun (going .same (first + k) (omega arith))
 
-      answered : PutOr fs (runsAt cs a) (first + (left - 1)) (left - 1) low p x
-      answered = subst (λ es. PutOr fs es (first + (left - 1)) (left - 1) low p x) (runs-kept cs ds a low (to - low) frame below is) (puts .answer)
-
-      pub turn-done : (q : ℕ) → x ≡ room.At q → Laid fs (runsAt cs a) (first + (left - 1)) (left - 1) (n - (left - 1)) low to q × Frame cs fs low (to - low)
-      turn-done q e = (laid-turn ds fs (runsAt cs a) first n left low to p q lt le laid (subst (PutOr fs (runsAt cs a) (first + (left - 1)) (left - 1) low p) e answered) (puts .frame), framed)
-
-      pub turn-full : x ≡ room.Full → PutsColumns cs fs a first n low to room.Full
-      turn-full e = record { answer = laid-full ds (runsAt cs a) first n left low to p lt le laid (subst (PutOr fs (runsAt cs a) (first + (left - 1)) (left - 1) low p) e answered); frame = framed }
-
-    pub turns-end : left ≤ 0 → PutsColumns cs ds a first n low to (room.At p)
-    turns-end h =
-        let z : left ≡ 0 = omega arith in
-        let x : first + 0 ≡ first = omega arith in
-        let y : n - 0 ≡ n = omega arith in
+    pub going-full : (n : ℕ) → k < n → x ≡ step.Full → PutsColumns cs fs es first n low end room.Full
+    going-full n lt e =
+        let over : end < to + length (columnRun (lookup (classKey 0 (first + k)) (entries ds levels left at))) = subst (PutOr ds fs at left (first + k) k to end) e (puts .answer) in
         record {
-          answer = subst (λ c. Laid ds (runsAt cs a) first 0 c low to p) y (subst (λ k. Laid ds (runsAt cs a) k 0 (n - 0) low to p) x (subst (λ l. Laid ds (runsAt cs a) (first + l) l (n - l) low to p) z laid));
-          frame = frame;
+          answer = omega (arith, over, ap length its-column, laid-cells ds es first k low end to (going .laid), first-total es k n first lt);
+          frame = framed;
         }
+
+    module _ (q p l : ℕ) (e : x ≡ step.Next q p l) where
+      told : PutOr ds fs at left (first + k) k to end (step.Next q p l)
+      told = subst (PutOr ds fs at left (first + k) k to end) e (puts .answer)
+
+      kept : Agree ds low fs low (sizes (size ds 8) k low)
+      kept i lt = puts .frame .below (low + i) (omega (arith, going .laid .ends))
+
+      sizes-kept : sizes (size fs 8) k low ≡ sizes (size ds 8) k low
+      sizes-kept = sizes-same (size ds 8) (size fs 8) ds fs (size-same ds fs 8) k low low kept
+
+      ends-kept : low + sizes (size fs 8) k low ≡ to
+      ends-kept = omega (arith, sizes-kept, going .laid .ends)
+
+      laid-on : Laid fs es first (suc k) low end q
+      laid-on =
+          let y : 0 + k ≡ k = omega arith in
+          let f = ap (size fs 8) ends-kept in
+          record {
+            within = told .0 .within;
+            ends = omega (arith, sizes-grown (size fs 8) k low, f, ends-kept, told .0 .ends);
+            runs =
+                grown fs es k first 0 low to ends-kept (entries-same ds fs 8 k low low kept ∙ going .laid .runs)
+                (told .0 .run ∙ ap (rekey k) its-column ∙ ap (λ t. rekey t (columnRun (lookup (classKey 0 (first + k)) es))) (sym y));
+          }
+
+      rest-kept : Agree ds p fs p (sizes (size ds levels) l p)
+      rest-kept i lt = puts .frame .below (p + i) (omega (arith, told .1 .below, going .below, going .laid .ends))
+
+      pub going-on : Going cs fs es first (k + 1) low end q p l
+      going-on =
+          let s = sizes-same (size ds levels) (size fs levels) ds fs (size-same ds fs levels) l p p rest-kept in
+          let z : suc k ≡ k + 1 = omega arith in
+          record {
+            laid = subst (λ m. Laid fs es first m low end q) z laid-on;
+            below = omega (arith, s, told .1 .below, going .below);
+            same = λ j h.
+                (ap (lookup (classKey 0 j)) (entries-same ds fs levels l p p rest-kept) ∙ told .1 .same j (omega arith) ∙ going .same j (omega arith));
+            frame = framed;
+          }
+
+  pub going-end : (n : ℕ) → k ≡ n → PutsColumns cs ds es first n low end (room.At to)
+  going-end n e = record { answer = subst (λ m. Laid ds es first m low end to) e (going .laid); frame = going .frame }
 
 -- ---- the record
 
-module _ (cs ds fs : List Cell) (a : IntMap) (k n limit p : ℕ) (laid : Laid ds (runsAt cs a) k 0 n (a .base + limit + 1) (a .base + limit + limit) p) (inside : p ≤ length ds)
-    (before : Frame cs ds (a .base + limit + 1) (a .base + limit + limit - (a .base + limit + 1))) (written : fs ≡ set ds (p - 1) (cell 2 n))
+-- its head stands before its columns
+module _ (cs ds fs : List Cell) (a : IntMap) (k n limit q : ℕ) (laid : Laid ds (runsAt cs a) k n (a .base + limit + 1) (a .base + limit + limit) q) (inside : a .base + limit < length ds)
+    (before : Frame cs ds (a .base + limit + 1) (a .base + limit + limit - (a .base + limit + 1))) (written : fs ≡ set ds (a .base + limit) (cell 2 n))
   where
-    back : p - 1 + 1 ≡ p
-    back = omega (arith, laid .above)
+    abbrev p : ℕ
+    p = a .base + limit
 
-    head-there : getD fs (p - 1) blank ≡ cell 2 n
-    head-there = ap (λ l. getD l (p - 1) blank) written ∙ getD-set-same ds (p - 1) (cell 2 n) blank (omega (arith, laid .above))
+    head-there : getD fs p blank ≡ cell 2 n
+    head-there = ap (λ l. getD l p blank) written ∙ getD-set-same ds p (cell 2 n) blank inside
 
-    set-frame : Frame ds fs (p - 1) 1
-    set-frame = frame-set ds fs (p - 1) (cell 2 n) written
+    set-frame : Frame ds fs p 1
+    set-frame = frame-set ds fs p (cell 2 n) written
 
-    after : Agree ds p fs p (sizes (size ds 8) n p)
-    after j lt = set-frame .above (p + j) (omega (arith, back))
+    after : Agree ds (p + 1) fs (p + 1) (sizes (size ds 8) n (p + 1))
+    after j lt = set-frame .above (p + 1 + j) (omega arith)
 
-    same-runs : entries fs 8 n p ≡ rekeyed 0 (runsFrom n k (runsAt cs a))
-    same-runs = entries-same ds fs 8 n p p after ∙ laid .runs
+    same-runs : entries fs 8 n (p + 1) ≡ rekeyed 0 (runsFrom n k (runsAt cs a))
+    same-runs = entries-same ds fs 8 n (p + 1) (p + 1) after ∙ laid .runs
 
-    same-sizes : sizes (size fs 8) n p ≡ sizes (size ds 8) n p
-    same-sizes = sizes-same (size ds 8) (size fs 8) ds fs (size-same ds fs 8) n p p after
+    same-sizes : sizes (size fs 8) n (p + 1) ≡ sizes (size ds 8) n (p + 1)
+    same-sizes = sizes-same (size ds 8) (size fs 8) ds fs (size-same ds fs 8) n (p + 1) (p + 1) after
 
-    record-size : size fs levels (p - 1) ≡ 1 + sizes (size ds 8) n p
-    record-size =
-        sym (size-record fs levels (p - 1) (cell 2 n) (sym head-there) (omega arith) (omega arith))
-        ∙ ap (λ q. 1 + sizes (size fs 8) n q) back ∙ ap (λ s. 1 + s) same-sizes
+    record-size : size fs levels p ≡ 1 + sizes (size fs 8) n (p + 1)
+    record-size = sym (size-record fs levels p (cell 2 n) (sym head-there) (omega arith) (omega arith))
 
-    record-span : span fs (p - 1) (1 + sizes (size ds 8) n p) ≡ cell 2 n ∷ flatten (rekeyed 0 (runsFrom n k (runsAt cs a)))
+    record-span : span fs p (1 + sizes (size fs 8) n (p + 1)) ≡ cell 2 n ∷ flatten (rekeyed 0 (runsFrom n k (runsAt cs a)))
     unfolding span
     record-span =
-        let z : 1 + sizes (size ds 8) n p ≡ suc (sizes (size ds 8) n p) = omega arith in
-        rw z
-        (ap₂ (λ (c : Cell) (l : List Cell). c ∷ l) head-there
-        (ap (λ q. span fs q (sizes (size ds 8) n p)) back ∙ ap (span fs p) (sym same-sizes) ∙ sym (entries-flat fs 8 n p) ∙ ap (λ l. flatten l) same-runs))
+        let z : 1 + sizes (size fs 8) n (p + 1) ≡ suc (sizes (size fs 8) n (p + 1)) = omega arith in
+        rw z (ap₂ (λ (c : Cell) (l : List Cell). c ∷ l) head-there (sym (entries-flat fs 8 n (p + 1)) ∙ ap (λ l. flatten l) same-runs))
 
-    record-built : 0 < limit → BuildsRecord cs fs a k n limit (room.At (p - 1))
+    record-built : 0 < limit → BuildsRecord cs fs a k n limit (room.At p)
     record-built lt =
         record {
-          answer = record { above = omega (arith, laid .above); ends = omega (arith, record-size, laid .ends, laid .above); run = ap (span fs (p - 1)) record-size ∙ record-span };
+          answer = record { above = omega arith; ends = omega (arith, record-size, same-sizes, laid .ends, laid .within); run = ap (span fs p) record-size ∙ record-span };
           frame =
-              frame-then cs ds fs (a .base + limit) limit (frame-within cs ds (a .base + limit + 1) (a .base + limit + limit - (a .base + limit + 1)) (a .base + limit) limit (omega arith) (omega arith) before)
-              (frame-within ds fs (p - 1) 1 (a .base + limit) limit (omega (arith, laid .above)) (omega (arith, laid .above, laid .ends)) set-frame);
+              frame-then cs ds fs p limit (frame-within cs ds (p + 1) (p + limit - (p + 1)) p limit (omega arith) (omega arith) before)
+              (frame-within ds fs p 1 p limit (omega arith) (omega arith) set-frame);
         }
 
 -- in the words of the code
-module _ (cs ds : List Cell) (a : IntMap) (k n limit : ℕ) (current : Current limit cs a) (lt : 0 < limit) (x : Room) (puts : PutsColumns cs ds a k n (a .base + limit + 1) (a .base + limit + limit) x) where
+module _ (cs ds : List Cell) (a : IntMap) (k n limit : ℕ) (current : Current limit cs a) (lt : 0 < limit) (x : Room) (puts : PutsColumns cs ds (runsAt cs a) k n (a .base + limit + 1) (a .base + limit + limit) x) where
   pub columns-full : x ≡ room.Full → BuildsRecord cs ds a k n limit room.Full
   columns-full e =
       let over : a .base + limit + limit < a .base + limit + 1 + total (runsFrom n k (runsAt cs a)) = subst (LaidOr ds (runsAt cs a) k n (a .base + limit + 1) (a .base + limit + limit)) e (puts .answer) in
@@ -376,15 +406,8 @@ module _ (cs ds : List Cell) (a : IntMap) (k n limit : ℕ) (current : Current l
         frame = frame-within cs ds (a .base + limit + 1) (a .base + limit + limit - (a .base + limit + 1)) (a .base + limit) limit (omega arith) (omega arith) (puts .frame);
       }
 
-  module _ (p : ℕ) (e : x ≡ room.At p) where
-    laid-there : Laid ds (runsAt cs a) k 0 n (a .base + limit + 1) (a .base + limit + limit) p
-    laid-there = subst (LaidOr ds (runsAt cs a) k n (a .base + limit + 1) (a .base + limit + limit)) e (puts .answer)
+  pub columns-inside : a .base + limit < length ds
+  columns-inside = omega (arith, puts .frame .long, current .scratch)
 
-    pub columns-above : a .base + limit < p
-    columns-above = omega (arith, laid-there .above)
-
-    pub columns-inside : p ≤ length ds
-    columns-inside = omega (arith, laid-there .ends, puts .frame .long, current .scratch)
-
-    pub columns-built : (fs : List Cell) → fs ≡ set ds (p - 1) (cell 2 n) → BuildsRecord cs fs a k n limit (room.At (p - 1))
-    columns-built fs written = record-built cs ds fs a k n limit p laid-there columns-inside (puts .frame) written lt
+  pub columns-built : (q : ℕ) → x ≡ room.At q → (fs : List Cell) → fs ≡ set ds (a .base + limit) (cell 2 n) → BuildsRecord cs fs a k n limit (room.At (a .base + limit))
+  columns-built q e fs written = record-built cs ds fs a k n limit q (subst (LaidOr ds (runsAt cs a) k n (a .base + limit + 1) (a .base + limit + limit)) e (puts .answer)) columns-inside (puts .frame) written lt

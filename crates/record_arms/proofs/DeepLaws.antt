@@ -17,7 +17,7 @@ use Rattle.model.specs.Access.{registerColumn}
 use Rattle.model.specs.Good.{GoodRegister, Each}
 use Rattle.area.specs.Cells.{blank}
 use Rattle.area.specs.declared.Cell.{Cell}
-use Rattle.intmap.specs.Pack.{keyOf, classKey}
+use Rattle.intmap.specs.Pack.{tagOf, keyOf, classKey}
 use Rattle.intmap.specs.Pick.{pick}
 use Rattle.intmap.specs.Runs.{size, Agree}
 use Rattle.intmap.specs.Depth.{nesting}
@@ -28,7 +28,7 @@ use Rattle.intmap.specs.declared.IntMap.{IntMap}
 use Rattle.intmap.proofs.RunLaws.{size-pos}
 use Rattle.intmap.proofs.EntryLaws.{key-span, length-span}
 use Rattle.intmap.proofs.SameCells.{size-same}
-use Rattle.intmap.proofs.DepthLaws.{size-deep}
+use Rattle.intmap.proofs.DepthLaws.{nesting-single, size-deep}
 use Rattle.intmap.proofs.Swapped.{seek-some, seek-none}
 use Rattle.encoding.specs.Encode.{runRegister, runCursor, runTable, runMap, runsOf}
 use Rattle.encoding.specs.Holds.{Stands}
@@ -40,55 +40,54 @@ use Rattle.record_arms.specs.Records.{columnsFrom, deepAt, anyDeep, Flat
 
 -- ---- one entry
 
-module _ (cs : List Cell) (low high at : ℕ) where
+module _ (cs : List Cell) (low at : ℕ) where
   abbrev key : ℕ
   key = keyOf (getD cs at blank)
 
-  abbrev by : Bool → Bool → Bool
-  by b d = pick b false (pick d false (ltb 7 (nesting cs levels at)))
+  abbrev by : Bool → Bool
+  by b = pick b false (ltb 7 (nesting cs levels at))
 
-  deep-under : keyOf (getD cs at blank) < low → false ≡ deepAt cs low high at
+  deep-under : keyOf (getD cs at blank) < low → false ≡ deepAt cs low at
   unfolding deepAt
-  deep-under h = sym (ap (λ b. by b (leb high key)) (lt-ltb key low h))
+  deep-under h = sym (ap (λ b. by b) (lt-ltb key low h))
 
-  deep-over : high ≤ keyOf (getD cs at blank) → false ≡ deepAt cs low high at
+  deep-within : low ≤ keyOf (getD cs at blank) → ltb 7 (nesting cs levels at) ≡ deepAt cs low at
   unfolding deepAt
-  deep-over h = go (ltb key low) ∙ ap (λ d. by (ltb key low) d) (sym (le-leb high key h))
+  deep-within l = sym (ap (λ b. by b) (le-ltb key low l))
+
+  deep-flat : nesting cs levels at ≤ 7 → false ≡ deepAt cs low at
+  unfolding deepAt
+  deep-flat h = go (ltb key low) ∙ ap (λ t. pick (ltb key low) false t) (sym (le-ltb 7 (nesting cs levels at) h))
     where
-      go : (b : Bool) → false ≡ by b true
+      go : (b : Bool) → false ≡ pick b false false
       go true = refl
       go false = refl
 
-  deep-within : low ≤ keyOf (getD cs at blank) → keyOf (getD cs at blank) < high → ltb 7 (nesting cs levels at) ≡ deepAt cs low high at
-  unfolding deepAt
-  deep-within l h = sym (ap (λ b. by b (leb high key)) (le-ltb key low l) ∙ ap (λ d. by false d) (lt-leb high key h))
-
-  not-deep : deepAt cs low high at ≡ false → low ≤ keyOf (getD cs at blank) → keyOf (getD cs at blank) < high → nesting cs levels at ≤ 7
-  not-deep e l h = ltb-false 7 (nesting cs levels at) (deep-within l h ∙ e)
+  not-deep : deepAt cs low at ≡ false → low ≤ keyOf (getD cs at blank) → nesting cs levels at ≤ 7
+  not-deep e l = ltb-false 7 (nesting cs levels at) (deep-within l ∙ e)
 
   -- what is deep lies within, and is deep
-  is-deep : deepAt cs low high at ≡ true → (low ≤ key) × (key < high) × (7 < nesting cs levels at)
+  is-deep : deepAt cs low at ≡ true → (low ≤ key) × (7 < nesting cs levels at)
   unfolding deepAt
-  is-deep e = go (ltb key low) refl (leb high key) refl e
+  is-deep e = go (ltb key low) refl e
     where
-      go : (b : Bool) → ltb key low ≡ b → (d : Bool) → leb high key ≡ d → by b d ≡ true → (low ≤ key) × (key < high) × (7 < nesting cs levels at)
-      go true f d g e = absurd (false≢true e)
-      go false f true g e = absurd (false≢true e)
-      go false f false g e = (ltb-false key low f, leb-false high key g, ltb-true 7 (nesting cs levels at) e)
+      go : (b : Bool) → ltb key low ≡ b → by b ≡ true → (low ≤ key) × (7 < nesting cs levels at)
+      go true f e = absurd (false≢true e)
+      go false f e = (ltb-false key low f, ltb-true 7 (nesting cs levels at) e)
 
 -- in the words of the code
-module _ (cs : List Cell) (low high at : ℕ) (c : Cell) (k : ℕ) (ce : c ≡ getD cs at blank) (ke : k ≡ keyOf c) where
+pub single-flat : (cs : List Cell) (low at : ℕ) (c : Cell) → c ≡ getD cs at blank → (tagOf c ≡ 2 → ⊥) → false ≡ deepAt cs low at
+single-flat cs low at c ce t = deep-flat cs low at (omega (arith, nesting-single cs levels at c ce t))
+
+module _ (cs : List Cell) (low at : ℕ) (c : Cell) (k : ℕ) (ce : c ≡ getD cs at blank) (ke : k ≡ keyOf c) where
   key-is : k ≡ keyOf (getD cs at blank)
   key-is = ke ∙ ap (λ x. keyOf x) ce
 
-  pub under-key : k < low → false ≡ deepAt cs low high at
-  under-key h = deep-under cs low high at (omega (arith, key-is))
+  pub under-key : k < low → false ≡ deepAt cs low at
+  under-key h = deep-under cs low at (omega (arith, key-is))
 
-  pub over-key : high ≤ k → false ≡ deepAt cs low high at
-  over-key h = deep-over cs low high at (omega (arith, key-is))
-
-  pub within-keys : low ≤ k → k < high → (d : ℕ) → d ≡ nesting cs levels at → ltb 7 d ≡ deepAt cs low high at
-  within-keys l h d e = ap (ltb 7) e ∙ deep-within cs low high at (omega (arith, key-is)) (omega (arith, key-is))
+  pub within-keys : low ≤ k → (d : ℕ) → d ≡ nesting cs levels at → ltb 7 d ≡ deepAt cs low at
+  within-keys l d e = ap (ltb 7) e ∙ deep-within cs low at (omega (arith, key-is))
 
 -- ---- the loop
 
@@ -97,39 +96,68 @@ picked true r e = absurd (false≢true (sym e))
 picked false r e = (refl, e)
 
 module _ (cs : List Cell) (low high : ℕ) where
+  abbrev rest : ℕ → ℕ → Bool
+  rest n at = pick (deepAt cs low at) true (anyDeep cs low high n (at + size cs levels at))
+
+  -- a key below the end, and one from there on
+  below : (n at : ℕ) → keyOf (getD cs at blank) < high → anyDeep cs low high (suc n) at ≡ rest n at
+  unfolding anyDeep
+  below n at lt = ap (λ b. pick b false (rest n at)) (lt-leb high (keyOf (getD cs at blank)) lt)
+
+  beyond : (n at : ℕ) → high ≤ keyOf (getD cs at blank) → anyDeep cs low high (suc n) at ≡ false
+  unfolding anyDeep
+  beyond n at le = ap (λ b. pick b false (rest n at)) (le-leb high (keyOf (getD cs at blank)) le)
+
+  -- what is deep has a key below the end
+  is-below : (n at : ℕ) → anyDeep cs low high (suc n) at ≡ true → (keyOf (getD cs at blank) < high) × (rest n at ≡ true)
+  unfolding anyDeep
+  is-below n at e = go (leb high (keyOf (getD cs at blank))) refl e
+    where
+      go : (b : Bool) → leb high (keyOf (getD cs at blank)) ≡ b → pick b false (rest n at) ≡ true → (keyOf (getD cs at blank) < high) × (rest n at ≡ true)
+      go true f e = absurd (false≢true e)
+      go false f e = (leb-false high (keyOf (getD cs at blank)) f, e)
+
   pub any-end : (n at : ℕ) → n ≤ 0 → false ≡ anyDeep cs low high n at
   unfolding anyDeep
   any-end zero at h = refl
   any-end (suc n) at h = absurd (omega arith)
 
-  pub any-here : (n at : ℕ) → 0 < n → true ≡ deepAt cs low high at → true ≡ anyDeep cs low high n at
-  unfolding anyDeep
-  any-here zero at lt h = absurd (omega arith)
-  any-here (suc n) at lt h = ap (λ b. pick b true (anyDeep cs low high n (at + size cs levels at))) h
+  -- of the first entry, in the words of the code
+  module _ (n at : ℕ) (c : Cell) (k : ℕ) (ce : c ≡ getD cs at blank) (ke : k ≡ keyOf c) (lt : 0 < n) where
+    first-key : k ≡ keyOf (getD cs at blank)
+    first-key = ke ∙ ap (λ x. keyOf x) ce
 
-  pub any-on : (n at r : ℕ) → 0 < n → false ≡ deepAt cs low high at → r ≡ size cs levels at → anyDeep cs low high (n - 1) (at + r) ≡ anyDeep cs low high n at
-  unfolding anyDeep
-  any-on zero at r lt h e = absurd (omega arith)
-  any-on (suc n) at r lt h e =
-      let z : suc n - 1 ≡ n = omega arith in
-      rw (z, e) (ap (λ b. pick b true (anyDeep cs low high n (at + size cs levels at))) h)
+    back : suc (n - 1) ≡ n
+    back = omega arith
+
+    pub any-over : high ≤ k → false ≡ anyDeep cs low high n at
+    any-over h = sym (beyond (n - 1) at (omega (arith, first-key))) ∙ ap (λ m. anyDeep cs low high m at) back
+
+    pub any-here : k < high → true ≡ deepAt cs low at → true ≡ anyDeep cs low high n at
+    any-here h d =
+        ap (λ b. pick b true (anyDeep cs low high (n - 1) (at + size cs levels at))) d ∙ sym (below (n - 1) at (omega (arith, first-key)))
+        ∙ ap (λ m. anyDeep cs low high m at) back
+
+    pub any-on : k < high → false ≡ deepAt cs low at → (r : ℕ) → r ≡ size cs levels at → anyDeep cs low high (n - 1) (at + r) ≡ anyDeep cs low high n at
+    any-on h d r e =
+        ap (λ z. anyDeep cs low high (n - 1) (at + z)) e ∙ ap (λ b. pick b true (anyDeep cs low high (n - 1) (at + size cs levels at))) d
+        ∙ sym (below (n - 1) at (omega (arith, first-key))) ∙ ap (λ m. anyDeep cs low high m at) back
 
   -- where nothing is deep, what a search finds is not
   found-flat : (key n at : ℕ) → low ≤ key → key < high → anyDeep cs low high n at ≡ false → seek cs levels key n at .present ≡ true → nesting cs levels (seek cs levels key n at .at) ≤ 7
-  unfolding anyDeep seek
+  unfolding seek
   found-flat key zero at l h e f = absurd (false≢true f)
-  found-flat key (suc n) at l h e f =
-      let here = picked (deepAt cs low high at) (anyDeep cs low high n (at + size cs levels at)) e in
-      go (ltb (keyOf (getD cs at blank)) key) f (found-flat key n (at + size cs levels at) l h (here .1)) (here .0)
+  found-flat key (suc n) at l h e f = go (ltb (keyOf (getD cs at blank)) key) refl f (found-flat key n (at + size cs levels at) l h)
     where
-      go : (t : Bool) → pick t (seek cs levels key n (at + size cs levels at)) (place at (suc n) (eqb (keyOf (getD cs at blank)) key)) .present ≡ true
-          → (seek cs levels key n (at + size cs levels at) .present ≡ true → nesting cs levels (seek cs levels key n (at + size cs levels at) .at) ≤ 7)
-          → deepAt cs low high at ≡ false
+      go : (t : Bool) → ltb (keyOf (getD cs at blank)) key ≡ t → pick t (seek cs levels key n (at + size cs levels at)) (place at (suc n) (eqb (keyOf (getD cs at blank)) key)) .present ≡ true
+          → (anyDeep cs low high n (at + size cs levels at) ≡ false → seek cs levels key n (at + size cs levels at) .present ≡ true → nesting cs levels (seek cs levels key n (at + size cs levels at) .at) ≤ 7)
           → nesting cs levels (pick t (seek cs levels key n (at + size cs levels at)) (place at (suc n) (eqb (keyOf (getD cs at blank)) key)) .at) ≤ 7
-      go true f rest d = rest f
-      go false f rest d =
+      go true g f more =
+          let passed = ltb-true (keyOf (getD cs at blank)) key g in
+          more (picked (deepAt cs low at) (anyDeep cs low high n (at + size cs levels at)) (sym (below n at (omega arith)) ∙ e) .1) f
+      go false g f more =
           let same = eqb-true (keyOf (getD cs at blank)) key f in
-          not-deep cs low high at d (omega arith) (omega arith)
+          not-deep cs low at (picked (deepAt cs low at) (anyDeep cs low high n (at + size cs levels at)) (sym (below n at (omega arith)) ∙ e) .0) (omega arith)
 
 -- ---- as long one level lower
 
@@ -206,16 +234,14 @@ done-same e = cc
 
 -- runs whose keys are not below `high` have nothing deep
 none-deep : (cs : List Cell) (low high n at : ℕ) (rs : Runs) → Each (λ r. high ≤ keyRun r) rs → entries cs levels n at ≡ rs → anyDeep cs low high n at ≡ false
-unfolding anyDeep entries
-none-deep cs low high zero at rs each e = refl
+unfolding entries
+none-deep cs low high zero at rs each e = unfold anyDeep in refl
 none-deep cs low high (suc n) at [] each e = absurd (omega (arith, ap length e))
 none-deep cs low high (suc n) at (r ∷ rs) each e =
     let run : span cs at (size cs levels at) ≡ r = cc in
-    let rest : entries cs levels n (at + size cs levels at) ≡ rs = cc in
     let key = key-span cs at (size cs levels at) (size-pos cs levels at) in
     let k = ap keyRun run in
-    ap (λ b. pick b true (anyDeep cs low high n (at + size cs levels at))) (sym (deep-over cs low high at (omega (arith, each .0, key, k))))
-    ∙ none-deep cs low high n (at + size cs levels at) rs (each .1) rest
+    beyond cs low high n at (omega (arith, each .0, key, k))
 
 each-map : {A : Type 0} (run : ℕ → A → List Cell) → ((key : ℕ) (v : A) → keyRun (run key v) ≡ key) → (class high : ℕ) → high ≤ classKey class 0 → (es : List (Entry A)) → Each (λ r. high ≤ keyRun r) (runMap run class es)
 unfolding runMap
@@ -238,9 +264,9 @@ record DeepIn (first end low : ℕ) (es : List (Entry RegDataType)) : Type 0 whe
 
 module _ (cs : List Cell) (first end : ℕ) (rest : Runs) (others : Each (λ r. end ≤ keyRun r) rest) where
   deep-register : (es : List (Entry RegDataType)) (low : ℕ) → Rising (λ k v. (k ≤ 65535) × GoodRegister v) low es → (n at : ℕ) → entries cs levels n at ≡ runMap runRegister 0 es ++ rest → anyDeep cs first end n at ≡ true → DeepIn first end low es
-  unfolding anyDeep entries runMap get
+  unfolding entries runMap get
   deep-register [] low s n at e d = absurd (false≢true (sym (none-deep cs first end n at rest others e) ∙ d))
-  deep-register (x ∷ es) low s zero at e d = absurd (false≢true d)
+  deep-register (x ∷ es) low s zero at e d = absurd (false≢true (any-end cs first end 0 at (omega arith) ∙ d))
   deep-register (x ∷ es) low s (suc n) at e d =
       let run : span cs at (size cs levels at) ≡ runRegister (classKey 0 (x .key)) (x .value) = cc in
       let tail : entries cs levels n (at + size cs levels at) ≡ runMap runRegister 0 es ++ rest = cc in
@@ -248,22 +274,23 @@ module _ (cs : List Cell) (first end : ℕ) (rest : Runs) (others : Each (λ r. 
       let k = ap keyRun run ∙ register-key (classKey 0 (x .key)) (x .value) in
       let long : length (runRegister (classKey 0 (x .key)) (x .value)) ≡ size cs levels at = ap length (sym run) ∙ length-span cs at (size cs levels at) in
       let nests = register-nesting (x .value) cs at levels (classKey 0 (x .key)) (omega (arith, s .1 .1 .depth)) (ap (span cs at) long ∙ run) in
-      go (deepAt cs first end at) refl d (omega (arith, key, k)) nests (deep-register es (suc (x .key)) (s .2) n (at + size cs levels at) tail)
+      let h = is-below cs first end n at d in
+      go (deepAt cs first at) refl (h .1) (omega (arith, key, k)) (h .0) nests (deep-register es (suc (x .key)) (s .2) n (at + size cs levels at) tail)
     where
-      go : (b : Bool) → deepAt cs first end at ≡ b → pick b true (anyDeep cs first end n (at + size cs levels at)) ≡ true → keyOf (getD cs at blank) ≡ x .key → nesting cs levels at ≡ registerDepth (x .value)
+      go : (b : Bool) → deepAt cs first at ≡ b → pick b true (anyDeep cs first end n (at + size cs levels at)) ≡ true → keyOf (getD cs at blank) ≡ x .key → keyOf (getD cs at blank) < end → nesting cs levels at ≡ registerDepth (x .value)
           → (anyDeep cs first end n (at + size cs levels at) ≡ true → DeepIn first end (suc (x .key)) es) → DeepIn first end low (x ∷ es)
-      go true f d key nests more =
-          let is = is-deep cs first end at f in
+      go true f d key h nests more =
+          let is = is-deep cs first at f in
           record {
             key = x .key;
             value = x .value;
             found = unfold get in (ap (λ b. getIf b (x .value) (get (x .key) es)) (eq-eqb (x .key) (x .key) refl));
             above = omega (arith, is .0);
-            below = omega (arith, is .1);
+            below = omega arith;
             from = s .0;
-            deep = omega (arith, is .2);
+            deep = omega (arith, is .1);
           }
-      go false f d key nests more =
+      go false f d key h nests more =
           let w = more d in
           record {
             key = w .key;

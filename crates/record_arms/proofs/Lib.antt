@@ -1,4 +1,5 @@
 pub mod RangeLaws
 pub mod DeepLaws
+pub mod SearchLaws
 pub mod BuildLaws
 pub mod RecordLaws

@@ -1,5 +1,5 @@
 -- Registers one after the other as columns, as MakeRecord and ResultRow read them: which reads are refused, which columns they are otherwise, of a
--- state and of runs; whether a record of them nests too deep, by the cells; and its run, built from its end. Assumes nothing.
+-- state and of runs; whether a record of them nests too deep, by the cells; and its run, built column after column. Assumes nothing.
 use mathlib.Core.Path.{_≡_}
 use mathlib.Core.Bool.{Bool, true, false}
 use mathlib.Core.Option.{some}
@@ -30,6 +30,8 @@ use Rattle.record_arms.specs.declared.Range.{Range}
 use Rattle.record_arms.specs.declared.Range.the-variants as range
 use Rattle.record_arms.specs.declared.Room.{Room}
 use Rattle.record_arms.specs.declared.Room.the-variants as room
+use Rattle.record_arms.specs.declared.Step.{Step}
+use Rattle.record_arms.specs.declared.Step.the-variants as step
 
 -- ---- reads
 
@@ -58,16 +60,16 @@ pub record JudgesRange (i n : ℕ) (r : Range) : Type 0 where
 
 -- ---- depth
 
--- the entry at `at` has a key from low on and below high, and nests more than seven deep
-unfoldable pub deepAt : List Cell → ℕ → ℕ → ℕ → Bool
-deepAt cs low high at =
-    pick (ltb (keyOf (getD cs at blank)) low) false
-    (pick (leb high (keyOf (getD cs at blank))) false (ltb 7 (nesting cs levels at)))
+-- the entry at `at` has a key from low on, and nests more than seven deep
+unfoldable pub deepAt : List Cell → ℕ → ℕ → Bool
+deepAt cs low at = pick (ltb (keyOf (getD cs at blank)) low) false (ltb 7 (nesting cs levels at))
 
--- one of n entries from `at` on does
+-- one of n entries from `at` on does, before the first that has a key from high on: entries are in the order of their keys
 unfoldable pub anyDeep : List Cell → ℕ → ℕ → ℕ → ℕ → Bool
 anyDeep cs low high zero at = false
-anyDeep cs low high (suc n) at = pick (deepAt cs low high at) true (anyDeep cs low high n (at + size cs levels at))
+anyDeep cs low high (suc n) at =
+    pick (leb high (keyOf (getD cs at blank))) false
+    (pick (deepAt cs low at) true (anyDeep cs low high n (at + size cs levels at)))
 
 -- ---- the record's run
 
@@ -75,43 +77,57 @@ anyDeep cs low high (suc n) at = pick (deepAt cs low high at) true (anyDeep cs l
 abbrev pub Flat : ℕ → Runs → Type 0
 Flat k es = (run : List Cell) → lookup (classKey 0 k) es ≡ some run → (cs : List Cell) (p : ℕ) → Stands cs p run → size cs 8 p ≡ length run
 
--- the column of register k stands at p under a key, up to `to`; or there is no room for it from low on
-pub record Put (ds : List Cell) (es : Runs) (k key low to p : ℕ) : Type 0 where
-  pub above : low ≤ p
-  pub ends : p + size ds 8 p ≡ to
-  pub run : span ds p (size ds 8 p) ≡ rekey key (columnRun (lookup (classKey 0 k) es))
+-- the entries from `at` on lie below `to`, and there is room from there up to `end`; a run of register k is as long one level lower
+pub record Puttable (cs : List Cell) (at left k to end : ℕ) : Type 0 where
+  pub below : at + sizes (size cs levels) left at ≤ to
+  pub ordered : to ≤ end
+  pub fits : end ≤ length cs
+  pub small : length cs ≤ 1048576
+  pub flat : Flat k (entries cs levels left at)
 
-abbrev pub PutOr : List Cell → Runs → ℕ → ℕ → ℕ → ℕ → Room → Type 0
-PutOr ds es k key low to room.Full = to < low + length (columnRun (lookup (classKey 0 k) es))
-PutOr ds es k key low to (room.At p) = Put ds es k key low to p
+-- the column of register k stands at `to` under a key, up to q
+pub record Put (ds : List Cell) (es : Runs) (k key to end q : ℕ) : Type 0 where
+  pub within : q ≤ end
+  pub ends : to + size ds 8 to ≡ q
+  pub run : span ds to (size ds 8 to) ≡ rekey key (columnRun (lookup (classKey 0 k) es))
 
-pub record PutsColumn (cs ds : List Cell) (a : IntMap) (k key low to : ℕ) (r : Room) : Type 0 where
-  pub answer : PutOr ds (runsAt cs a) k key low to r
-  pub frame : Frame cs ds low (to - low)
+-- of the entries from `at` on, those from p on have each register after k
+pub record Ahead (cs : List Cell) (at left k p l : ℕ) : Type 0 where
+  pub below : p + sizes (size cs levels) l p ≤ at + sizes (size cs levels) left at
+  pub same : (j : ℕ) → k < j → lookup (classKey 0 j) (entries cs levels l p) ≡ lookup (classKey 0 j) (entries cs levels left at)
 
--- the columns of n registers from k on stand at p under the keys from j on, up to `to`; or there is no room for them
-pub record Laid (ds : List Cell) (es : Runs) (k j n low to p : ℕ) : Type 0 where
-  pub above : low ≤ p
-  pub ends : p + sizes (size ds 8) n p ≡ to
-  pub runs : entries ds 8 n p ≡ rekeyed j (runsFrom n k es)
+-- the column of register k stands there, and the entries for the next are these; or there is no room for it
+abbrev pub PutOr : List Cell → List Cell → ℕ → ℕ → ℕ → ℕ → ℕ → ℕ → Step → Type 0
+PutOr cs ds at left k key to end step.Full = end < to + length (columnRun (lookup (classKey 0 k) (entries cs levels left at)))
+PutOr cs ds at left k key to end (step.Next q p l) = Put ds (entries cs levels left at) k key to end q × Ahead cs at left k p l
+
+pub record PutsColumn (cs ds : List Cell) (at left k key to end : ℕ) (r : Step) : Type 0 where
+  pub answer : PutOr cs ds at left k key to end r
+  pub frame : Frame cs ds to (end - to)
+
+-- the columns of n registers from k on stand at `low` under the keys from 0 on, up to q; or there is no room for them
+pub record Laid (ds : List Cell) (es : Runs) (k n low end q : ℕ) : Type 0 where
+  pub within : q ≤ end
+  pub ends : low + sizes (size ds 8) n low ≡ q
+  pub runs : entries ds 8 n low ≡ rekeyed 0 (runsFrom n k es)
 
 abbrev pub LaidOr : List Cell → Runs → ℕ → ℕ → ℕ → ℕ → Room → Type 0
-LaidOr ds es k n low to room.Full = to < low + total (runsFrom n k es)
-LaidOr ds es k n low to (room.At p) = Laid ds es k 0 n low to p
+LaidOr ds es k n low end room.Full = end < low + total (runsFrom n k es)
+LaidOr ds es k n low end (room.At q) = Laid ds es k n low end q
 
-pub record PutsColumns (cs ds : List Cell) (a : IntMap) (k n low to : ℕ) (r : Room) : Type 0 where
-  pub answer : LaidOr ds (runsAt cs a) k n low to r
-  pub frame : Frame cs ds low (to - low)
+pub record PutsColumns (cs ds : List Cell) (es : Runs) (k n low end : ℕ) (r : Room) : Type 0 where
+  pub answer : LaidOr ds es k n low end r
+  pub frame : Frame cs ds low (end - low)
 
--- the record of n registers from k on stands at p, up to `to`; or it takes more than limit cells
-pub record Built (ds : List Cell) (es : Runs) (k n low to p : ℕ) : Type 0 where
+-- the record of n registers from k on stands at p, not beyond `end`; or it takes more than limit cells
+pub record Built (ds : List Cell) (es : Runs) (k n low end p : ℕ) : Type 0 where
   pub above : low ≤ p
-  pub ends : p + size ds levels p ≡ to
+  pub ends : p + size ds levels p ≤ end
   pub run : span ds p (size ds levels p) ≡ cell (head 2 0 0 0) n ∷ flatten (rekeyed 0 (runsFrom n k es))
 
 abbrev pub BuiltOr : List Cell → Runs → ℕ → ℕ → ℕ → ℕ → ℕ → Room → Type 0
-BuiltOr ds es k n limit low to room.Full = limit ≤ total (runsFrom n k es)
-BuiltOr ds es k n limit low to (room.At p) = Built ds es k n low to p
+BuiltOr ds es k n limit low end room.Full = limit ≤ total (runsFrom n k es)
+BuiltOr ds es k n limit low end (room.At p) = Built ds es k n low end p
 
 pub record BuildsRecord (cs ds : List Cell) (a : IntMap) (k n limit : ℕ) (r : Room) : Type 0 where
   pub answer : BuiltOr ds (runsAt cs a) k n limit (a .base + limit) (a .base + limit + limit) r

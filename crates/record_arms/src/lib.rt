@@ -3,18 +3,20 @@
 ghost use mathlib.Core.Path.{_≡_};
 ghost use mathlib.Core.Bool.{false};
 ghost use Prim.Native.Nat.{ℕ, _+_, _<_, _≤_};
-ghost use lib.ListN.{length};
+ghost use lib.ListN.{length, getD};
 ghost use Rattle.model.specs.Operation.{opMakeRecord};
-ghost use Rattle.area.specs.Cells.{cells};
+ghost use Rattle.area.specs.Cells.{blank, cells};
 ghost use Rattle.intmap.specs.Map.{levels, runsAt, IsMap};
-ghost use Rattle.intmap.specs.Runs.{IsColumn};
+ghost use Rattle.intmap.specs.Runs.{size, IsColumn, AreColumns};
+ghost use Rattle.intmap.specs.Find.{seek};
 ghost use Rattle.intmap.specs.Signed.{intOf};
 ghost use Rattle.encoding.specs.Heads.{asColumn};
 ghost use Rattle.rows.specs.Rows.{Fits};
 ghost use Rattle.state.specs.Leads.{Current, Leads};
 ghost use Rattle.state.specs.Arms.{RegisterArm};
-ghost use Rattle.record_arms.specs.Records.{JudgesRange, deepAt, anyDeep, Flat, PutsColumn, PutsColumns, BuildsRecord, recordFrom};
+ghost use Rattle.record_arms.specs.Records.{JudgesRange, deepAt, anyDeep, Flat, Puttable, PutsColumn, PutsColumns, BuildsRecord, recordFrom};
 use area::Cell;
+use intmap::Found;
 use intmap::Index;
 use intmap::IntMap;
 use intmap::Stored;
@@ -31,6 +33,13 @@ pub enum Range {
 enum Room {
     Full,
     At(usize),
+}
+
+// What putting a column leaves: no room for it, or the place of the next column, and the place and the number of the entries that the next register
+// is looked for among.
+enum Step {
+    Full,
+    Next(usize, usize, u64),
 }
 
 // Judges the indexes of n registers from i on, in their order. Where none is read, none is judged.
@@ -53,22 +62,33 @@ pub fn judge_range(i: u64, n: u64) -> Range
     Range::From(first)
 }
 
-// Whether the entry at `at` has a key from `first` on and below `end`, and a record in it would nest too deep within another.
-fn is_deep(area: &[u8], at: usize, first: u64, end: u64) -> bool
-    requires { ⌜ IsColumn (cells (now area)) levels at ⌝ }
-    ensures { λ r. ⌜ r ≡ deepAt (cells (now (area .entry))) first end at ⌝ }
+// How many cells the entry at `at` takes, of which c is the first. Only a record's are counted.
+fn entry_cells(area: &[u8], at: usize, c: Cell) -> usize
+    requires { ⌜ IsColumn (cells (now area)) levels at × (c ≡ getD (cells (now area)) at blank) ⌝ }
+    ensures { λ r. ⌜ r ≡ size (cells (now (area .entry))) levels at ⌝ }
 {
-    let k = intmap::key_of(area::cell_at(area, at));
-    if k < first {
+    if intmap::tag_of(c) != intmap::RECORD {
+        return 1;
+    }
+    intmap::count(area, at, intmap::LEVELS)
+}
+
+// Whether the entry at `at`, of which c is the first cell, has a key from `first` on, and a record in it would nest too deep within another.
+fn is_deep(area: &[u8], at: usize, c: Cell, first: u64) -> bool
+    requires { ⌜ IsColumn (cells (now area)) levels at × (c ≡ getD (cells (now area)) at blank) ⌝ }
+    ensures { λ r. ⌜ r ≡ deepAt (cells (now (area .entry))) first at ⌝ }
+{
+    if intmap::tag_of(c) != intmap::RECORD {
         return false;
     }
-    if end <= k {
+    let k = intmap::key_of(c);
+    if k < first {
         return false;
     }
     7 < intmap::depth_of(area, at, intmap::LEVELS)
 }
 
-// Whether a record of the registers from `first` on and below `end` nests too deep.
+// Whether a record of the registers from `first` on and below `end` nests too deep. The entries from `end` on are not looked at.
 fn any_deep(map: IntMap, area: &[u8], first: u64, end: u64) -> bool
     requires { ⌜ IsMap (cells (now area)) map ⌝ }
     ensures { λ r. ⌜ r ≡ anyDeep (cells (now (area .entry))) first end (map .len) (map .base) ⌝ }
@@ -76,13 +96,45 @@ fn any_deep(map: IntMap, area: &[u8], first: u64, end: u64) -> bool
     let mut at = map.base;
     let mut left = map.len;
     while 0 < left {
-        if is_deep(area, at, first, end) {
+        let c = area::cell_at(area, at);
+        let k = intmap::key_of(c);
+        if end <= k {
+            return false;
+        }
+        if is_deep(area, at, c, first) {
             return true;
         }
-        at += intmap::count(area, at, intmap::LEVELS);
+        at += entry_cells(area, at, c);
         left -= 1;
     }
     false
+}
+
+// Looks for a key among the `left` entries from `at` on.
+fn find_from(area: &[u8], at: usize, left: u64, key: u64) -> Found
+    requires { ⌜ AreColumns (cells (now area)) levels left at ⌝ }
+    ensures { λ r. ⌜ r ≡ seek (cells (now (area .entry))) levels key left at ⌝ }
+{
+    let mut p = at;
+    let mut n = left;
+    while 0 < n {
+        let c = area::cell_at(area, p);
+        let k = intmap::key_of(c);
+        if key <= k {
+            return Found {
+                at: p,
+                left: n,
+                present: k == key,
+            };
+        }
+        p += entry_cells(area, p, c);
+        n -= 1;
+    }
+    Found {
+        at: p,
+        left: 0,
+        present: false,
+    }
 }
 
 // A register's head as that of a column: a known number is an Integer that is never null.
@@ -95,67 +147,82 @@ fn map_to_columntype(c: Cell) -> Cell
     c
 }
 
-// Puts the column of register k under a key, so that it ends at `to`, unless it would begin below `low`. An absent register's is the default.
-fn put_column(map: IntMap, area: &mut [u8], k: u64, key: u64, low: usize, to: usize) -> Room
-    requires { ⌜ IsMap (cells (now area)) map × (k ≤ 65535) × (key ≤ 65535) × (map .base + map .used ≤ low) × (low ≤ to) × (to ≤ length (cells (now area))) × Flat k (runsAt (cells (now area)) map) ⌝ }
-    ensures { λ r. ⌜ PutsColumn (cells (now (area .entry))) (cells (now (area .exit))) map k key low to r ⌝ }
+// Puts the column of register k under a key at `to`, unless it would end behind `end`. An absent register's is the default. The register is looked
+// for among the `left` entries from `at` on; of those, the answer has the ones that the next register is among.
+fn put_column(
+    area: &mut [u8],
+    at: usize,
+    left: u64,
+    k: u64,
+    key: u64,
+    to: usize,
+    end: usize,
+) -> Step
+    requires { ⌜ Puttable (cells (now area)) at left k to end × (k ≤ 65535) × (key ≤ 65535) ⌝ }
+    ensures { λ r. ⌜ PutsColumn (cells (now (area .entry))) (cells (now (area .exit))) at left k key to end r ⌝ }
 {
-    let found = map.find(area, intmap::class_key(state::REGISTERS, k));
-    let at = found.at;
+    let found = find_from(area, at, left, intmap::class_key(state::REGISTERS, k));
+    let p = found.at;
+    let rest = found.left;
     let there = found.present;
     if there {
-        let n = intmap::count(area, at, intmap::LEVELS);
-        if to < low + n {
-            return Room::Full;
+        let c = area::cell_at(area, p);
+        let n = entry_cells(area, p, c);
+        if end < to + n {
+            return Step::Full;
         }
-        let c = map_to_columntype(area::cell_at(area, at));
-        area::move_cells(area, at, to - n, n);
-        area::put_cell(area, to - n, intmap::with_key(c, key));
-        return Room::At(to - n);
+        area::move_cells(area, p, to, n);
+        let x = map_to_columntype(c);
+        area::put_cell(area, to, intmap::with_key(x, key));
+        return Step::Next(to + n, p + n, rest - 1);
     }
-    if to <= low {
-        return Room::Full;
+    if end <= to {
+        return Step::Full;
     }
     let c = state::single(DataType::Null, state::UNKNOWN);
-    area::put_cell(area, to - 1, intmap::with_key(c, key));
-    Room::At(to - 1)
+    area::put_cell(area, to, intmap::with_key(c, key));
+    Step::Next(to + 1, p, rest)
 }
 
-// Puts the columns of n registers from `first` on in their order, so that they end at `to`, unless they would begin below `low`.
-fn put_columns(map: IntMap, area: &mut [u8], first: u64, n: u64, low: usize, to: usize) -> Room
-    requires { ⌜ IsMap (cells (now area)) map × (first + n ≤ 65536) × (map .base + map .used ≤ low) × (low ≤ to) × (to ≤ length (cells (now area))) × ((k : ℕ) → first ≤ k → k < first + n → Flat k (runsAt (cells (now area)) map)) ⌝ }
-    ensures { λ r. ⌜ PutsColumns (cells (now (area .entry))) (cells (now (area .exit))) map first n low to r ⌝ }
+// Puts the columns of n registers from `first` on at `low`, one after the other, unless they would end behind `end`. Entries are passed once.
+fn put_columns(map: IntMap, area: &mut [u8], first: u64, n: u64, low: usize, end: usize) -> Room
+    requires { ⌜ IsMap (cells (now area)) map × (first + n ≤ 65536) × (map .base + map .used ≤ low) × (low ≤ end) × (end ≤ length (cells (now area))) × ((k : ℕ) → first ≤ k → k < first + n → Flat k (runsAt (cells (now area)) map)) ⌝ }
+    ensures { λ r. ⌜ PutsColumns (cells (now (area .entry))) (cells (now (area .exit))) (runsAt (cells (now (area .entry))) map) first n low end r ⌝ }
 {
-    let mut p = to;
-    let mut left = n;
-    while 0 < left {
-        left -= 1;
-        let x = put_column(map, area, first + left, left, low, p);
+    let mut to = low;
+    let mut at = map.base;
+    let mut left = map.len;
+    let mut k: u64 = 0;
+    while k < n {
+        let x = put_column(area, at, left, first + k, k, to, end);
         match x {
-            Room::Full => {
+            Step::Full => {
                 return Room::Full;
             }
-            Room::At(q) => {
-                p = q;
+            Step::Next(q, p, l) => {
+                to = q;
+                at = p;
+                left = l;
             }
         }
+        k += 1;
     }
-    Room::At(p)
+    Room::At(to)
 }
 
-// Builds the record of n registers from `first` on at the end of the room behind the map, unless it takes more than `limit` cells.
+// Builds the record of n registers from `first` on at the beginning of the room behind the map, unless it takes more than `limit` cells.
 fn build_record(map: IntMap, area: &mut [u8], first: u64, n: u64, limit: usize) -> Room
     requires { ⌜ Current limit (cells (now area)) map × (first + n ≤ 65536) × (0 < limit) × ((k : ℕ) → first ≤ k → k < first + n → Flat k (runsAt (cells (now area)) map)) ⌝ }
     ensures { λ r. ⌜ BuildsRecord (cells (now (area .entry))) (cells (now (area .exit))) map first n limit r ⌝ }
 {
-    let low = map.base + limit + 1;
-    let x = put_columns(map, area, first, n, low, map.base + limit + limit);
+    let p = map.base + limit;
+    let x = put_columns(map, area, first, n, p + 1, p + limit);
     match x {
         Room::Full => Room::Full,
-        Room::At(p) => {
+        Room::At(_) => {
             let head = intmap::RECORD;
-            area::put_cell(area, p - 1, Cell { head, payload: n });
-            Room::At(p - 1)
+            area::put_cell(area, p, Cell { head, payload: n });
+            Room::At(p)
         }
     }
 }

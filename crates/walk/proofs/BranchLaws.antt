@@ -65,13 +65,13 @@ pub rows-kept : (cs ds : List Cell) (from : ℕ) (rows : List Listed) → ((i : 
 rows-kept cs ds from rows same have i x e = subst (λ c. Judged x (rowIn c)) (sym (same i (row-within rows i x e))) (have i x e)
 
 -- the list with other branches, where the cells below them are as they were
-module _ {p : Program} {g : Given} {catalogue xs cols : List ℕ} {w : Walk} {ls : List (Lineage Defined)} {remembered : List Defined} {space : ℕ} {counted : List ResultRow} (h : HoldsList p g catalogue xs cols w ls remembered space counted) where
+module _ {p : Program} {g : Given} {blocks xs cols : List ℕ} {w : Walk} {ls : List (Lineage Defined)} {remembered : List Defined} {space : ℕ} {counted : List ResultRow} (h : HoldsList p g blocks xs cols w ls remembered space counted) where
   pub list-with :
       (ys : List ℕ) (b : BranchList) (all wait : List Kept) →
       Below (cells xs) (cells ys) (w .branches .first) →
       b .first ≡ w .branches .first →
       Remembers (p .limit) (boundOf w) (p .size) ys b all wait →
-      HoldsList p g catalogue ys cols (withBranches w b) (lineages wait) (states all) (length (cells ys) - b .top) counted
+      HoldsList p g blocks ys cols (withBranches w b) (lineages wait) (states all) (length (cells ys) - b .top) counted
   list-with ys b all wait below first remembers =
       record {
         size = h .size;
@@ -102,7 +102,7 @@ module _ (p : Program) (xs ys : List ℕ) (w : Walk) (s : MemoryState) where
   pub adds-full : (r : Pushed) → Pushes (p .limit) (p .size) (countsFrom p) xs ys (w .branches) s r → r ≡ pushed.Full → AddsBranch p xs ys w s added.Full
   adds-full r pushes e =
       record {
-        says = λ g catalogue cols ls remembered space counted past m h held past-counted more.
+        says = λ g blocks cols ls remembered space counted past m h held past-counted more.
             offer-full (units (g .rows)) past m more ls remembered space
             (judged h m noSpace (as-full .says (boundOf w) (h .all) (h .wait) m past (h .remembers) held past-counted));
         below = pushes .below;
@@ -115,8 +115,8 @@ module _ (p : Program) (xs ys : List ℕ) (w : Walk) (s : MemoryState) where
   adds-done-as : (r : Pushed) (b : BranchList) → Pushes (p .limit) (p .size) (countsFrom p) xs ys (w .branches) s r → r ≡ pushed.Done b → AddsBranch p xs ys w s (added.Done (withBranches w b))
   adds-done-as r b pushes e =
       record {
-        says = λ g catalogue cols ls remembered space counted past m h held past-counted. (
-          told g catalogue cols ls remembered space counted past m h
+        says = λ g blocks cols ls remembered space counted past m h held past-counted. (
+          told g blocks cols ls remembered space counted past m h
               (as-done .says (boundOf w) (h .all) (h .wait) m past (h .remembers) held past-counted),
           record { gas = refl; charged = refl; loopstops = refl; gasstops = refl; repeats = refl; width = refl },
         );
@@ -131,12 +131,12 @@ module _ (p : Program) (xs ys : List ℕ) (w : Walk) (s : MemoryState) where
       long = pushes .below .long
 
       told :
-          (g : Given) (catalogue cols : List ℕ) (ls : List (Lineage Defined)) (remembered : List Defined) (space : ℕ) (counted : List ResultRow) (past : List ℕ) (m : Defined) →
-          (h : HoldsList p g catalogue xs cols w ls remembered space counted) →
+          (g : Given) (blocks cols : List ℕ) (ls : List (Lineage Defined)) (remembered : List Defined) (space : ℕ) (counted : List ResultRow) (past : List ℕ) (m : Defined) →
+          (h : HoldsList p g blocks xs cols w ls remembered space counted) →
           ((judge eqState (unitsFor (p .size)) m (states (h .all)) (length (cells xs) - w .branches .top) ≡ dropped) × Dropped (p .limit) (boundOf w) (p .size) ys (w .branches) b (h .all) (h .wait))
           ⊎ ((judge eqState (unitsFor (p .size)) m (states (h .all)) (length (cells xs) - w .branches .top) ≡ kept) × Kept-now (p .limit) (boundOf w) (p .size) ys (w .branches) b (h .all) (h .wait) m past) →
-          Offers p g catalogue ys cols (withBranches w b) past (m ∷ []) ls remembered space counted
-      told g catalogue cols ls remembered space counted past m h (inl (e, d)) =
+          Offers p g blocks ys cols (withBranches w b) past (m ∷ []) ls remembered space counted
+      told g blocks cols ls remembered space counted past m h (inl (e, d)) =
           record {
             waiting = lineages (h .wait);
             known = states (h .all);
@@ -145,7 +145,7 @@ module _ (p : Program) (xs ys : List ℕ) (w : Walk) (s : MemoryState) where
                 rw (sym (h .waits), sym (h .are), sym (h .left), d .same, long);
             holds = list-with h ys b (h .all) (h .wait) (pushes .below) (ap (λ c. c .first) (d .same)) (d .remembers);
           }
-      told g catalogue cols ls remembered space counted past m h (inr (e, k)) =
+      told g blocks cols ls remembered space counted past m h (inr (e, k)) =
           record {
             waiting = record { mem = m; past = past } ∷ lineages (h .wait);
             known = m ∷ states (h .all);

@@ -60,7 +60,7 @@ none-notes : (g : Given) (ls : List (Lineage Defined)) (n m : Notes Defined Resu
 none-notes g ls n m e = subst (λ f. notesAt f .gasstops ≡ n .gasstops) e (up-notes g ls n .gasstops)
 
 -- a gas stop more
-pub stopped : {p : Program} {g : Given} {catalogue xs cols : List ℕ} {w : Walk} {ls : List (Lineage Defined)} {n : Notes Defined ResultRow} → HoldsWalk p g catalogue xs cols w ls n → HoldsWalk p g catalogue xs cols (stopGas w) ls (gasStop n)
+pub stopped : {p : Program} {g : Given} {blocks xs cols : List ℕ} {w : Walk} {ls : List (Lineage Defined)} {n : Notes Defined ResultRow} → HoldsWalk p g blocks xs cols w ls n → HoldsWalk p g blocks xs cols (stopGas w) ls (gasStop n)
 stopped {w = w} h =
     record {
       list = list-as (h .list) (stopGas w) refl refl (omega arith) (omega (arith, h .counts .gas-few));
@@ -77,38 +77,38 @@ stopped {w = w} h =
     }
 
 -- what is still to be closed gives what the whole gives
-pub record ClosedSo (p : Program) (g : Given) (catalogue xs cols : List ℕ) (v : Walk) (ls : List (Lineage Defined)) (n : Notes Defined ResultRow) : Type 0 where
+pub record ClosedSo (p : Program) (g : Given) (blocks xs cols : List ℕ) (v : Walk) (ls : List (Lineage Defined)) (n : Notes Defined ResultRow) : Type 0 where
   pub waiting : List (Lineage Defined)
   pub notes : Notes Defined ResultRow
   pub same : closeAll (rowOf (g .rows)) ls n ≡ closeAll (rowOf (g .rows)) waiting notes
-  pub holds : HoldsWalk p g catalogue xs cols v waiting notes
+  pub holds : HoldsWalk p g blocks xs cols v waiting notes
 
 pub record Closing (p : Program) (xs : List ℕ) (w v : Walk) : Type 0 where
-  pub says : (g : Given) (catalogue cols : List ℕ) (ls : List (Lineage Defined)) (n : Notes Defined ResultRow) → HoldsWalk p g catalogue xs cols w ls n → ClosedSo p g catalogue xs cols v ls n
+  pub says : (g : Given) (blocks cols : List ℕ) (ls : List (Lineage Defined)) (n : Notes Defined ResultRow) → HoldsWalk p g blocks xs cols w ls n → ClosedSo p g blocks xs cols v ls n
   pub few : v .gasstops + v .branches .last ≤ w .gasstops + w .branches .last
 
 pub closing-first : (p : Program) (xs : List ℕ) (w : Walk) → Closing p xs w w
-closing-first p xs w = record { says = λ g catalogue cols ls n h. record { waiting = ls; notes = n; same = refl; holds = h }; few = omega arith }
+closing-first p xs w = record { says = λ g blocks cols ls n h. record { waiting = ls; notes = n; same = refl; holds = h }; few = omega arith }
 
 module _ {p : Program} {xs : List ℕ} {w v : Walk} (c : Closing p xs w v) where
   pub closing-walking : Walking p xs w → Walking p xs v
   closing-walking a =
-      let h = c .says (a .given) (a .catalogue) (a .cols) (a .waiting) (a .notes) (a .holds) in
-      record { given = a .given; catalogue = a .catalogue; cols = a .cols; waiting = h .waiting; notes = h .notes; holds = h .holds }
+      let h = c .says (a .given) (a .blocks) (a .cols) (a .waiting) (a .notes) (a .holds) in
+      record { given = a .given; blocks = a .blocks; cols = a .cols; waiting = h .waiting; notes = h .notes; holds = h .holds }
 
   module _ (x : Taken) (takes : Takes p xs v x) where
     pub closing-end : (u : Walk) → x ≡ taken.Nothing u → w .gasstops + w .branches .last < 4294967295 → Closes p xs w u
     closing-end u e lt =
         record {
-          says = λ g catalogue cols ls n h.
-              let a = c .says g catalogue cols ls n h in
-              let t = as-nothing .says g catalogue cols (a .waiting) (a .notes) (a .holds) in
+          says = λ g blocks cols ls n h.
+              let a = c .says g blocks cols ls n h in
+              let t = as-nothing .says g blocks cols (a .waiting) (a .notes) (a .holds) in
               let is : closeAll (rowOf (g .rows)) ls n ≡ t .notes = a .same ∙ subst (λ f. ClosedAs g f (closeAll (rowOf (g .rows)) (a .waiting) (a .notes))) (t .is) (closed-as g (a .waiting) (a .notes)) in
               subst (HoldsEnd cols u) (sym is)
               (record { charged = t .holds .counts .charged; loopstops = t .holds .counts .loopstops; gasstops = t .holds .counts .gasstops; repeats = t .holds .counts .repeats; columns = t .holds .list .columns; few = few-then (t .holds) (t .holds .counts .gasstops ∙ none-notes g (a .waiting) (a .notes) (t .notes) (t .is) ∙ sym (a .holds .counts .gasstops)) });
         }
       where
-        few-then : {g : Given} {catalogue cols : List ℕ} {ls : List (Lineage Defined)} {n : Notes Defined ResultRow} → HoldsWalk p g catalogue xs cols u ls n → u .gasstops ≡ v .gasstops → Few u
+        few-then : {g : Given} {blocks cols : List ℕ} {ls : List (Lineage Defined)} {n : Notes Defined ResultRow} → HoldsWalk p g blocks xs cols u ls n → u .gasstops ≡ v .gasstops → Few u
         few-then h same =
             record {
               charged = omega (arith, h .counts .gas-few);
@@ -129,7 +129,7 @@ module _ {p : Program} {xs : List ℕ} {w v : Walk} (c : Closing p xs w v) where
       taken-stops : Walking p xs w → u .gasstops ≡ v .gasstops
       taken-stops a =
           let b = closing-walking a in
-          let t = as-at .says (b .given) (b .catalogue) (b .cols) (b .waiting) (b .notes) (b .holds) in
+          let t = as-at .says (b .given) (b .blocks) (b .cols) (b .waiting) (b .notes) (b .holds) in
           t .holds .counts .gasstops ∙ taken-notes (b .given) (b .waiting) (b .notes) _ _ _ _ (t .is) ∙ sym (b .holds .counts .gasstops)
 
       pub closing-stop : Walking p xs w → w .gasstops + w .branches .last < 4294967295 → u .gasstops < 18446744073709551615
@@ -142,9 +142,9 @@ module _ {p : Program} {xs : List ℕ} {w v : Walk} (c : Closing p xs w v) where
       closing-next a z f =
           subst (Closing p xs w) (sym f)
           (record {
-            says = λ g catalogue cols ls n h.
-                let b = c .says g catalogue cols ls n h in
-                let t = as-at .says g catalogue cols (b .waiting) (b .notes) (b .holds) in
+            says = λ g blocks cols ls n h.
+                let b = c .says g blocks cols ls n h in
+                let t = as-at .says g blocks cols (b .waiting) (b .notes) (b .holds) in
                 record {
                   waiting = t .waiting;
                   notes = gasStop (t .notes);
@@ -160,10 +160,10 @@ module _ (p : Program) (xs : List ℕ) (w u : Walk) (e : u ≡ stopGas w) where
   pub stopped-walking : Walking p xs w → w .gasstops + w .branches .last < 4294967294 → Walking p xs u × (u .gasstops + u .branches .last < 4294967295)
   stopped-walking a lt =
       subst (λ x. Walking p xs x × (x .gasstops + x .branches .last < 4294967295)) (sym e)
-      (record { given = a .given; catalogue = a .catalogue; cols = a .cols; waiting = a .waiting; notes = gasStop (a .notes); holds = stopped (a .holds) }, omega (arith, lt))
+      (record { given = a .given; blocks = a .blocks; cols = a .cols; waiting = a .waiting; notes = gasStop (a .notes); holds = stopped (a .holds) }, omega (arith, lt))
 
   pub closes-current : (r : Walk) → Closes p xs u r → ClosesCurrent p xs w r
   closes-current r closes =
       record {
-        says = λ g catalogue cols ls n h. closes .says g catalogue cols ls (gasStop n) (subst (λ x. HoldsWalk p g catalogue xs cols x ls (gasStop n)) (sym e) (stopped h));
+        says = λ g blocks cols ls n h. closes .says g blocks cols ls (gasStop n) (subst (λ x. HoldsWalk p g blocks xs cols x ls (gasStop n)) (sym e) (stopped h));
       }

@@ -87,7 +87,7 @@ module _ (p : Program) (xs ys : List ℕ) (first : ℕ) (below : Below (cells xs
   way-below bound (way.To s) ms lies h = record { state = h .state; is = h .is; held = held-below bound s (h .state) (omega (arith, lies .0, lies .1 .most)) (h .held) }
 
 -- what the area holds after a row's branches, with one repeat more where it counts as one
-module _ {p : Program} {g : Given} {catalogue xs cols : List ℕ} {w : Walk} {ls : List (Lineage Defined)} {n : Notes Defined ResultRow} (h : HoldsWalk p g catalogue xs cols w ls n) where
+module _ {p : Program} {g : Given} {blocks xs cols : List ℕ} {w : Walk} {ls : List (Lineage Defined)} {n : Notes Defined ResultRow} (h : HoldsWalk p g blocks xs cols w ls n) where
   few-numbers : (v : Walk) → v .charged ≡ w .charged → boundOf v ≤ largest
   few-numbers v e = omega (arith, h .counts .gas-few, e)
 
@@ -98,10 +98,10 @@ module _ {p : Program} {g : Given} {catalogue xs cols : List ℕ} {w : Walk} {ls
   noted :
       (ys : List ℕ) (v u : Walk) (b : Bool) (waiting : List (Lineage Defined)) (known : List Defined) (left : ℕ) (branches : List Defined) (stays : Option Defined) →
       SameCounts w v → w .repeats < w .charged → u ≡ noteRepeated v b →
-      HoldsList p g catalogue ys cols v waiting known left (n .counted) →
-      HoldsWalk p g catalogue ys cols u waiting (noteWays (record { branches = branches; stays = stays; result = none; repeat = b }) known left n)
+      HoldsList p g blocks ys cols v waiting known left (n .counted) →
+      HoldsWalk p g blocks ys cols u waiting (noteWays (record { branches = branches; stays = stays; result = none; repeat = b }) known left n)
   noted ys v u b waiting known left branches stays same lt e list =
-      subst (λ x. HoldsWalk p g catalogue ys cols x waiting (noteWays (record { branches = branches; stays = stays; result = none; repeat = b }) known left n)) (sym e)
+      subst (λ x. HoldsWalk p g blocks ys cols x waiting (noteWays (record { branches = branches; stays = stays; result = none; repeat = b }) known left n)) (sym e)
       (record {
         list = list-as list (noteRepeated v b) refl refl (omega arith) (few-numbers v (same .charged));
         counts = record {
@@ -127,12 +127,12 @@ pub ways-nowhere :
 ways-nowhere p xs ys w u branch stays repeat r lt e f on =
     subst (λ b. FollowsWays p xs ys w b stays repeat (turned.Goes r)) (sym e)
     (record {
-      says = λ g catalogue cols ls n past o h counted offers lies.
+      says = λ g blocks cols ls n past o h counted offers lies.
           record {
             front = goOn (rowOf (g .rows)) (onward (offers .theState) past) ls (noteWays (record { branches = branchOf (offers .theBranch); stays = offers .theState; result = none; repeat = repeat }) (n .remembered) (n .space) n);
             is = follow-offered p g past ls n o _ (offers .answer) ls (n .remembered) (n .space)
                 (ap (λ b. theOffer p g past (branchOf b) ls (n .remembered) (n .space)) (offers .branches) ∙ offers-none p g past ls (n .remembered) (n .space));
-            holds = on .says g catalogue cols ls _ past (offers .theState)
+            holds = on .says g blocks cols ls _ past (offers .theState)
                 (noted h xs w u repeat ls (n .remembered) (n .space) (branchOf (offers .theBranch)) (offers .theState) (same-counts w) lt f (h .list))
                 (subst (λ x. TellsWay (p .limit) (boundOf x) (cells xs) stays (offers .theState)) (sym f) (offers .goesOn))
                 lies counted;
@@ -145,12 +145,12 @@ branch-of : (p : Program) (g : Given) (past : List ℕ) (ls : List (Lineage Defi
 branch-of p g past ls remembered space ms m e = ap (λ o. theOffer p g past (branchOf o) ls remembered space) e
 
 -- what waits in front of the remembered states
-in-front : {p : Program} {g : Given} {catalogue xs cols : List ℕ} {w : Walk} {ls : List (Lineage Defined)} {remembered : List Defined} {space : ℕ} {counted : List ResultRow} → HoldsList p g catalogue xs cols w ls remembered space counted → firstFrom p ≤ w .branches .first
+in-front : {p : Program} {g : Given} {blocks xs cols : List ℕ} {w : Walk} {ls : List (Lineage Defined)} {remembered : List Defined} {space : ℕ} {counted : List ResultRow} → HoldsList p g blocks xs cols w ls remembered space counted → firstFrom p ≤ w .branches .first
 in-front h = omega (arith, h .first)
 
 -- the current counts are as they were
 pub counted-below :
-    {p : Program} {g : Given} {catalogue xs cols : List ℕ} {w : Walk} {ls : List (Lineage Defined)} {remembered : List Defined} {space : ℕ} {counted : List ResultRow} → HoldsList p g catalogue xs cols w ls remembered space counted →
+    {p : Program} {g : Given} {blocks xs cols : List ℕ} {w : Walk} {ls : List (Lineage Defined)} {remembered : List Defined} {space : ℕ} {counted : List ResultRow} → HoldsList p g blocks xs cols w ls remembered space counted →
     (ys past : List ℕ) → Bytes xs → Bytes ys → length ys ≡ length xs → Below (cells xs) (cells ys) (w .branches .first) → Counted xs (p .size) (countsFrom p) past → Counted ys (p .size) (countsFrom p) past
 counted-below {p} {xs = xs} {w = w} h ys past small less long below counted =
     let top = blocks-low (cells xs) (p .size) (w .branches .first) (w .branches .top) (h .all) (h .remembers .blocks) in
@@ -167,13 +167,13 @@ pub ways-full :
 ways-full p xs ys w branch stays repeat s a e f adds =
     subst (λ b. FollowsWays p xs ys w b stays repeat (turned.Over 11)) (sym e)
     (record {
-      says = λ g catalogue cols ls n past o h counted offers lies.
+      says = λ g blocks cols ls n past o h counted offers lies.
           let held = offers .branches in
           record {
             notes = n;
             is = follow-full p g past ls n o _ (offers .answer)
                 (branch-of p g past ls (n .remembered) (n .space) (offers .theBranch) (held .state) (held .is) ∙
-                as-full .says g catalogue cols ls (n .remembered) (n .space) (n .counted) past (held .state) (h .list) (held .held) counted []);
+                as-full .says g blocks cols ls (n .remembered) (n .space) (n .counted) past (held .state) (h .list) (held .held) counted []);
           };
       bytes = adds .bytes;
     })
@@ -190,16 +190,16 @@ pub ways-done :
 ways-done p xs ys zs w v u branch stays repeat s a r small less lt e f adds noted-u on =
     subst (λ b. FollowsWays p xs zs w b stays repeat (turned.Goes r)) (sym e)
     (record {
-      says = λ g catalogue cols ls n past o h counted offers lies.
+      says = λ g blocks cols ls n past o h counted offers lies.
           let held = offers .branches in
-          let told = as-done .says g catalogue cols ls (n .remembered) (n .space) (n .counted) past (held .state) (h .list) (held .held) counted in
+          let told = as-done .says g blocks cols ls (n .remembered) (n .space) (n .counted) past (held .state) (h .list) (held .held) counted in
           let of = told .0 in
           let same = told .1 in
           record {
             front = goOn (rowOf (g .rows)) (onward (offers .theState) past) (of .waiting) (noteWays (record { branches = branchOf (offers .theBranch); stays = offers .theState; result = none; repeat = repeat }) (of .known) (of .left) n);
             is = follow-offered p g past ls n o _ (offers .answer) (of .waiting) (of .known) (of .left)
                 (branch-of p g past ls (n .remembered) (n .space) (offers .theBranch) (held .state) (held .is) ∙ of .same [] ∙ offers-none p g past (of .waiting) (of .known) (of .left));
-            holds = on .says g catalogue cols (of .waiting) _ past (offers .theState)
+            holds = on .says g blocks cols (of .waiting) _ past (offers .theState)
                 (noted h ys v u repeat (of .waiting) (of .known) (of .left) (branchOf (offers .theBranch)) (offers .theState) same lt noted-u (of .holds))
                 (subst (λ k. TellsWay (p .limit) k (cells ys) stays (offers .theState)) (bound-of (same .charged)) (way-below p xs ys (w .branches .first) (adds .below) (in-front (h .list)) (boundOf w) stays (offers .theState) lies (offers .goesOn)))
                 (stays-below p xs ys (w .branches .first) (adds .below) (in-front (h .list)) stays lies)
@@ -220,7 +220,7 @@ pub turn-holding : {p : Program} {xs : List ℕ} {w : Walk} → Turning p xs w �
 turn-holding t =
     record {
       given = t .walking .given;
-      catalogue = t .walking .catalogue;
+      blocks = t .walking .blocks;
       cols = t .walking .cols;
       waiting = t .walking .waiting;
       known = t .walking .notes .remembered;
@@ -252,7 +252,7 @@ pub walking-repeated : {p : Program} {xs : List ℕ} {w : Walk} → Turning p xs
 walking-repeated {p} {xs} {w} t u b e =
     record {
       given = t .walking .given;
-      catalogue = t .walking .catalogue;
+      blocks = t .walking .blocks;
       cols = t .walking .cols;
       waiting = t .walking .waiting;
       notes = _;
@@ -264,15 +264,15 @@ module _ {p : Program} {xs ys : List ℕ} {w v : Walk} {s : MemoryState} {a : Ad
   done-branch : AddsBranch p xs ys w s (added.Done v)
   done-branch = subst (AddsBranch p xs ys w s) e adds
 
-  after-branch : (h : Holding p xs w) → Offers p (h .given) (h .catalogue) ys (h .cols) v (h .past) (o .state ∷ []) (h .waiting) (h .known) (h .space) (h .results) × SameCounts w v
-  after-branch h = done-branch .says (h .given) (h .catalogue) (h .cols) (h .waiting) (h .known) (h .space) (h .results) (h .past) (o .state) (h .holds) (o .holds) (h .counted)
+  after-branch : (h : Holding p xs w) → Offers p (h .given) (h .blocks) ys (h .cols) v (h .past) (o .state ∷ []) (h .waiting) (h .known) (h .space) (h .results) × SameCounts w v
+  after-branch h = done-branch .says (h .given) (h .blocks) (h .cols) (h .waiting) (h .known) (h .space) (h .results) (h .past) (o .state) (h .holds) (o .holds) (h .counted)
 
   pub holding-after : Bytes xs → Bytes ys → Holding p xs w → Holding p ys v
   holding-after small less h =
       let t = after-branch h in
       record {
         given = h .given;
-        catalogue = h .catalogue;
+        blocks = h .blocks;
         cols = h .cols;
         waiting = t .0 .waiting;
         known = t .0 .known;
@@ -289,7 +289,7 @@ module _ {p : Program} {xs ys : List ℕ} {w v : Walk} {s : MemoryState} {a : Ad
       let d = after-branch (turn-holding t) in
       record {
         given = t .walking .given;
-        catalogue = t .walking .catalogue;
+        blocks = t .walking .blocks;
         cols = t .walking .cols;
         waiting = d .0 .waiting;
         notes = _;
@@ -325,8 +325,8 @@ module _ (p : Program) (xs ys : List ℕ) (w : Walk) (s₁ s₂ s₃ : MemorySta
   pub three-full : x ≡ added.Full → AddsThree p xs ys w s₁ s₂ s₃ added.Full
   three-full e =
       record {
-        says = λ g catalogue cols ls remembered space counted past m₁ m₂ m₃ h a b c now more.
-            as-full .says g catalogue cols ls remembered space counted past m₁ h a now (m₂ ∷ m₃ ∷ more);
+        says = λ g blocks cols ls remembered space counted past m₁ m₂ m₃ h a b c now more.
+            as-full .says g blocks cols ls remembered space counted past m₁ h a now (m₂ ∷ m₃ ∷ more);
         below = first .below;
         bytes = first .bytes;
       }
@@ -340,9 +340,9 @@ module _ (p : Program) (xs ys : List ℕ) (w : Walk) (s₁ s₂ s₃ : MemorySta
     first-done = subst (AddsBranch p xs ys w s₁) e first
 
     -- what the first leaves, for the second and third
-    module _ {g : Given} {catalogue cols : List ℕ} {ls : List (Lineage Defined)} {remembered : List Defined} {space : ℕ} {counted : List ResultRow} (past : List ℕ) (m : Defined) (h : HoldsList p g catalogue xs cols w ls remembered space counted) (a : HoldsState (p .limit) (boundOf w) (cells xs) s₁ m) (now : Counted xs (p .size) (countsFrom p) past) where
-      abbrev left-first : Offers p g catalogue ys cols u past (m ∷ []) ls remembered space counted × SameCounts w u
-      left-first = first-done .says g catalogue cols ls remembered space counted past m h a now
+    module _ {g : Given} {blocks cols : List ℕ} {ls : List (Lineage Defined)} {remembered : List Defined} {space : ℕ} {counted : List ResultRow} (past : List ℕ) (m : Defined) (h : HoldsList p g blocks xs cols w ls remembered space counted) (a : HoldsState (p .limit) (boundOf w) (cells xs) s₁ m) (now : Counted xs (p .size) (countsFrom p) past) where
+      abbrev left-first : Offers p g blocks ys cols u past (m ∷ []) ls remembered space counted × SameCounts w u
+      left-first = first-done .says g blocks cols ls remembered space counted past m h a now
 
       kept-state : (s : MemoryState) (n : Defined) → s .map .base + s .map .used ≤ w .branches .first → HoldsState (p .limit) (boundOf w) (cells xs) s n → HoldsState (p .limit) (boundOf u) (cells ys) s n
       kept-state s n fits held =
@@ -359,10 +359,10 @@ module _ (p : Program) (xs ys : List ℕ) (w : Walk) (s₁ s₂ s₃ : MemorySta
       pub three-second-full : y ≡ added.Full → AddsThree p xs zs w s₁ s₂ s₃ added.Full
       three-second-full f =
           record {
-            says = λ g catalogue cols ls remembered space counted past m₁ m₂ m₃ h a b c now more.
+            says = λ g blocks cols ls remembered space counted past m₁ m₂ m₃ h a b c now more.
                 let of = left-first past m₁ h a now .0 in
                 of .same (m₂ ∷ m₃ ∷ more) ∙
-                as-full .says g catalogue cols (of .waiting) (of .known) (of .left) counted past m₂ (of .holds) (kept-state past m₁ h a now s₂ m₂ fits₂ b) (kept-counts past m₁ h a now) (m₃ ∷ more);
+                as-full .says g blocks cols (of .waiting) (of .known) (of .left) counted past m₂ (of .holds) (kept-state past m₁ h a now s₂ m₂ fits₂ b) (kept-counts past m₁ h a now) (m₃ ∷ more);
             below = below-twice;
             bytes = second .bytes ∙ first .bytes;
           }
@@ -376,14 +376,14 @@ module _ (p : Program) (xs ys : List ℕ) (w : Walk) (s₁ s₂ s₃ : MemorySta
         second-done = subst (AddsBranch p ys zs u s₂) f second
 
         told-three :
-            (g : Given) (catalogue cols : List ℕ) (ls waiting waiting₂ : List (Lineage Defined)) (remembered known known₂ : List Defined) (space left left₂ : ℕ) (counted : List ResultRow) (past : List ℕ) (m₁ m₂ m₃ : Defined) (z : Added) →
+            (g : Given) (blocks cols : List ℕ) (ls waiting waiting₂ : List (Lineage Defined)) (remembered known known₂ : List Defined) (space left left₂ : ℕ) (counted : List ResultRow) (past : List ℕ) (m₁ m₂ m₃ : Defined) (z : Added) →
             ((more : List Defined) → theOffer p g past (m₁ ∷ more) ls remembered space ≡ theOffer p g past more waiting known left) →
             ((more : List Defined) → theOffer p g past (m₂ ∷ more) waiting known left ≡ theOffer p g past more waiting₂ known₂ left₂) →
             SameCounts w u → SameCounts u v →
-            TellsOffers p g catalogue ts cols v z past (m₃ ∷ []) waiting₂ known₂ left₂ counted →
-            TellsOffers p g catalogue ts cols w z past (m₁ ∷ m₂ ∷ m₃ ∷ []) ls remembered space counted
-        told-three g catalogue cols ls waiting waiting₂ remembered known known₂ space left left₂ counted past m₁ m₂ m₃ added.Full one two a b t = λ more. one (m₂ ∷ m₃ ∷ more) ∙ two (m₃ ∷ more) ∙ t more
-        told-three g catalogue cols ls waiting waiting₂ remembered known known₂ space left left₂ counted past m₁ m₂ m₃ (added.Done x) one two a b t = (
+            TellsOffers p g blocks ts cols v z past (m₃ ∷ []) waiting₂ known₂ left₂ counted →
+            TellsOffers p g blocks ts cols w z past (m₁ ∷ m₂ ∷ m₃ ∷ []) ls remembered space counted
+        told-three g blocks cols ls waiting waiting₂ remembered known known₂ space left left₂ counted past m₁ m₂ m₃ added.Full one two a b t = λ more. one (m₂ ∷ m₃ ∷ more) ∙ two (m₃ ∷ more) ∙ t more
+        told-three g blocks cols ls waiting waiting₂ remembered known known₂ space left left₂ counted past m₁ m₂ m₃ (added.Done x) one two a b t = (
           record { waiting = t .0 .waiting; known = t .0 .known; left = t .0 .left; same = λ more. one (m₂ ∷ m₃ ∷ more) ∙ two (m₃ ∷ more) ∙ t .0 .same more; holds = t .0 .holds },
           record { gas = t .1 .gas ∙ b .gas ∙ a .gas; charged = t .1 .charged ∙ b .charged ∙ a .charged; loopstops = t .1 .loopstops ∙ b .loopstops ∙ a .loopstops; gasstops = t .1 .gasstops ∙ b .gasstops ∙ a .gasstops; repeats = t .1 .repeats ∙ b .repeats ∙ a .repeats; width = t .1 .width ∙ b .width ∙ a .width },
         )
@@ -391,13 +391,13 @@ module _ (p : Program) (xs ys : List ℕ) (w : Walk) (s₁ s₂ s₃ : MemorySta
         pub three-all : AddsThree p xs ts w s₁ s₂ s₃ r
         three-all =
             record {
-              says = λ g catalogue cols ls remembered space counted past m₁ m₂ m₃ h a b c now.
+              says = λ g blocks cols ls remembered space counted past m₁ m₂ m₃ h a b c now.
                   let d = left-first past m₁ h a now in
                   let of = d .0 in
-                  let e₂ = second-done .says g catalogue cols (of .waiting) (of .known) (of .left) counted past m₂ (of .holds) (kept-state past m₁ h a now s₂ m₂ fits₂ b) (kept-counts past m₁ h a now) in
+                  let e₂ = second-done .says g blocks cols (of .waiting) (of .known) (of .left) counted past m₂ (of .holds) (kept-state past m₁ h a now s₂ m₂ fits₂ b) (kept-counts past m₁ h a now) in
                   let two = e₂ .0 in
-                  told-three g catalogue cols ls (of .waiting) (two .waiting) remembered (of .known) (two .known) space (of .left) (two .left) counted past m₁ m₂ m₃ r (of .same) (two .same) (d .1) (e₂ .1)
-                  (third .says g catalogue cols (two .waiting) (two .known) (two .left) counted past m₃ (two .holds)
+                  told-three g blocks cols ls (of .waiting) (two .waiting) remembered (of .known) (two .known) space (of .left) (two .left) counted past m₁ m₂ m₃ r (of .same) (two .same) (d .1) (e₂ .1)
+                  (third .says g blocks cols (two .waiting) (two .known) (two .left) counted past m₃ (two .holds)
                   (subst (λ k. HoldsState (p .limit) k (cells zs) s₃ m₃) (ap (λ k. operands + k) (sym (e₂ .1 .charged)))
                   (held-below p ys zs (u .branches .first) (second .below) (in-front (of .holds)) (boundOf u) s₃ m₃ (omega (arith, same-first)) (kept-state past m₁ h a now s₃ m₃ fits₃ c)))
                   (counted-below (of .holds) zs past less low (second .bytes) (second .below) (kept-counts past m₁ h a now)));
@@ -409,11 +409,11 @@ module _ (p : Program) (xs ys : List ℕ) (w : Walk) (s₁ s₂ s₃ : MemorySta
 pub three-over : (p : Program) (xs ys : List ℕ) (w : Walk) (a b c stays : MemoryState) (x : Added) → x ≡ added.Full → AddsThree p xs ys w a b c x → FollowsThree p xs ys w a b c stays (turned.Over 11)
 three-over p xs ys w a b c stays x e adds =
     record {
-      says = λ g catalogue cols ls n past o h counted offers lies.
+      says = λ g blocks cols ls n past o h counted offers lies.
           record {
             notes = n;
             is = follow-full p g past ls n o _ (offers .answer)
-                (as-full .says g catalogue cols ls (n .remembered) (n .space) (n .counted) past (offers .first) (offers .second) (offers .third) (h .list) (offers .firstHeld) (offers .secondHeld) (offers .thirdHeld) counted []);
+                (as-full .says g blocks cols ls (n .remembered) (n .space) (n .counted) past (offers .first) (offers .second) (offers .third) (h .list) (offers .firstHeld) (offers .secondHeld) (offers .thirdHeld) counted []);
           };
       bytes = adds .bytes;
     }
@@ -427,14 +427,14 @@ pub three-goes :
     FollowsThree p xs zs w a b c stays (turned.Goes r)
 three-goes p xs ys zs w v a b c stays x r small less lt e adds on =
     record {
-      says = λ g catalogue cols ls n past o h counted offers lies.
-          let t = as-done .says g catalogue cols ls (n .remembered) (n .space) (n .counted) past (offers .first) (offers .second) (offers .third) (h .list) (offers .firstHeld) (offers .secondHeld) (offers .thirdHeld) counted in
+      says = λ g blocks cols ls n past o h counted offers lies.
+          let t = as-done .says g blocks cols ls (n .remembered) (n .space) (n .counted) past (offers .first) (offers .second) (offers .third) (h .list) (offers .firstHeld) (offers .secondHeld) (offers .thirdHeld) counted in
           let of = t .0 in
           let same = t .1 in
           record {
             front = goOn (rowOf (g .rows)) (onward (some (offers .state)) past) (of .waiting) (noteWays (record { branches = offers .first ∷ offers .second ∷ offers .third ∷ []; stays = some (offers .state); result = none; repeat = false }) (of .known) (of .left) n);
             is = follow-offered p g past ls n o _ (offers .answer) (of .waiting) (of .known) (of .left) (of .same [] ∙ offers-none p g past (of .waiting) (of .known) (of .left));
-            holds = on .says g catalogue cols (of .waiting) _ past (some (offers .state))
+            holds = on .says g blocks cols (of .waiting) _ past (some (offers .state))
                 (noted h ys v v false (of .waiting) (of .known) (of .left) (offers .first ∷ offers .second ∷ offers .third ∷ []) (some (offers .state)) same lt refl (of .holds))
                 (subst (λ k. TellsWay (p .limit) k (cells ys) (way.To stays) (some (offers .state))) (ap (λ k. operands + k) (sym (same .charged)))
                 (way-below p xs ys (w .branches .first) (adds .below) (in-front (h .list)) (boundOf w) (way.To stays) (some (offers .state)) lies (record { state = offers .state; is = refl; held = offers .stateHeld })))
@@ -453,10 +453,10 @@ pub walking-three :
 walking-three {p} {xs} {ys} {w} {v} {a} {b} {c} adds e oa ob oc t =
     let h = t .walking .holds in
     let n = t .walking .notes in
-    let d = as-done .says (t .walking .given) (t .walking .catalogue) (t .walking .cols) (t .walking .waiting) (n .remembered) (n .space) (n .counted) (t .past) (oa .state) (ob .state) (oc .state) (h .list) (oa .holds) (ob .holds) (oc .holds) (t .counted) in
+    let d = as-done .says (t .walking .given) (t .walking .blocks) (t .walking .cols) (t .walking .waiting) (n .remembered) (n .space) (n .counted) (t .past) (oa .state) (ob .state) (oc .state) (h .list) (oa .holds) (ob .holds) (oc .holds) (t .counted) in
     record {
       given = t .walking .given;
-      catalogue = t .walking .catalogue;
+      blocks = t .walking .blocks;
       cols = t .walking .cols;
       waiting = d .0 .waiting;
       notes = _;

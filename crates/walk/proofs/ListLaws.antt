@@ -31,9 +31,9 @@ use Rattle.walk.proofs.BranchLaws.{rows-kept}
 use Rattle.walk.specs.declared.Program.{Program}
 
 -- a walk whose cells are as they were but for the current lineage's
-module _ {p : Program} {g : Given} {catalogue xs cols : List ℕ} {w : Walk} {ls : List (Lineage Defined)} {remembered : List Defined} {space : ℕ} {counted : List ResultRow} (h : HoldsList p g catalogue xs cols w ls remembered space counted) where
+module _ {p : Program} {g : Given} {blocks xs cols : List ℕ} {w : Walk} {ls : List (Lineage Defined)} {remembered : List Defined} {space : ℕ} {counted : List ResultRow} (h : HoldsList p g blocks xs cols w ls remembered space counted) where
   -- other counts, and more charged
-  pub list-as : (v : Walk) → v .branches ≡ w .branches → v .width ≡ w .width → w .charged ≤ v .charged → boundOf v ≤ largest → HoldsList p g catalogue xs cols v ls remembered space counted
+  pub list-as : (v : Walk) → v .branches ≡ w .branches → v .width ≡ w .width → w .charged ≤ v .charged → boundOf v ≤ largest → HoldsList p g blocks xs cols v ls remembered space counted
   list-as v b width le top =
       record {
         size = h .size;
@@ -56,7 +56,7 @@ module _ {p : Program} {g : Given} {catalogue xs cols : List ℕ} {w : Walk} {ls
       (ys : List ℕ) → Bytes xs → Bytes ys → length ys ≡ length xs →
       ((j : ℕ) → rowsFrom p ≤ j → j < countsFrom p → getD (cells ys) j blank ≡ getD (cells xs) j blank) →
       ((j : ℕ) → firstFrom p ≤ j → getD (cells ys) j blank ≡ getD (cells xs) j blank) →
-      HoldsList p g catalogue ys cols w ls remembered space counted
+      HoldsList p g blocks ys cols w ls remembered space counted
   list-kept ys small less long rows above =
       record {
         size = h .size;

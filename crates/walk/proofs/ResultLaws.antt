@@ -36,12 +36,12 @@ has-more dols k row columns counted h = h
 module _ (p : Program) (xs cols dols : List ℕ) (w v : Walk) (s : MemoryState) (first n k : ℕ) (merges : Merges (cells xs) (s .map) first n cols dols (w .width) k) (narrow : n ≤ 2000) (e : v ≡ withWidth w k) where
   -- the list then, of a state that the branch holds
   list-merged :
-      {g : Given} {catalogue : List ℕ} {ls : List (Lineage Defined)} {remembered : List Defined} {space : ℕ} {counted : List ResultRow} →
-      HoldsList p g catalogue xs cols w ls remembered space counted →
+      {g : Given} {blocks : List ℕ} {ls : List (Lineage Defined)} {remembered : List Defined} {space : ℕ} {counted : List ResultRow} →
+      HoldsList p g blocks xs cols w ls remembered space counted →
       (m : Defined) (row : ℕ) (columns : List ColumnType) → HoldsState (p .limit) (boundOf w) (cells xs) s m → readColumns n (pos first) m ≡ done columns →
-      HoldsList p g catalogue xs dols v ls remembered space (record { row = row; columns = resultColumns columns } ∷ counted)
-  list-merged {g} {catalogue} {ls} {remembered} {space} {counted} h m row columns held read =
-      subst (λ x. HoldsList p g catalogue xs dols x ls remembered space (record { row = row; columns = resultColumns columns } ∷ counted)) (sym e)
+      HoldsList p g blocks xs dols v ls remembered space (record { row = row; columns = resultColumns columns } ∷ counted)
+  list-merged {g} {blocks} {ls} {remembered} {space} {counted} h m row columns held read =
+      subst (λ x. HoldsList p g blocks xs dols x ls remembered space (record { row = row; columns = resultColumns columns } ∷ counted)) (sym e)
       (record {
         size = h .size;
         few = h .few;
@@ -59,7 +59,7 @@ module _ (p : Program) (xs cols dols : List ℕ) (w v : Walk) (s : MemoryState) 
       })
 
   -- of some walk, with the columns that there are
-  list-here : (t : Turning p xs w) (r : Resulting p xs cols w s first n) → HoldsList p (t .walking .given) (t .walking .catalogue) xs cols w (t .walking .waiting) (t .walking .notes .remembered) (t .walking .notes .space) (r .results)
+  list-here : (t : Turning p xs w) (r : Resulting p xs cols w s first n) → HoldsList p (t .walking .given) (t .walking .blocks) xs cols w (t .walking .waiting) (t .walking .notes .remembered) (t .walking .notes .space) (r .results)
   list-here t r =
       let h = t .walking .holds .list in
       record {
@@ -83,7 +83,7 @@ module _ (p : Program) (xs cols dols : List ℕ) (w v : Walk) (s : MemoryState) 
   result-holding t r =
       record {
         given = t .walking .given;
-        catalogue = t .walking .catalogue;
+        blocks = t .walking .blocks;
         cols = dols;
         waiting = t .walking .waiting;
         known = t .walking .notes .remembered;
@@ -154,11 +154,11 @@ module _ (p : Program) (xs cols dols : List ℕ) (w v : Walk) (s : MemoryState) 
     pub result-full : a ≡ added.Full → FollowsResult p xs ys cols dols w s first n (turned.Over 11)
     result-full f =
         record {
-          says = λ g catalogue ls notes past m o h counted offers.
+          says = λ g blocks ls notes past m o h counted offers.
               record {
                 notes = notes;
                 is = follow-full p g past ls notes o _ (offers .answer)
-                    (as-full .says g catalogue dols ls (notes .remembered) (notes .space) _ past (next m)
+                    (as-full .says g blocks dols ls (notes .remembered) (notes .space) _ past (next m)
                     (list-merged (h .list) (next m) (turns (m .programI)) (offers .columns) (offers .held) (offers .read)) (state-as (next m) (offers .held)) counted []);
               };
           bytes = adds .bytes;
@@ -175,11 +175,11 @@ module _ (p : Program) (xs cols dols : List ℕ) (w v : Walk) (s : MemoryState) 
       pub result-walking : Turning p xs w → Resulting p xs cols w s first n → Walking p ys u
       result-walking t r =
           let h = t .walking .holds in
-          let d = as-done .says (t .walking .given) (t .walking .catalogue) dols (t .walking .waiting) (t .walking .notes .remembered) (t .walking .notes .space) _ (t .past) (r .offering .state)
+          let d = as-done .says (t .walking .given) (t .walking .blocks) dols (t .walking .waiting) (t .walking .notes .remembered) (t .walking .notes .space) _ (t .past) (r .offering .state)
           (list-merged (list-here t r) (r .offering .state) 0 (r .row) (r .offering .holds) (r .read)) (state-as (r .offering .state) (r .offering .holds)) (t .counted) in
           record {
             given = t .walking .given;
-            catalogue = t .walking .catalogue;
+            blocks = t .walking .blocks;
             cols = dols;
             waiting = d .0 .waiting;
             notes = noteWays (record { branches = []; stays = none; result = some (record { row = 0; columns = resultColumns (r .row) }); repeat = false }) (d .0 .known) (d .0 .left) (counting (r .results) (t .walking .notes));
@@ -189,8 +189,8 @@ module _ (p : Program) (xs cols dols : List ℕ) (w v : Walk) (s : MemoryState) 
       pub result-goes : (zs : List ℕ) (r : Front) → TakesUp p ys zs u r → FollowsResult p xs zs cols dols w s first n (turned.Goes r)
       result-goes zs r takes =
           record {
-            says = λ g catalogue ls notes past m o h counted offers.
-                let d = as-done .says g catalogue dols ls (notes .remembered) (notes .space) _ past (next m)
+            says = λ g blocks ls notes past m o h counted offers.
+                let d = as-done .says g blocks dols ls (notes .remembered) (notes .space) _ past (next m)
                 (list-merged (h .list) (next m) (turns (m .programI)) (offers .columns) (offers .held) (offers .read)) (state-as (next m) (offers .held)) counted in
                 let of = d .0 in
                 let rr : ResultRow = record { row = turns (m .programI); columns = resultColumns (offers .columns) } in
@@ -199,7 +199,7 @@ module _ (p : Program) (xs cols dols : List ℕ) (w v : Walk) (s : MemoryState) 
                   front = takeUp (rowOf (g .rows)) (of .waiting) after;
                   is = follow-offered p g past ls notes o _ (offers .answer) (of .waiting) (of .known) (of .left) (of .same [] ∙ offers-none p g past (of .waiting) (of .known) (of .left)) ∙
                       ap goes (nowhere g (of .waiting) after past none refl);
-                  holds = takes .says g catalogue dols (of .waiting) after (record { list = of .holds; counts = counts-as (h .counts) (d .1) rr (of .known) (of .left) (next m ∷ []); all = all-as (d .1) (h .all) });
+                  holds = takes .says g blocks dols (of .waiting) after (record { list = of .holds; counts = counts-as (h .counts) (d .1) rr (of .known) (of .left) (next m ∷ []); all = all-as (d .1) (h .all) });
                 };
             bytes = takes .bytes ∙ adds .bytes;
             columns = wide;

@@ -94,26 +94,26 @@ module _ (p : Program) (g : Given) where
 
 -- ---- where the loop is
 
-pub record Rests (p : Program) (g : Given) (catalogue xs cols : List ℕ) (v : Walk) (m : MemoryState) (left budget gas : ℕ) (f : Fronted Defined ResultRow) : Type 0 where
+pub record Rests (p : Program) (g : Given) (blocks xs cols : List ℕ) (v : Walk) (m : MemoryState) (left budget gas : ℕ) (f : Fronted Defined ResultRow) : Type 0 where
   pub front : Fronted Defined ResultRow
-  pub holds : HoldsRow p g catalogue xs cols v m front
+  pub holds : HoldsRow p g blocks xs cols v m front
   pub same : theRun p g budget gas f ≡ theRun p g left (v .gas) front
   pub stops : notesAt front .gasstops ≡ 0
 
-pub record RunsTo (p : Program) (catalogue xs ys cols dols : List ℕ) (w : Walk) (s : MemoryState) (budget : ℕ) (v : Walk) (m : MemoryState) (left : ℕ) : Type 0 where
-  pub says : (g : Given) (f : Fronted Defined ResultRow) → HoldsRow p g catalogue xs cols w s f → notesAt f .gasstops ≡ 0 → Rests p g catalogue ys dols v m left budget (w .gas) f
+pub record RunsTo (p : Program) (blocks xs ys cols dols : List ℕ) (w : Walk) (s : MemoryState) (budget : ℕ) (v : Walk) (m : MemoryState) (left : ℕ) : Type 0 where
+  pub says : (g : Given) (f : Fronted Defined ResultRow) → HoldsRow p g blocks xs cols w s f → notesAt f .gasstops ≡ 0 → Rests p g blocks ys dols v m left budget (w .gas) f
   pub bytes : length ys ≡ length xs
   pub columns : length dols ≡ length cols
 
-pub runs-first : (p : Program) (catalogue xs cols : List ℕ) (w : Walk) (s : MemoryState) (budget : ℕ) → RunsTo p catalogue xs xs cols cols w s budget w s budget
-runs-first p catalogue xs cols w s budget = record { says = λ g f h z. record { front = f; holds = h; same = refl; stops = z }; bytes = refl; columns = refl }
+pub runs-first : (p : Program) (blocks xs cols : List ℕ) (w : Walk) (s : MemoryState) (budget : ℕ) → RunsTo p blocks xs xs cols cols w s budget w s budget
+runs-first p blocks xs cols w s budget = record { says = λ g f h z. record { front = f; holds = h; same = refl; stops = z }; bytes = refl; columns = refl }
 
-module _ {p : Program} {catalogue xs ys cols dols : List ℕ} {w v : Walk} {s m : MemoryState} {budget left : ℕ} (r : RunsTo p catalogue xs ys cols dols w s budget v m left) where
-  module _ (a : Running p catalogue xs cols w s) where
-    now : Rests p (a .given) catalogue ys dols v m left budget (w .gas) (a .front)
+module _ {p : Program} {blocks xs ys cols dols : List ℕ} {w v : Walk} {s m : MemoryState} {budget left : ℕ} (r : RunsTo p blocks xs ys cols dols w s budget v m left) where
+  module _ (a : Running p blocks xs cols w s) where
+    now : Rests p (a .given) blocks ys dols v m left budget (w .gas) (a .front)
     now = r .says (a .given) (a .front) (a .holds) (a .unclosed)
 
-    pub runs-standing : 0 < v .gas → Standing p catalogue ys dols v m
+    pub runs-standing : 0 < v .gas → Standing p blocks ys dols v m
     runs-standing gas = record { given = a .given; front = now .front; holds = now .holds; width = r .columns ∙ a .width; gas = gas }
 
     none-stopped : v .gasstops ≡ 0
@@ -125,9 +125,9 @@ module _ {p : Program} {catalogue xs ys cols dols : List ℕ} {w v : Walk} {s m 
     waits-few (k ∷ ks) all h among small = omega (arith, h .0, small k (among k (inl refl)))
 
     pub may-close : Walking p ys v × (v .gasstops + v .branches .last < 4294967294)
-    may-close = (record { given = a .given; catalogue = catalogue; cols = dols; waiting = now .holds .waiting; notes = now .holds .notes; holds = now .holds .walk }, omega (arith, none-stopped, few))
+    may-close = (record { given = a .given; blocks = blocks; cols = dols; waiting = now .holds .waiting; notes = now .holds .notes; holds = now .holds .walk }, omega (arith, none-stopped, few))
       where
-        h : HoldsWalk p (a .given) catalogue ys dols v (now .holds .waiting) (now .holds .notes)
+        h : HoldsWalk p (a .given) blocks ys dols v (now .holds .waiting) (now .holds .notes)
         h = now .holds .walk
 
         few : v .branches .last < 1048576
@@ -135,7 +135,7 @@ module _ {p : Program} {catalogue xs ys cols dols : List ℕ} {w v : Walk} {s m 
             (λ k e. let b = blocks-span (cells ys) (p .size) (v .branches .first) (v .branches .top) (h .list .all) (h .list .remembers .blocks) k e in omega (arith, b .1, h .list .remembers .inside, h .list .remembers .small))
 
   -- the budget is used up
-  pub runs-pause : left ≤ 0 → 0 < v .gas → Runs p catalogue xs ys cols dols w s budget (progress.Paused v m)
+  pub runs-pause : left ≤ 0 → 0 < v .gas → Runs p blocks xs ys cols dols w s budget (progress.Paused v m)
   runs-pause none-left gas =
       record {
         says = λ g f h z.
@@ -150,7 +150,7 @@ module _ {p : Program} {catalogue xs ys cols dols : List ℕ} {w v : Walk} {s m 
       }
 
   -- no unit is left
-  pub runs-close : (q : Walk) → v .gas ≡ 0 → ClosesCurrent p ys v q → Runs p catalogue xs ys cols dols w s budget (progress.Ended q)
+  pub runs-close : (q : Walk) → v .gas ≡ 0 → ClosesCurrent p ys v q → Runs p blocks xs ys cols dols w s budget (progress.Ended q)
   runs-close q gas closes =
       record {
         says = λ g f h z.
@@ -158,15 +158,15 @@ module _ {p : Program} {catalogue xs ys cols dols : List ℕ} {w v : Walk} {s m 
             record {
               notes = closeAll (rowOf (g .rows)) (t .holds .waiting) (gasStop (t .holds .notes));
               is = t .same ∙ ap (theRun p g left (v .gas)) (t .holds .is) ∙ run-stops p g left (v .gas) (t .holds .row) (t .holds .lineage) (t .holds .waiting) (t .holds .notes) gas;
-              end = closes .says g catalogue dols (t .holds .waiting) (t .holds .notes) (t .holds .walk);
+              end = closes .says g blocks dols (t .holds .waiting) (t .holds .notes) (t .holds .walk);
             };
         bytes = r .bytes;
         columns = r .columns;
       }
 
   -- a turn
-  module _ (some-left : 0 < left) (gas : 0 < v .gas) (zs eols : List ℕ) (t : Turn) (turns : Turns p catalogue ys zs dols eols v m t) where
-    pub runs-refused : (k : ℕ) → t ≡ turned.Over k → Runs p catalogue xs zs cols eols w s budget (progress.Refused k)
+  module _ (some-left : 0 < left) (gas : 0 < v .gas) (zs eols : List ℕ) (t : Turn) (turns : Turns p blocks ys zs dols eols v m t) where
+    pub runs-refused : (k : ℕ) → t ≡ turned.Over k → Runs p blocks xs zs cols eols w s budget (progress.Refused k)
     runs-refused k e =
         record {
           says = λ g f h z.
@@ -177,11 +177,11 @@ module _ {p : Program} {catalogue xs ys cols dols : List ℕ} {w v : Walk} {s m 
           columns = turns .columns ∙ r .columns;
         }
       where
-        as-over : Turns p catalogue ys zs dols eols v m (turned.Over k)
-        as-over = subst (Turns p catalogue ys zs dols eols v m) e turns
+        as-over : Turns p blocks ys zs dols eols v m (turned.Over k)
+        as-over = subst (Turns p blocks ys zs dols eols v m) e turns
 
     module _ (fr : Front) (e : t ≡ turned.Goes fr) where
-      pub runs-ended : (u : Walk) → fr ≡ front.NoneLeft u → Runs p catalogue xs zs cols eols w s budget (progress.Ended u)
+      pub runs-ended : (u : Walk) → fr ≡ front.NoneLeft u → Runs p blocks xs zs cols eols w s budget (progress.Ended u)
       runs-ended u d =
           record {
             says = λ g f h z.
@@ -197,7 +197,7 @@ module _ {p : Program} {catalogue xs ys cols dols : List ℕ} {w v : Walk} {s m 
             columns = turns .columns ∙ r .columns;
           }
         where
-          few-then : {g : Given} {d : Fronted Defined ResultRow} (n : HoldsNone p g catalogue zs eols u d) → n .notes .gasstops ≡ 0 → Few u
+          few-then : {g : Given} {d : Fronted Defined ResultRow} (n : HoldsNone p g blocks zs eols u d) → n .notes .gasstops ≡ 0 → Few u
           few-then n z =
               record {
                 charged = omega (arith, n .walk .counts .gas-few);
@@ -207,15 +207,15 @@ module _ {p : Program} {catalogue xs ys cols dols : List ℕ} {w v : Walk} {s m 
                 width = n .walk .list .wide;
               }
 
-          notes-then : (g : Given) {f : Fronted Defined ResultRow} (b : Rests p g catalogue ys dols v m left budget (w .gas) f) (c : Moved p g catalogue zs eols (front.NoneLeft u) (theTurn p g (b .front))) (n : HoldsNone p g catalogue zs eols u (c .front)) → n .notes .gasstops ≡ 0
+          notes-then : (g : Given) {f : Fronted Defined ResultRow} (b : Rests p g blocks ys dols v m left budget (w .gas) f) (c : Moved p g blocks zs eols (front.NoneLeft u) (theTurn p g (b .front))) (n : HoldsNone p g blocks zs eols u (c .front)) → n .notes .gasstops ≡ 0
           notes-then g b c n =
               let noted = subst (NotedTurn (b .holds .notes)) (sym (ap (theTurn p g) (b .holds .is)) ∙ c .is) (turn-notes p g (b .holds .row) (b .holds .lineage) (b .holds .waiting) (b .holds .notes)) in
               ap (λ x. notesAt x .gasstops) (sym (n .is)) ∙ noted .gasstops ∙ ap (λ x. notesAt x .gasstops) (sym (b .holds .is)) ∙ b .stops
 
-          as-none : Turns p catalogue ys zs dols eols v m (turned.Goes (front.NoneLeft u))
-          as-none = subst (Turns p catalogue ys zs dols eols v m) (e ∙ ap turned.Goes d) turns
+          as-none : Turns p blocks ys zs dols eols v m (turned.Goes (front.NoneLeft u))
+          as-none = subst (Turns p blocks ys zs dols eols v m) (e ∙ ap turned.Goes d) turns
 
-      pub runs-next : (u : Walk) (n : MemoryState) → fr ≡ front.OnRow u n → RunsTo p catalogue xs zs cols eols w s budget u n (left - 1)
+      pub runs-next : (u : Walk) (n : MemoryState) → fr ≡ front.OnRow u n → RunsTo p blocks xs zs cols eols w s budget u n (left - 1)
       runs-next u n d =
           record {
             says = λ g f h z.
@@ -232,8 +232,8 @@ module _ {p : Program} {catalogue xs ys cols dols : List ℕ} {w v : Walk} {s m 
             columns = turns .columns ∙ r .columns;
           }
         where
-          as-row : Turns p catalogue ys zs dols eols v m (turned.Goes (front.OnRow u n))
-          as-row = subst (Turns p catalogue ys zs dols eols v m) (e ∙ ap turned.Goes d) turns
+          as-row : Turns p blocks ys zs dols eols v m (turned.Goes (front.OnRow u n))
+          as-row = subst (Turns p blocks ys zs dols eols v m) (e ∙ ap turned.Goes d) turns
 
-          less-gas : (g : Given) {f d : Fronted Defined ResultRow} (b : HoldsRow p g catalogue ys dols v m f) (c : HoldsRow p g catalogue zs eols u n d) → c .notes .charged ≡ b .notes .charged + 1 → v .gas - 1 ≡ u .gas
+          less-gas : (g : Given) {f d : Fronted Defined ResultRow} (b : HoldsRow p g blocks ys dols v m f) (c : HoldsRow p g blocks zs eols u n d) → c .notes .charged ≡ b .notes .charged + 1 → v .gas - 1 ≡ u .gas
           less-gas g b c e = omega (arith, b .walk .all, c .walk .all, b .walk .counts .charged, c .walk .counts .charged, e)

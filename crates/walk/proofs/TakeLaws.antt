@@ -30,18 +30,18 @@ use Rattle.branches.proofs.BlockLaws.{blocks-span}
 use Rattle.walk.proofs.ListLaws.{in-listing, outside, stands}
 
 -- with these branches left, the front is still the one of the whole
-pub record Reached (p : Program) (g : Given) (catalogue xs cols : List ℕ) (w : Walk) (b : BranchList) (ls : List (Lineage Defined)) (n : Notes Defined ResultRow) : Type 0 where
+pub record Reached (p : Program) (g : Given) (blocks xs cols : List ℕ) (w : Walk) (b : BranchList) (ls : List (Lineage Defined)) (n : Notes Defined ResultRow) : Type 0 where
   pub waiting : List (Lineage Defined)
   pub notes : Notes Defined ResultRow
   pub same : takeUp (rowOf (g .rows)) ls n ≡ takeUp (rowOf (g .rows)) waiting notes
-  pub holds : HoldsWalk p g catalogue xs cols (withBranches w b) waiting notes
+  pub holds : HoldsWalk p g blocks xs cols (withBranches w b) waiting notes
 
 pub record Reaching (p : Program) (xs : List ℕ) (w : Walk) (b : BranchList) : Type 0 where
-  pub says : (g : Given) (catalogue cols : List ℕ) (ls : List (Lineage Defined)) (n : Notes Defined ResultRow) → HoldsWalk p g catalogue xs cols w ls n → Reached p g catalogue xs cols w b ls n
+  pub says : (g : Given) (blocks cols : List ℕ) (ls : List (Lineage Defined)) (n : Notes Defined ResultRow) → HoldsWalk p g blocks xs cols w ls n → Reached p g blocks xs cols w b ls n
   pub few : b .last ≤ w .branches .last
 
 pub reach-first : (p : Program) (xs : List ℕ) (w : Walk) → Reaching p xs w (w .branches)
-reach-first p xs w = record { says = λ g catalogue cols ls n h. record { waiting = ls; notes = n; same = refl; holds = h }; few = omega arith }
+reach-first p xs w = record { says = λ g blocks cols ls n h. record { waiting = ls; notes = n; same = refl; holds = h }; few = omega arith }
 
 -- a turn of the definition
 module _ (g : Given) where
@@ -58,14 +58,14 @@ module _ (g : Given) where
   taken-up l ls n row e = rw (e, takeUp)
 
 -- a lineage that was taken is noted, and the area holds the walk without it
-module _ {p : Program} {g : Given} {catalogue xs cols : List ℕ} {w : Walk} {ls : List (Lineage Defined)} {n : Notes Defined ResultRow} (h : HoldsWalk p g catalogue xs cols w ls n) (c : BranchList) (at : ℕ) (t : Taken (p .limit) (boundOf w) (p .size) xs (h .list .all) (h .list .wait) (w .branches) c at) where
+module _ {p : Program} {g : Given} {blocks xs cols : List ℕ} {w : Walk} {ls : List (Lineage Defined)} {n : Notes Defined ResultRow} (h : HoldsWalk p g blocks xs cols w ls n) (c : BranchList) (at : ℕ) (t : Taken (p .limit) (boundOf w) (p .size) xs (h .list .all) (h .list .wait) (w .branches) c at) where
   abbrev lineage-of : Lineage Defined
   lineage-of = record { mem = t .taken .mem; past = t .taken .past }
 
   waits-as : ls ≡ lineage-of ∷ lineages (t .rest)
   waits-as = sym (h .list .waits) ∙ ap lineages (t .is)
 
-  abbrev without : HoldsWalk p g catalogue xs cols (withBranches w c) (lineages (t .rest)) (noteTaken (t .taken .mem) n)
+  abbrev without : HoldsWalk p g blocks xs cols (withBranches w c) (lineages (t .rest)) (noteTaken (t .taken .mem) n)
   without =
       record {
         list = record {
@@ -108,8 +108,8 @@ module _ {p : Program} {g : Given} {catalogue xs cols : List ℕ} {w : Walk} {ls
 module _ {p : Program} {xs : List ℕ} {w : Walk} {b : BranchList} (r : Reaching p xs w b) where
   now : Walking p xs w → Walking p xs (withBranches w b)
   now a =
-      let h = r .says (a .given) (a .catalogue) (a .cols) (a .waiting) (a .notes) (a .holds) in
-      record { given = a .given; catalogue = a .catalogue; cols = a .cols; waiting = h .waiting; notes = h .notes; holds = h .holds }
+      let h = r .says (a .given) (a .blocks) (a .cols) (a .waiting) (a .notes) (a .holds) in
+      record { given = a .given; blocks = a .blocks; cols = a .cols; waiting = h .waiting; notes = h .notes; holds = h .holds }
 
   -- nothing waits: no lineage is left
   module _ (e : b .last ≡ 0) where
@@ -120,13 +120,13 @@ module _ {p : Program} {xs : List ℕ} {w : Walk} {b : BranchList} (r : Reaching
     pub reach-end : (v : Walk) → v ≡ withBranches w b → Takes p xs w (taken.Nothing v)
     reach-end v f = subst (λ u. Takes p xs w (taken.Nothing u)) (sym f)
         (record {
-          says = λ g catalogue cols ls n h.
-              let a = r .says g catalogue cols ls n h in
+          says = λ g blocks cols ls n h.
+              let a = r .says g blocks cols ls n h in
               let empty : a .waiting ≡ [] = sym (a .holds .list .waits) ∙ none-wait (cells xs) (b .last) (a .holds .list .wait) e (a .holds .list .remembers .waiting) in
               record {
                 notes = a .notes;
                 is = a .same ∙ ap (λ l. takeUp (rowOf (g .rows)) l (a .notes)) empty ∙ ended g (a .notes);
-                holds = subst (λ l. HoldsWalk p g catalogue xs cols (withBranches w b) l (a .notes)) empty (a .holds);
+                holds = subst (λ l. HoldsWalk p g blocks xs cols (withBranches w b) l (a .notes)) empty (a .holds);
               };
           less = tt;
         })
@@ -136,13 +136,13 @@ module _ {p : Program} {xs : List ℕ} {w : Walk} {b : BranchList} (r : Reaching
     pub reach-nothing : x ≡ popped.Nothing → (v : Walk) → v ≡ withBranches w b → Takes p xs w (taken.Nothing v)
     reach-nothing e v f = subst (λ u. Takes p xs w (taken.Nothing u)) (sym f)
         (record {
-          says = λ g catalogue cols ls n h.
-              let a = r .says g catalogue cols ls n h in
+          says = λ g blocks cols ls n h.
+              let a = r .says g blocks cols ls n h in
               let empty : a .waiting ≡ [] = sym (a .holds .list .waits) ∙ ap lineages (as-nothing .pops (p .limit) (p .size) .says (boundOf w) (a .holds .list .all) (a .holds .list .wait) (a .holds .list .remembers)) in
               record {
                 notes = a .notes;
                 is = a .same ∙ ap (λ l. takeUp (rowOf (g .rows)) l (a .notes)) empty ∙ ended g (a .notes);
-                holds = subst (λ l. HoldsWalk p g catalogue xs cols (withBranches w b) l (a .notes)) empty (a .holds);
+                holds = subst (λ l. HoldsWalk p g blocks xs cols (withBranches w b) l (a .notes)) empty (a .holds);
               };
           less = tt;
         })
@@ -155,15 +155,15 @@ module _ {p : Program} {xs : List ℕ} {w : Walk} {b : BranchList} (r : Reaching
       as-at = subst (PopsAny xs b) e pops
 
       -- what was taken, of a walk that is held
-      one : {g : Given} {catalogue cols : List ℕ} {ls : List (Lineage Defined)} {n : Notes Defined ResultRow} (h : HoldsWalk p g catalogue xs cols (withBranches w b) ls n) → Taken (p .limit) (boundOf w) (p .size) xs (h .list .all) (h .list .wait) b c at
+      one : {g : Given} {blocks cols : List ℕ} {ls : List (Lineage Defined)} {n : Notes Defined ResultRow} (h : HoldsWalk p g blocks xs cols (withBranches w b) ls n) → Taken (p .limit) (boundOf w) (p .size) xs (h .list .all) (h .list .wait) b c at
       one h = as-at .pops (p .limit) (p .size) .says (boundOf w) (h .list .all) (h .list .wait) (h .list .remembers)
 
       -- it stands on no row
       pub reach-next : Walking p xs w → inListing (rowAt (cells xs) at) p ≡ false → Reaching p xs w c
       reach-next walking out =
           record {
-            says = λ g catalogue cols ls n h.
-                let a = r .says g catalogue cols ls n h in
+            says = λ g blocks cols ls n h.
+                let a = r .says g blocks cols ls n h in
                 let t = one (a .holds) in
                 record {
                   waiting = lineages (t .rest);
@@ -180,8 +180,8 @@ module _ {p : Program} {xs : List ℕ} {w : Walk} {b : BranchList} (r : Reaching
       pub reach-row : Walking p xs w → inListing (rowAt (cells xs) at) p ≡ true → (v : Walk) → v ≡ withBranches w c → Takes p xs w (taken.At v at)
       reach-row walking in-it v f = subst (λ u. Takes p xs w (taken.At u at)) (sym f)
           (record {
-            says = λ g catalogue cols ls n h.
-                let a = r .says g catalogue cols ls n h in
+            says = λ g blocks cols ls n h.
+                let a = r .says g blocks cols ls n h in
                 let t = one (a .holds) in
                 let i = in-listing p (rowAt (cells xs) at) in-it in
                 record {

@@ -39,7 +39,8 @@ use Rattle.branches.specs.Lists.{Offers as Below-them}
 use Rattle.branches.proofs.RememberLaws.{Bytes, counted-kept}
 use Rattle.branches.proofs.BlockLaws.{blocks-low}
 use Rattle.walk.specs.Walks.{rowsFrom, countsFrom, firstFrom, Given, boundOf, HoldsList, Counts, HoldsWalk, HoldsRow, TellsTurn, theFollowing, theTurn}
-use Rattle.explain.specs.Numbers.{IsRow, IsCatalogue}
+use Rattle.root_block.specs.Blocks.{IsBlocks}
+use Rattle.explain.specs.Numbers.{IsRow}
 use Rattle.explain.specs.Handles.{meaningOf, TellsHandling, LeavesHandling, Handles}
 use Rattle.walk.specs.Loop.{Walking, Turning, MayOffer, MayFollow, StaysHere, Follows, TakesUp, chargeOne, stopLoop, Standing, Turns}
 use Rattle.explain.specs.declared.Handling.{Handling}
@@ -81,8 +82,8 @@ recount a b c d h =
       repeats-few = h .repeats-few;
     }
 
-module _ {p : Program} {g : Given} {catalogue xs cols : List ℕ} {w : Walk} {ls : List (Lineage Defined)} {n : Notes Defined ResultRow} (h : HoldsWalk p g catalogue xs cols w ls n) (gas : 0 < w .gas) where
-  charged-walk : HoldsWalk p g catalogue xs cols (chargeOne w) ls (charge n)
+module _ {p : Program} {g : Given} {blocks xs cols : List ℕ} {w : Walk} {ls : List (Lineage Defined)} {n : Notes Defined ResultRow} (h : HoldsWalk p g blocks xs cols w ls n) (gas : 0 < w .gas) where
+  charged-walk : HoldsWalk p g blocks xs cols (chargeOne w) ls (charge n)
   charged-walk =
       record {
         list = list-as (h .list) (chargeOne w) refl refl (omega arith) (omega (arith, h .counts .gas-few));
@@ -98,7 +99,7 @@ module _ {p : Program} {g : Given} {catalogue xs cols : List ℕ} {w : Walk} {ls
         all = omega (arith, h .all);
       }
 
-  closed-walk : HoldsWalk p g catalogue xs cols (stopLoop (chargeOne w)) ls (loopStop (charge n))
+  closed-walk : HoldsWalk p g blocks xs cols (stopLoop (chargeOne w)) ls (loopStop (charge n))
   closed-walk =
       record {
         list = list-as (h .list) (stopLoop (chargeOne w)) refl refl (omega arith) (omega (arith, h .counts .gas-few));
@@ -143,18 +144,18 @@ counted-raised xs ys n from row past raised within counted i lt = go (eqb row i)
 -- ---- the area before and after
 
 -- where the current counts and the rows lie
-fits-inside : {p : Program} {g : Given} {catalogue xs cols : List ℕ} {w : Walk} {ls : List (Lineage Defined)} {remembered : List Defined} {space : ℕ} {counted : List ResultRow} → HoldsList p g catalogue xs cols w ls remembered space counted → firstFrom p ≤ length (cells xs)
+fits-inside : {p : Program} {g : Given} {blocks xs cols : List ℕ} {w : Walk} {ls : List (Lineage Defined)} {remembered : List Defined} {space : ℕ} {counted : List ResultRow} → HoldsList p g blocks xs cols w ls remembered space counted → firstFrom p ≤ length (cells xs)
 fits-inside {p} {xs = xs} {w = w} h = omega (arith, h .first, h .remembers .inside, blocks-low (cells xs) (p .size) (w .branches .first) (w .branches .top) (h .all) (h .remembers .blocks))
 
-module _ {p : Program} {g : Given} {catalogue xs cols : List ℕ} {w : Walk} {s : MemoryState} {f : Fronted Defined ResultRow} (r : HoldsRow p g catalogue xs cols w s f) where
+module _ {p : Program} {g : Given} {blocks xs cols : List ℕ} {w : Walk} {s : MemoryState} {f : Fronted Defined ResultRow} (r : HoldsRow p g blocks xs cols w s f) where
   abbrev k : ℕ
   k = s .row - offset
 
   row-is : k ≡ r .row
   row-is = omega (arith, r .at)
 
-  pub is-catalogue : IsCatalogue catalogue
-  is-catalogue = record { records = g .records; read = r .walk .list .records }
+  pub is-blocks : IsBlocks blocks
+  is-blocks = record { records = g .records; has = r .walk .list .records }
 
   pub count-inside : Inside xs (home (countsFrom p) k) 1
   count-inside = record { within = omega (arith, row-is, r .within, fits-inside (r .walk .list)); small = r .walk .list .remembers .small }
@@ -185,7 +186,7 @@ module _ {p : Program} {g : Given} {catalogue xs cols : List ℕ} {w : Walk} {s 
     kept-outside j (inl lt) = raised .elsewhere j (λ e. absurd (omega (arith, e, lt)))
     kept-outside j (inr le) = raised .elsewhere j (λ e. absurd (omega (arith, e, le, row-is, r .within)))
 
-    raised-list : HoldsList p g catalogue ys cols w (r .waiting) (r .notes .remembered) (r .notes .space) (r .notes .counted)
+    raised-list : HoldsList p g blocks ys cols w (r .waiting) (r .notes .remembered) (r .notes .space) (r .notes .counted)
     raised-list = list-kept (r .walk .list) ys small less (raised .bytes) (λ j le lt. kept-outside j (inl lt)) (λ j le. kept-outside j (inr le))
 
     raised-state : HoldsState (p .limit) (boundOf w) (cells ys) s (r .lineage .mem)
@@ -229,11 +230,11 @@ module _ {p : Program} {g : Given} {catalogue xs cols : List ℕ} {w : Walk} {s 
     limit-fits = raised-list .remembers .limited
 
     -- ---- and it is handled
-    module _ (zs : List ℕ) (low : Bytes zs) (long : length zs ≡ length ys) (x : Row) (e : x ≡ rowIn (getD (cells ys) (rowsFrom p + k) blank)) (h : Handling) (again : Bool) (is-again : again ≡ ltb 0 (countAt xs (countsFrom p) k)) (gas : 0 < w .gas) (handles : Handles (p .limit) (rowsFrom p) (p .size) (cells ys) (cells zs) catalogue s x again h) where
+    module _ (zs : List ℕ) (low : Bytes zs) (long : length zs ≡ length ys) (x : Row) (e : x ≡ rowIn (getD (cells ys) (rowsFrom p + k) blank)) (h : Handling) (again : Bool) (is-again : again ≡ ltb 0 (countAt xs (countsFrom p) k)) (gas : 0 < w .gas) (handles : Handles (p .limit) (rowsFrom p) (p .size) (cells ys) (cells zs) blocks s x again h) where
       untouched : (j : ℕ) → rowsFrom p ≤ j → getD (cells zs) j blank ≡ getD (cells ys) j blank
       untouched j le = handles .frame .above j (omega (arith, r .current .base))
 
-      handled-list : HoldsList p g catalogue zs cols w (r .waiting) (r .notes .remembered) (r .notes .space) (r .notes .counted)
+      handled-list : HoldsList p g blocks zs cols w (r .waiting) (r .notes .remembered) (r .notes .space) (r .notes .counted)
       handled-list = list-kept raised-list zs less low long (λ j le lt. untouched j le) (λ j le. untouched j (omega (arith, le)))
 
       handled-counts : Counted zs (p .size) (countsFrom p) (r .row ∷ r .lineage .past)
@@ -252,7 +253,7 @@ module _ {p : Program} {g : Given} {catalogue xs cols : List ℕ} {w : Walk} {s 
       abbrev notes-then : Notes Defined ResultRow
       notes-then = noteHandled (addRow (r .row) (r .lineage)) (charge (r .notes))
 
-      handled-walk : HoldsWalk p g catalogue zs cols (chargeOne w) (r .waiting) notes-then
+      handled-walk : HoldsWalk p g blocks zs cols (chargeOne w) (r .waiting) notes-then
       handled-walk =
           record {
             list = list-as handled-list (chargeOne w) refl refl (omega arith) (omega (arith, r .walk .counts .gas-few));
@@ -263,7 +264,7 @@ module _ {p : Program} {g : Given} {catalogue xs cols : List ℕ} {w : Walk} {s 
       pub is-turning : Turning p zs (chargeOne w)
       is-turning =
           record {
-            walking = record { given = g; catalogue = catalogue; cols = cols; waiting = r .waiting; notes = notes-then; holds = handled-walk };
+            walking = record { given = g; blocks = blocks; cols = cols; waiting = r .waiting; notes = notes-then; holds = handled-walk };
             past = r .row ∷ r .lineage .past;
             counted = handled-counts;
             less = omega (arith, r .walk .counts .repeats-few);
@@ -306,10 +307,10 @@ module _ {p : Program} {g : Given} {catalogue xs cols : List ℕ} {w : Walk} {s 
       stays (handling.Result b first n) lies = tt
 
       -- what the definition's turn gives
-      pub turn-told : (ts dols : List ℕ) (t : Turn) → count (r .row) (r .lineage .past) < 3 → Follows p zs ts cols dols (chargeOne w) h t → TellsTurn p g catalogue ts dols t (theTurn p g f)
+      pub turn-told : (ts dols : List ℕ) (t : Turn) → count (r .row) (r .lineage .past) < 3 → Follows p zs ts cols dols (chargeOne w) h t → TellsTurn p g blocks ts dols t (theTurn p g f)
       turn-told ts dols t few follows =
-          subst (TellsTurn p g catalogue ts dols t) (sym (ap (theTurn p g) (r .is) ∙ turn-handled p g (r .row) (r .lineage) (r .waiting) (r .notes) few ∙ ap (theFollowing p g (r .row ∷ r .lineage .past) (r .waiting) notes-then) same-offer))
-          (follows .says g catalogue (r .waiting) notes-then (r .row ∷ r .lineage .past) (r .lineage .mem) offer-here handled-walk handled-counts told (stays h (handles .leaves)))
+          subst (TellsTurn p g blocks ts dols t) (sym (ap (theTurn p g) (r .is) ∙ turn-handled p g (r .row) (r .lineage) (r .waiting) (r .notes) few ∙ ap (theFollowing p g (r .row ∷ r .lineage .past) (r .waiting) notes-then) same-offer))
+          (follows .says g blocks (r .waiting) notes-then (r .row ∷ r .lineage .past) (r .lineage .mem) offer-here handled-walk handled-counts told (stays h (handles .leaves)))
         where
           same-offer : ways (meaningOf (p .limit) (g .records)) (g .rows) (handledBefore (r .row) (r .lineage .past)) (r .lineage .mem) ≡ offer-here
           same-offer =
@@ -318,7 +319,7 @@ module _ {p : Program} {g : Given} {catalogue xs cols : List ℕ} {w : Walk} {s 
 
 -- ---- the turn
 
-module _ {p : Program} {catalogue xs cols : List ℕ} {w : Walk} {s : MemoryState} (st : Standing p catalogue xs cols w s) where
+module _ {p : Program} {blocks xs cols : List ℕ} {w : Walk} {s : MemoryState} (st : Standing p blocks xs cols w s) where
   pub may-charge : w .charged < 4294967295
   may-charge = omega (arith, st .gas, st .holds .walk .counts .gas-few)
 
@@ -334,30 +335,30 @@ module _ {p : Program} {catalogue xs cols : List ℕ} {w : Walk} {s : MemoryStat
     pub closed-walking : (u : Walk) → u ≡ stopLoop v → Walking p xs u
     closed-walking u f =
         subst (Walking p xs) (sym (f ∙ ap stopLoop e))
-        (record { given = st .given; catalogue = catalogue; cols = cols; waiting = st .holds .waiting; notes = loopStop (charge (st .holds .notes)); holds = closed-walk (st .holds .walk) (st .gas) })
+        (record { given = st .given; blocks = blocks; cols = cols; waiting = st .holds .waiting; notes = loopStop (charge (st .holds .notes)); holds = closed-walk (st .holds .walk) (st .gas) })
 
-    pub turns-closed : (u : Walk) (ys : List ℕ) (handled : ℕ) (fr : Front) → handled ≡ countAt xs (countsFrom p) (s .row - offset) → 3 ≤ handled → u ≡ stopLoop v → TakesUp p xs ys u fr → Turns p catalogue xs ys cols cols w s (turned.Goes fr)
+    pub turns-closed : (u : Walk) (ys : List ℕ) (handled : ℕ) (fr : Front) → handled ≡ countAt xs (countsFrom p) (s .row - offset) → 3 ≤ handled → u ≡ stopLoop v → TakesUp p xs ys u fr → Turns p blocks xs ys cols cols w s (turned.Goes fr)
     turns-closed u ys handled fr is many f takes =
         record {
           says = λ g fd r.
               record {
                 front = takeUp (rowOf (g .rows)) (r .waiting) (loopStop (charge (r .notes)));
                 is = ap (theTurn p g) (r .is) ∙ turn-closed p g (r .row) (r .lineage) (r .waiting) (r .notes) (omega (arith, many, is, handled-is r));
-                holds = takes .says g catalogue cols (r .waiting) (loopStop (charge (r .notes)))
-                    (subst (λ x. HoldsWalk p g catalogue xs cols x (r .waiting) (loopStop (charge (r .notes)))) (sym (f ∙ ap stopLoop e)) (closed-walk (r .walk) (st .gas)));
+                holds = takes .says g blocks cols (r .waiting) (loopStop (charge (r .notes)))
+                    (subst (λ x. HoldsWalk p g blocks xs cols x (r .waiting) (loopStop (charge (r .notes)))) (sym (f ∙ ap stopLoop e)) (closed-walk (r .walk) (st .gas)));
               };
           bytes = takes .bytes;
           columns = refl;
         }
 
-    module _ (ys zs : List ℕ) (small : Bytes xs) (less : Bytes ys) (low : Bytes zs) (raised : Raised xs ys (countsFrom p) (s .row - offset)) (long : length zs ≡ length ys) (x : Row) (read : x ≡ rowIn (getD (cells ys) (rowsFrom p + (s .row - offset)) blank)) (h : Handling) (handled : ℕ) (is : handled ≡ countAt xs (countsFrom p) (s .row - offset)) (handles : Handles (p .limit) (rowsFrom p) (p .size) (cells ys) (cells zs) catalogue s x (ltb 0 handled) h) where
+    module _ (ys zs : List ℕ) (small : Bytes xs) (less : Bytes ys) (low : Bytes zs) (raised : Raised xs ys (countsFrom p) (s .row - offset)) (long : length zs ≡ length ys) (x : Row) (read : x ≡ rowIn (getD (cells ys) (rowsFrom p + (s .row - offset)) blank)) (h : Handling) (handled : ℕ) (is : handled ≡ countAt xs (countsFrom p) (s .row - offset)) (handles : Handles (p .limit) (rowsFrom p) (p .size) (cells ys) (cells zs) blocks s x (ltb 0 handled) h) where
       pub handled-turning : Turning p zs v
       handled-turning = subst (Turning p zs) (sym e) (is-turning (st .holds) ys small less raised zs low long x read h (ltb 0 handled) (ap (ltb 0) is) (st .gas) handles)
 
       pub handled-may : MayFollow p zs cols v h
       handled-may = subst (λ y. MayFollow p zs cols y h) (sym e) (may-follow (st .holds) ys small less raised zs low long x read h (ltb 0 handled) (ap (ltb 0) is) (st .gas) handles (st .width))
 
-      pub turns-handled : (ts dols : List ℕ) (t : Turn) → handled < 3 → Follows p zs ts cols dols v h t → Turns p catalogue xs ts cols dols w s t
+      pub turns-handled : (ts dols : List ℕ) (t : Turn) → handled < 3 → Follows p zs ts cols dols v h t → Turns p blocks xs ts cols dols w s t
       turns-handled ts dols t few follows =
           record {
             says = λ g fd r. turn-told r ys small less raised zs low long x read h (ltb 0 handled) (ap (ltb 0) is) (st .gas) handles ts dols t (omega (arith, few, is, handled-is r)) (subst (λ y. Follows p zs ts cols dols y h t) e follows);

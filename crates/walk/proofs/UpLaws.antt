@@ -35,7 +35,7 @@ module _ (p : Program) (xs : List ℕ) (w : Walk) (r : Taken) (takes : Takes p x
   pub none-left : (v : Walk) → r ≡ taken.Nothing v → TakesUp p xs xs w (front.NoneLeft v)
   none-left v e =
       record {
-        says = λ g catalogue cols ls n h. let t = as-none .says g catalogue cols ls n h in record { notes = t .notes; is = t .is; walk = t .holds };
+        says = λ g blocks cols ls n h. let t = as-none .says g blocks cols ls n h in record { notes = t .notes; is = t .is; walk = t .holds };
         bytes = refl;
       }
     where
@@ -49,7 +49,7 @@ module _ (p : Program) (xs : List ℕ) (w : Walk) (r : Taken) (takes : Takes p x
     -- the state can be loaded
     pub may-load : Walking p xs w → Loadable (p .limit) (p .size) (cells xs) at 0 (countsFrom p)
     may-load a =
-        let t = as-at .says (a .given) (a .catalogue) (a .cols) (a .waiting) (a .notes) (a .holds) in
+        let t = as-at .says (a .given) (a .blocks) (a .cols) (a .waiting) (a .notes) (a .holds) in
         let h = t .holds .list in
         let k = h .remembers .kept (t .one) (t .among) in
         let span = blocks-span (cells xs) (p .size) (v .branches .first) (v .branches .top) (h .all) (h .remembers .blocks) (t .one) (t .among) in
@@ -67,8 +67,8 @@ module _ (p : Program) (xs : List ℕ) (w : Walk) (r : Taken) (takes : Takes p x
     pub is-current : (ys : List ℕ) (s : MemoryState) → Bytes xs → Bytes ys → Loads (p .limit) (p .size) 0 (countsFrom p) at xs ys s → TakesUp p xs ys w (front.OnRow v s)
     is-current ys s small less loads =
         record {
-          says = λ g catalogue cols ls n h.
-              let t = as-at .says g catalogue cols ls n h in
+          says = λ g blocks cols ls n h.
+              let t = as-at .says g blocks cols ls n h in
               let k = t .holds .list .remembers .kept (t .one) (t .among) in
               let held = loads .says (boundOf v) (t .one) (t .place) k in
               record {
@@ -111,7 +111,7 @@ module _ (p : Program) (xs : List ℕ) (w : Walk) (stays : Way) where
   goes-nowhere ys r e takes =
       subst (λ s. GoesOn p xs ys w s r) (sym e)
       (record {
-        says = λ g catalogue cols ls n past ms h is lies counted. subst (HoldsFront p g catalogue ys cols r) (sym (nowhere g ls n past ms is)) (takes .says g catalogue cols ls n h);
+        says = λ g blocks cols ls n past ms h is lies counted. subst (HoldsFront p g blocks ys cols r) (sym (nowhere g ls n past ms is)) (takes .says g blocks cols ls n h);
         bytes = takes .bytes;
       })
 
@@ -120,9 +120,9 @@ module _ (p : Program) (xs : List ℕ) (w : Walk) (stays : Way) where
     goes-off ys r out takes =
         subst (λ t. GoesOn p xs ys w t r) (sym e)
         (record {
-          says = λ g catalogue cols ls n past ms h is lies counted.
-              subst (HoldsFront p g catalogue ys cols r) (sym (off-row g ls n past ms (is .state) (is .is) (outside p (g .rows) (is .state) (s .row) (h .list .size) (is .held .row) out)))
-              (takes .says g catalogue cols ls n h);
+          says = λ g blocks cols ls n past ms h is lies counted.
+              subst (HoldsFront p g blocks ys cols r) (sym (off-row g ls n past ms (is .state) (is .is) (outside p (g .rows) (is .state) (s .row) (h .list .size) (is .held .row) out)))
+              (takes .says g blocks cols ls n h);
           bytes = takes .bytes;
         })
 
@@ -130,7 +130,7 @@ module _ (p : Program) (xs : List ℕ) (w : Walk) (stays : Way) where
     goes-row in-it =
         subst (λ t. GoesOn p xs xs w t (front.OnRow w s)) (sym e)
         (record {
-          says = λ g catalogue cols ls n past ms h is lies counted.
+          says = λ g blocks cols ls n past ms h is lies counted.
               let i = in-listing p (s .row) in-it in
               record {
                 row = s .row - offset;

@@ -43,22 +43,22 @@ use Rattle.walk.specs.declared.Progress.{Progress}
 
 pub record Walking (p : Program) (xs : List ℕ) (w : Walk) : Type 0 where
   pub given : Given
-  pub catalogue : List ℕ
+  pub blocks : List ℕ
   pub cols : List ℕ
   pub waiting : List (Lineage Defined)
   pub notes : Notes Defined ResultRow
-  pub holds : HoldsWalk p given catalogue xs cols w waiting notes
+  pub holds : HoldsWalk p given blocks xs cols w waiting notes
 
 -- between branches, with the counts of the current lineage
 pub record Holding (p : Program) (xs : List ℕ) (w : Walk) : Type 0 where
   pub given : Given
-  pub catalogue : List ℕ
+  pub blocks : List ℕ
   pub cols : List ℕ
   pub waiting : List (Lineage Defined)
   pub known : List Defined
   pub space : ℕ
   pub results : List ResultRow
-  pub holds : HoldsList p given catalogue xs cols w waiting known space results
+  pub holds : HoldsList p given blocks xs cols w waiting known space results
   pub past : List ℕ
   pub counted : Counted xs (p .size) (countsFrom p) past
 
@@ -87,16 +87,16 @@ withBranches w b =
 -- ---- taking up
 
 -- nothing that waits stands on a row
-pub record Nothing (p : Program) (g : Given) (catalogue xs cols : List ℕ) (w : Walk) (f : Fronted Defined ResultRow) : Type 0 where
+pub record Nothing (p : Program) (g : Given) (blocks xs cols : List ℕ) (w : Walk) (f : Fronted Defined ResultRow) : Type 0 where
   pub notes : Notes Defined ResultRow
   pub is : f ≡ noneLeft notes
-  pub holds : HoldsWalk p g catalogue xs cols w [] notes
+  pub holds : HoldsWalk p g blocks xs cols w [] notes
 
 -- the state at `at` does
-pub record OneAt (p : Program) (g : Given) (catalogue xs cols : List ℕ) (w : Walk) (at : ℕ) (f : Fronted Defined ResultRow) : Type 0 where
+pub record OneAt (p : Program) (g : Given) (blocks xs cols : List ℕ) (w : Walk) (at : ℕ) (f : Fronted Defined ResultRow) : Type 0 where
   pub waiting : List (Lineage Defined)
   pub notes : Notes Defined ResultRow
-  pub holds : HoldsWalk p g catalogue xs cols w waiting notes
+  pub holds : HoldsWalk p g blocks xs cols w waiting notes
   pub one : Kept
   pub among : one ∈ holds .list .all
   pub place : one .at ≡ at
@@ -105,8 +105,8 @@ pub record OneAt (p : Program) (g : Given) (catalogue xs cols : List ℕ) (w : W
   pub is : f ≡ onRow (rowAt (cells xs) at - offset) (record { mem = one .mem; past = one .past }) waiting notes
 
 abbrev pub TellsTaken : Program → Given → List ℕ → List ℕ → List ℕ → Taken → Fronted Defined ResultRow → Type 0
-TellsTaken p g catalogue xs cols (taken.Nothing w) f = Nothing p g catalogue xs cols w f
-TellsTaken p g catalogue xs cols (taken.At w at) f = OneAt p g catalogue xs cols w at f
+TellsTaken p g blocks xs cols (taken.Nothing w) f = Nothing p g blocks xs cols w f
+TellsTaken p g blocks xs cols (taken.At w at) f = OneAt p g blocks xs cols w at f
 
 -- fewer wait
 abbrev pub Shorter : Walk → Taken → Type 0
@@ -115,34 +115,34 @@ Shorter w (taken.At v at) = v .branches .last < w .branches .last
 
 -- it is taken from those that wait
 pub record Takes (p : Program) (xs : List ℕ) (w : Walk) (r : Taken) : Type 0 where
-  pub says : (g : Given) (catalogue cols : List ℕ) (ls : List (Lineage Defined)) (n : Notes Defined ResultRow) → HoldsWalk p g catalogue xs cols w ls n → TellsTaken p g catalogue xs cols r (takeUp (rowOf (g .rows)) ls n)
+  pub says : (g : Given) (blocks cols : List ℕ) (ls : List (Lineage Defined)) (n : Notes Defined ResultRow) → HoldsWalk p g blocks xs cols w ls n → TellsTaken p g blocks xs cols r (takeUp (rowOf (g .rows)) ls n)
   pub less : Shorter w r
 
 -- and is current
 pub record TakesUp (p : Program) (xs ys : List ℕ) (w : Walk) (r : Front) : Type 0 where
-  pub says : (g : Given) (catalogue cols : List ℕ) (ls : List (Lineage Defined)) (n : Notes Defined ResultRow) → HoldsWalk p g catalogue xs cols w ls n → HoldsFront p g catalogue ys cols r (takeUp (rowOf (g .rows)) ls n)
+  pub says : (g : Given) (blocks cols : List ℕ) (ls : List (Lineage Defined)) (n : Notes Defined ResultRow) → HoldsWalk p g blocks xs cols w ls n → HoldsFront p g blocks ys cols r (takeUp (rowOf (g .rows)) ls n)
   pub bytes : length ys ≡ length xs
 
 -- the state that goes on is current, if it stands on a row
 pub record GoesOn (p : Program) (xs ys : List ℕ) (w : Walk) (stays : Way) (r : Front) : Type 0 where
   pub says :
-      (g : Given) (catalogue cols : List ℕ) (ls : List (Lineage Defined)) (n : Notes Defined ResultRow) (past : List ℕ) (ms : Option Defined) →
-      HoldsWalk p g catalogue xs cols w ls n →
+      (g : Given) (blocks cols : List ℕ) (ls : List (Lineage Defined)) (n : Notes Defined ResultRow) (past : List ℕ) (ms : Option Defined) →
+      HoldsWalk p g blocks xs cols w ls n →
       TellsWay (p .limit) (boundOf w) (cells xs) stays ms →
       StaysAt (p .limit) (cells xs) 0 stays →
       Counted xs (p .size) (countsFrom p) past →
-      HoldsFront p g catalogue ys cols r (goOn (rowOf (g .rows)) (onward ms past) ls n)
+      HoldsFront p g blocks ys cols r (goOn (rowOf (g .rows)) (onward ms past) ls n)
   pub bytes : length ys ≡ length xs
 
 -- ---- a branch offered
 
 -- what is in the area then, and what is left to offer gives what all did
-pub record Offers (p : Program) (g : Given) (catalogue ys cols : List ℕ) (w : Walk) (past : List ℕ) (ms : List Defined) (ls : List (Lineage Defined)) (remembered : List Defined) (space : ℕ) (counted : List ResultRow) : Type 0 where
+pub record Offers (p : Program) (g : Given) (blocks ys cols : List ℕ) (w : Walk) (past : List ℕ) (ms : List Defined) (ls : List (Lineage Defined)) (remembered : List Defined) (space : ℕ) (counted : List ResultRow) : Type 0 where
   pub waiting : List (Lineage Defined)
   pub known : List Defined
   pub left : ℕ
   pub same : (more : List Defined) → theOffer p g past (ms ++ more) ls remembered space ≡ theOffer p g past more waiting known left
-  pub holds : HoldsList p g catalogue ys cols w waiting known left counted
+  pub holds : HoldsList p g blocks ys cols w waiting known left counted
 
 -- the counts are the same, and so is the width
 pub record SameCounts (w v : Walk) : Type 0 where
@@ -154,29 +154,29 @@ pub record SameCounts (w v : Walk) : Type 0 where
   pub width : v .width ≡ w .width
 
 abbrev pub TellsOffers : Program → Given → List ℕ → List ℕ → List ℕ → Walk → Added → List ℕ → List Defined → List (Lineage Defined) → List Defined → ℕ → List ResultRow → Type 0
-TellsOffers p g catalogue ys cols w added.Full past ms ls remembered space counted = (more : List Defined) → theOffer p g past (ms ++ more) ls remembered space ≡ full
-TellsOffers p g catalogue ys cols w (added.Done v) past ms ls remembered space counted = Offers p g catalogue ys cols v past ms ls remembered space counted × SameCounts w v
+TellsOffers p g blocks ys cols w added.Full past ms ls remembered space counted = (more : List Defined) → theOffer p g past (ms ++ more) ls remembered space ≡ full
+TellsOffers p g blocks ys cols w (added.Done v) past ms ls remembered space counted = Offers p g blocks ys cols v past ms ls remembered space counted × SameCounts w v
 
 pub record AddsBranch (p : Program) (xs ys : List ℕ) (w : Walk) (s : MemoryState) (r : Added) : Type 0 where
   pub says :
-      (g : Given) (catalogue cols : List ℕ) (ls : List (Lineage Defined)) (remembered : List Defined) (space : ℕ) (counted : List ResultRow) (past : List ℕ) (m : Defined) →
-      HoldsList p g catalogue xs cols w ls remembered space counted →
+      (g : Given) (blocks cols : List ℕ) (ls : List (Lineage Defined)) (remembered : List Defined) (space : ℕ) (counted : List ResultRow) (past : List ℕ) (m : Defined) →
+      HoldsList p g blocks xs cols w ls remembered space counted →
       HoldsState (p .limit) (boundOf w) (cells xs) s m →
       Counted xs (p .size) (countsFrom p) past →
-      TellsOffers p g catalogue ys cols w r past (m ∷ []) ls remembered space counted
+      TellsOffers p g blocks ys cols w r past (m ∷ []) ls remembered space counted
   pub below : Below (cells xs) (cells ys) (w .branches .first)
   pub bytes : length ys ≡ length xs
 
 -- three of them
 pub record AddsThree (p : Program) (xs ys : List ℕ) (w : Walk) (a b c : MemoryState) (r : Added) : Type 0 where
   pub says :
-      (g : Given) (catalogue cols : List ℕ) (ls : List (Lineage Defined)) (remembered : List Defined) (space : ℕ) (counted : List ResultRow) (past : List ℕ) (m₁ m₂ m₃ : Defined) →
-      HoldsList p g catalogue xs cols w ls remembered space counted →
+      (g : Given) (blocks cols : List ℕ) (ls : List (Lineage Defined)) (remembered : List Defined) (space : ℕ) (counted : List ResultRow) (past : List ℕ) (m₁ m₂ m₃ : Defined) →
+      HoldsList p g blocks xs cols w ls remembered space counted →
       HoldsState (p .limit) (boundOf w) (cells xs) a m₁ →
       HoldsState (p .limit) (boundOf w) (cells xs) b m₂ →
       HoldsState (p .limit) (boundOf w) (cells xs) c m₃ →
       Counted xs (p .size) (countsFrom p) past →
-      TellsOffers p g catalogue ys cols w r past (m₁ ∷ m₂ ∷ m₃ ∷ []) ls remembered space counted
+      TellsOffers p g blocks ys cols w r past (m₁ ∷ m₂ ∷ m₃ ∷ []) ls remembered space counted
   pub below : Below (cells xs) (cells ys) (w .branches .first)
   pub bytes : length ys ≡ length xs
 
@@ -188,22 +188,22 @@ noteRepeated w b =
 
 pub record FollowsWays (p : Program) (xs ys : List ℕ) (w : Walk) (branch stays : Way) (repeat : Bool) (r : Turn) : Type 0 where
   pub says :
-      (g : Given) (catalogue cols : List ℕ) (ls : List (Lineage Defined)) (n : Notes Defined ResultRow) (past : List ℕ) (o : Offer) →
-      HoldsWalk p g catalogue xs cols w ls n →
+      (g : Given) (blocks cols : List ℕ) (ls : List (Lineage Defined)) (n : Notes Defined ResultRow) (past : List ℕ) (o : Offer) →
+      HoldsWalk p g blocks xs cols w ls n →
       Counted xs (p .size) (countsFrom p) past →
       OffersWays (p .limit) (boundOf w) (cells xs) branch stays repeat o →
       StaysAt (p .limit) (cells xs) 0 stays →
-      TellsTurn p g catalogue ys cols r (theFollowing p g past ls n o)
+      TellsTurn p g blocks ys cols r (theFollowing p g past ls n o)
   pub bytes : length ys ≡ length xs
 
 pub record FollowsThree (p : Program) (xs ys : List ℕ) (w : Walk) (a b c stays : MemoryState) (r : Turn) : Type 0 where
   pub says :
-      (g : Given) (catalogue cols : List ℕ) (ls : List (Lineage Defined)) (n : Notes Defined ResultRow) (past : List ℕ) (o : Offer) →
-      HoldsWalk p g catalogue xs cols w ls n →
+      (g : Given) (blocks cols : List ℕ) (ls : List (Lineage Defined)) (n : Notes Defined ResultRow) (past : List ℕ) (o : Offer) →
+      HoldsWalk p g blocks xs cols w ls n →
       Counted xs (p .size) (countsFrom p) past →
       OffersThree (p .limit) (boundOf w) (cells xs) a b c stays o →
       StaysAt (p .limit) (cells xs) 0 (way.To stays) →
-      TellsTurn p g catalogue ys cols r (theFollowing p g past ls n o)
+      TellsTurn p g blocks ys cols r (theFollowing p g past ls n o)
   pub bytes : length ys ≡ length xs
 
 abbrev pub withWidth : Walk → ℕ → Walk
@@ -223,11 +223,11 @@ pub record Resulting (p : Program) (xs cols : List ℕ) (w : Walk) (branch : Mem
 
 pub record FollowsResult (p : Program) (xs ys cols dols : List ℕ) (w : Walk) (branch : MemoryState) (first n : ℕ) (r : Turn) : Type 0 where
   pub says :
-      (g : Given) (catalogue : List ℕ) (ls : List (Lineage Defined)) (notes : Notes Defined ResultRow) (past : List ℕ) (m : Defined) (o : Offer) →
-      HoldsWalk p g catalogue xs cols w ls notes →
+      (g : Given) (blocks : List ℕ) (ls : List (Lineage Defined)) (notes : Notes Defined ResultRow) (past : List ℕ) (m : Defined) (o : Offer) →
+      HoldsWalk p g blocks xs cols w ls notes →
       Counted xs (p .size) (countsFrom p) past →
       OffersResult (p .limit) (boundOf w) (cells xs) m branch first n o →
-      TellsTurn p g catalogue ys dols r (theFollowing p g past ls notes o)
+      TellsTurn p g blocks ys dols r (theFollowing p g past ls notes o)
   pub bytes : length ys ≡ length xs
   pub columns : length dols ≡ length cols
 
@@ -248,12 +248,12 @@ StaysHere p xs (handling.Result b first n) = Unit {0}
 
 pub record Follows (p : Program) (xs ys cols dols : List ℕ) (w : Walk) (h : Handling) (r : Turn) : Type 0 where
   pub says :
-      (g : Given) (catalogue : List ℕ) (ls : List (Lineage Defined)) (n : Notes Defined ResultRow) (past : List ℕ) (m : Defined) (o : Offer) →
-      HoldsWalk p g catalogue xs cols w ls n →
+      (g : Given) (blocks : List ℕ) (ls : List (Lineage Defined)) (n : Notes Defined ResultRow) (past : List ℕ) (m : Defined) (o : Offer) →
+      HoldsWalk p g blocks xs cols w ls n →
       Counted xs (p .size) (countsFrom p) past →
       TellsHandling (p .limit) (boundOf w) (cells xs) m h o →
       StaysHere p xs h →
-      TellsTurn p g catalogue ys dols r (theFollowing p g past ls n o)
+      TellsTurn p g blocks ys dols r (theFollowing p g past ls n o)
   pub bytes : length ys ≡ length xs
   pub columns : length dols ≡ length cols
 
@@ -272,36 +272,36 @@ stopGas w =
     record { gas = w .gas; charged = w .charged; loopstops = w .loopstops; gasstops = w .gasstops + 1; repeats = w .repeats; width = w .width; branches = w .branches }
 
 -- a lineage is on a row, with a unit left
-pub record Standing (p : Program) (catalogue xs cols : List ℕ) (w : Walk) (s : MemoryState) : Type 0 where
+pub record Standing (p : Program) (blocks xs cols : List ℕ) (w : Walk) (s : MemoryState) : Type 0 where
   pub given : Given
   pub front : Fronted Defined ResultRow
-  pub holds : HoldsRow p given catalogue xs cols w s front
+  pub holds : HoldsRow p given blocks xs cols w s front
   pub width : length cols ≡ 2000
   pub gas : 0 < w .gas
 
-pub record Turns (p : Program) (catalogue xs ys cols dols : List ℕ) (w : Walk) (s : MemoryState) (r : Turn) : Type 0 where
-  pub says : (g : Given) (f : Fronted Defined ResultRow) → HoldsRow p g catalogue xs cols w s f → TellsTurn p g catalogue ys dols r (theTurn p g f)
+pub record Turns (p : Program) (blocks xs ys cols dols : List ℕ) (w : Walk) (s : MemoryState) (r : Turn) : Type 0 where
+  pub says : (g : Given) (f : Fronted Defined ResultRow) → HoldsRow p g blocks xs cols w s f → TellsTurn p g blocks ys dols r (theTurn p g f)
   pub bytes : length ys ≡ length xs
   pub columns : length dols ≡ length cols
 
 -- with no unit left, the lineages that wait on a row are closed
 pub record Closes (p : Program) (xs : List ℕ) (w r : Walk) : Type 0 where
-  pub says : (g : Given) (catalogue cols : List ℕ) (ls : List (Lineage Defined)) (n : Notes Defined ResultRow) → HoldsWalk p g catalogue xs cols w ls n → HoldsEnd cols r (closeAll (rowOf (g .rows)) ls n)
+  pub says : (g : Given) (blocks cols : List ℕ) (ls : List (Lineage Defined)) (n : Notes Defined ResultRow) → HoldsWalk p g blocks xs cols w ls n → HoldsEnd cols r (closeAll (rowOf (g .rows)) ls n)
 
 -- the current one first
 pub record ClosesCurrent (p : Program) (xs : List ℕ) (w r : Walk) : Type 0 where
-  pub says : (g : Given) (catalogue cols : List ℕ) (ls : List (Lineage Defined)) (n : Notes Defined ResultRow) → HoldsWalk p g catalogue xs cols w ls n → HoldsEnd cols r (closeAll (rowOf (g .rows)) ls (gasStop n))
+  pub says : (g : Given) (blocks cols : List ℕ) (ls : List (Lineage Defined)) (n : Notes Defined ResultRow) → HoldsWalk p g blocks xs cols w ls n → HoldsEnd cols r (closeAll (rowOf (g .rows)) ls (gasStop n))
 
 -- a lineage is on a row, and no lineage was closed for want of units
-pub record Running (p : Program) (catalogue xs cols : List ℕ) (w : Walk) (s : MemoryState) : Type 0 where
+pub record Running (p : Program) (blocks xs cols : List ℕ) (w : Walk) (s : MemoryState) : Type 0 where
   pub given : Given
   pub front : Fronted Defined ResultRow
-  pub holds : HoldsRow p given catalogue xs cols w s front
+  pub holds : HoldsRow p given blocks xs cols w s front
   pub width : length cols ≡ 2000
   pub unclosed : notesAt front .gasstops ≡ 0
 
 -- the run is the definition's, with this budget and the units that are left
-pub record Runs (p : Program) (catalogue xs ys cols dols : List ℕ) (w : Walk) (s : MemoryState) (budget : ℕ) (r : Progress) : Type 0 where
-  pub says : (g : Given) (f : Fronted Defined ResultRow) → HoldsRow p g catalogue xs cols w s f → notesAt f .gasstops ≡ 0 → TellsRun p g catalogue ys dols r (theRun p g budget (w .gas) f)
+pub record Runs (p : Program) (blocks xs ys cols dols : List ℕ) (w : Walk) (s : MemoryState) (budget : ℕ) (r : Progress) : Type 0 where
+  pub says : (g : Given) (f : Fronted Defined ResultRow) → HoldsRow p g blocks xs cols w s f → notesAt f .gasstops ≡ 0 → TellsRun p g blocks ys dols r (theRun p g budget (w .gas) f)
   pub bytes : length ys ≡ length xs
   pub columns : length dols ≡ length cols

@@ -4,7 +4,6 @@
 -- Assumes nothing.
 use mathlib.Core.Path.{_≡_}
 use mathlib.Core.Bool.{Bool, _&&_}
-use mathlib.Core.Option.{some}
 use mathlib.Core.List.{List, []}
 use Prim.Native.Nat.{ℕ, _+_, _-_, _<_, _≤_}
 use lib.Dec.{leb, ltb}
@@ -15,7 +14,7 @@ use Rattle.model.specs.Row.{Row as Listed}
 use Rattle.model.specs.State.{MemoryState as Defined}
 use Rattle.model.specs.Equality.{eqState}
 use Rattle.model.specs.Catalogue.{CatalogueRecord}
-use Rattle.model.specs.CatalogueText.{readCatalogue}
+use Rattle.root_block.specs.Blocks.{HasBlocks}
 use Rattle.model.specs.Results.{ResultRow, columnsOf}
 use Rattle.model.specs.Offer.{Offer}
 use Rattle.model.specs.Explain.{ways, rowOf, units}
@@ -63,11 +62,11 @@ abbrev pub boundOf : Walk → ℕ
 boundOf w = operands + w .charged
 
 -- what is in the area but for the current lineage: these wait and are remembered, with this space left, and these result rows are counted
-pub record HoldsList (p : Program) (g : Given) (catalogue xs cols : List ℕ) (w : Walk) (ls : List (Lineage Defined)) (remembered : List Defined) (space : ℕ) (counted : List ResultRow) : Type 0 where
+pub record HoldsList (p : Program) (g : Given) (blocks xs cols : List ℕ) (w : Walk) (ls : List (Lineage Defined)) (remembered : List Defined) (space : ℕ) (counted : List ResultRow) : Type 0 where
   pub size : length (g .rows) ≡ p .size
   pub few : p .size ≤ 2048
   pub rows : HaveRows (cells xs) (rowsFrom p) (g .rows)
-  pub records : readCatalogue catalogue ≡ some (g .records)
+  pub records : HasBlocks blocks (g .records)
   pub columns : HasColumns cols (w .width) (columnsOf counted)
   pub wide : w .width ≤ 2000
   pub all : List Kept
@@ -88,8 +87,8 @@ pub record Counts (w : Walk) (n : Notes Defined ResultRow) : Type 0 where
   pub loopstops-few : w .loopstops ≤ w .charged
   pub repeats-few : w .repeats ≤ w .charged
 
-pub record HoldsWalk (p : Program) (g : Given) (catalogue xs cols : List ℕ) (w : Walk) (ls : List (Lineage Defined)) (n : Notes Defined ResultRow) : Type 0 where
-  pub list : HoldsList p g catalogue xs cols w ls (n .remembered) (n .space) (n .counted)
+pub record HoldsWalk (p : Program) (g : Given) (blocks xs cols : List ℕ) (w : Walk) (ls : List (Lineage Defined)) (n : Notes Defined ResultRow) : Type 0 where
+  pub list : HoldsList p g blocks xs cols w ls (n .remembered) (n .space) (n .counted)
   pub counts : Counts w n
   pub all : w .charged + w .gas ≡ g .units
 
@@ -101,46 +100,46 @@ pub record HoldsLineage (p : Program) (xs : List ℕ) (w : Walk) (s : MemoryStat
   pub past : Counted xs (p .size) (countsFrom p) (l .past)
 
 -- no lineage is left
-pub record HoldsNone (p : Program) (g : Given) (catalogue xs cols : List ℕ) (w : Walk) (f : Fronted Defined ResultRow) : Type 0 where
+pub record HoldsNone (p : Program) (g : Given) (blocks xs cols : List ℕ) (w : Walk) (f : Fronted Defined ResultRow) : Type 0 where
   pub notes : Notes Defined ResultRow
   pub is : f ≡ noneLeft notes
-  pub walk : HoldsWalk p g catalogue xs cols w [] notes
+  pub walk : HoldsWalk p g blocks xs cols w [] notes
 
 -- the current lineage is on a row
-pub record HoldsRow (p : Program) (g : Given) (catalogue xs cols : List ℕ) (w : Walk) (s : MemoryState) (f : Fronted Defined ResultRow) : Type 0 where
+pub record HoldsRow (p : Program) (g : Given) (blocks xs cols : List ℕ) (w : Walk) (s : MemoryState) (f : Fronted Defined ResultRow) : Type 0 where
   pub row : ℕ
   pub lineage : Lineage Defined
   pub waiting : List (Lineage Defined)
   pub notes : Notes Defined ResultRow
   pub is : f ≡ onRow row lineage waiting notes
-  pub walk : HoldsWalk p g catalogue xs cols w waiting notes
+  pub walk : HoldsWalk p g blocks xs cols w waiting notes
   pub current : HoldsLineage p xs w s lineage
   pub at : s .row ≡ offset + row
   pub within : row < p .size
 
 abbrev pub HoldsFront : Program → Given → List ℕ → List ℕ → List ℕ → Front → Fronted Defined ResultRow → Type 0
-HoldsFront p g catalogue xs cols (front.NoneLeft w) f = HoldsNone p g catalogue xs cols w f
-HoldsFront p g catalogue xs cols (front.OnRow w s) f = HoldsRow p g catalogue xs cols w s f
+HoldsFront p g blocks xs cols (front.NoneLeft w) f = HoldsNone p g blocks xs cols w f
+HoldsFront p g blocks xs cols (front.OnRow w s) f = HoldsRow p g blocks xs cols w s f
 
 -- the walk is refused, or stands elsewhere
 pub record Stopped (k : ℕ) (t : Turned Defined ResultRow) : Type 0 where
   pub notes : Notes Defined ResultRow
   pub is : t ≡ over (refusedWith k notes)
 
-pub record Moved (p : Program) (g : Given) (catalogue xs cols : List ℕ) (r : Front) (t : Turned Defined ResultRow) : Type 0 where
+pub record Moved (p : Program) (g : Given) (blocks xs cols : List ℕ) (r : Front) (t : Turned Defined ResultRow) : Type 0 where
   pub front : Fronted Defined ResultRow
   pub is : t ≡ goes front
-  pub holds : HoldsFront p g catalogue xs cols r front
+  pub holds : HoldsFront p g blocks xs cols r front
 
 abbrev pub TellsTurn : Program → Given → List ℕ → List ℕ → List ℕ → Turn → Turned Defined ResultRow → Type 0
-TellsTurn p g catalogue xs cols (turned.Over k) t = Stopped k t
-TellsTurn p g catalogue xs cols (turned.Goes r) t = Moved p g catalogue xs cols r t
+TellsTurn p g blocks xs cols (turned.Over k) t = Stopped k t
+TellsTurn p g blocks xs cols (turned.Goes r) t = Moved p g blocks xs cols r t
 
 -- a run is paused, refused or answered
-pub record Paused (p : Program) (g : Given) (catalogue xs cols : List ℕ) (w : Walk) (s : MemoryState) (t : Progressed Defined ResultRow) : Type 0 where
+pub record Paused (p : Program) (g : Given) (blocks xs cols : List ℕ) (w : Walk) (s : MemoryState) (t : Progressed Defined ResultRow) : Type 0 where
   pub front : Fronted Defined ResultRow
   pub is : t ≡ paused (w .gas) front
-  pub holds : HoldsRow p g catalogue xs cols w s front
+  pub holds : HoldsRow p g blocks xs cols w s front
 
 pub record Refused (k : ℕ) (t : Progressed Defined ResultRow) : Type 0 where
   pub notes : Notes Defined ResultRow
@@ -169,9 +168,9 @@ pub record Answered (cols : List ℕ) (w : Walk) (t : Progressed Defined ResultR
   pub end : HoldsEnd cols w notes
 
 abbrev pub TellsRun : Program → Given → List ℕ → List ℕ → List ℕ → Progress → Progressed Defined ResultRow → Type 0
-TellsRun p g catalogue xs cols (progress.Paused w s) t = Paused p g catalogue xs cols w s t
-TellsRun p g catalogue xs cols (progress.Refused k) t = Refused k t
-TellsRun p g catalogue xs cols (progress.Ended w) t = Answered cols w t
+TellsRun p g blocks xs cols (progress.Paused w s) t = Paused p g blocks xs cols w s t
+TellsRun p g blocks xs cols (progress.Refused k) t = Refused k t
+TellsRun p g blocks xs cols (progress.Ended w) t = Answered cols w t
 
 -- the definition's walk over what is given
 module _ (p : Program) (g : Given) where

@@ -307,11 +307,11 @@ fn take_turn(
     s: MemoryState,
     area: &mut [u8],
     columns: &mut [u8],
-    catalogue: &[u8],
+    blocks: &[u8],
     p: Program,
 ) -> Turn
-    requires { ⌜ Standing p (now catalogue) (now area) (now columns) w s ⌝ }
-    ensures { λ r. ⌜ Turns p (now (catalogue .entry)) (now (area .entry)) (now (area .exit)) (now (columns .entry)) (now (columns .exit)) w s r ⌝ }
+    requires { ⌜ Standing p (now blocks) (now area) (now columns) w s ⌝ }
+    ensures { λ r. ⌜ Turns p (now (blocks .entry)) (now (area .entry)) (now (area .exit)) (now (columns .entry)) (now (columns .exit)) w s r ⌝ }
 {
     let v = charge(w);
     let k = (s.row - intmap::ZERO) as usize;
@@ -322,7 +322,7 @@ fn take_turn(
     }
     area::raise_count(area, from + p.size, k);
     let x = rows::row_at(area, from, k);
-    let h = explain::handle(s, area, catalogue, x, 0 < handled, from, p.size, p.limit);
+    let h = explain::handle(s, area, blocks, x, 0 < handled, from, p.size, p.limit);
     follow(v, area, columns, p, h)
 }
 
@@ -359,12 +359,12 @@ pub fn run(
     s: MemoryState,
     area: &mut [u8],
     columns: &mut [u8],
-    catalogue: &[u8],
+    blocks: &[u8],
     p: Program,
     budget: u64,
 ) -> Progress
-    requires { ⌜ Running p (now catalogue) (now area) (now columns) w s ⌝ }
-    ensures { λ r. ⌜ Runs p (now (catalogue .entry)) (now (area .entry)) (now (area .exit)) (now (columns .entry)) (now (columns .exit)) w s budget r ⌝ }
+    requires { ⌜ Running p (now blocks) (now area) (now columns) w s ⌝ }
+    ensures { λ r. ⌜ Runs p (now (blocks .entry)) (now (area .entry)) (now (area .exit)) (now (columns .entry)) (now (columns .exit)) w s budget r ⌝ }
 {
     let mut v = w;
     let mut m = s;
@@ -373,7 +373,7 @@ pub fn run(
         if v.gas == 0 {
             return Progress::Ended(close(v, area, p));
         }
-        let t = take_turn(v, m, area, columns, catalogue, p);
+        let t = take_turn(v, m, area, columns, blocks, p);
         match t {
             Turn::Over(k) => {
                 return Progress::Refused(k);

@@ -9,7 +9,7 @@ add-t9 : tie.Need-add-t9
 add-t9 c = search needs
 
 returns : tie.Need-returns
-returns c = λ from n catalogue again. three-handles (c .before .before .pre .0 .current) (sym (c .before .before .pre .1))
+returns c = λ from n blocks again. three-handles (c .before .before .pre .0 .current) (sym (c .before .before .pre .1))
 
 pub jump-three-spec : {M : Type 1} → statement M
 jump-three-spec = tie.close (tie.spec add-t9 returns)

@@ -19,10 +19,10 @@ add-t11 : tie.Need-add-t11
 add-t11 c = search needs
 
 returns : tie.Need-returns
-returns c = λ from n catalogue again. result-refused (c .before .before .before .before .before .before .pre .1) _ (subst (JudgesRow _) (c .before .columns .given .1) (c .before .before .before .result-row .ensures))
+returns c = λ from n blocks again. result-refused (c .before .before .before .before .before .before .pre .1) _ (subst (JudgesRow _) (c .before .columns .given .1) (c .before .before .before .result-row .ensures))
 
 returns-2 : tie.Need-returns-2
-returns-2 c = λ from n catalogue again. result-handles (c .before .before .before .before .before .before .before .pre .1) _ _ (c .before .before .before .before .before .before .before .pre .0 .current) (subst (JudgesRow _) (c .before .before .columns2 .given .1) (c .before .before .before .before .result-row .ensures))
+returns-2 c = λ from n blocks again. result-handles (c .before .before .before .before .before .before .before .pre .1) _ _ (c .before .before .before .before .before .before .before .pre .0 .current) (subst (JudgesRow _) (c .before .before .columns2 .given .1) (c .before .before .before .before .result-row .ensures))
 
 pub result-row-spec : {M : Type 1} → statement M
 result-row-spec =

@@ -1,32 +1,35 @@
--- `record_arms::is_deep` asks for the key, then for the depth. Assumes nothing.
-use native.Mathlib.Omega.{arith}
-use Rattle.intmap.specs.Map.{levels}
-use Rattle.area.specs.Cells.{cells}
-use Rattle.intmap.proofs.RunLaws.{size-pos}
-use Rattle.record_arms.proofs.DeepLaws.{under-key, over-key, within-keys}
+-- `record_arms::is_deep` asks for the tag, for the key, then for the depth. Assumes nothing.
+use mathlib.Core.Path.{_∙_}
 use borrow.Author.Needs.{needs}
+use Rattle.record_arms.proofs.DeepLaws.{single-flat, under-key, within-keys}
 use Rattle.record_arms.proofs.is_deep.Statement.{statement}
 use Rattle.record_arms.proofs.is_deep.Tie as tie
 
-cell-at-requires : tie.Need-cell-at-requires
-cell-at-requires c κs = record { within = omega (arith, c .before .pre .fits, size-pos (cells (c .before .args .area .now)) levels (c .before .args .at)); small = c .before .pre .small }
+tag-of-requires : tie.Need-tag-of-requires
+tag-of-requires c κs = search needs
+
+returns : tie.Need-returns
+returns c = single-flat _ _ _ _ (c .before .before .before .pre .1) (λ e. c .if1 .taken (c .before .tag-of .ensures ∙ e))
 
 key-of-requires : tie.Need-key-of-requires
 key-of-requires c κs = search needs
 
-returns : tie.Need-returns
-returns c = under-key _ _ _ _ _ _ (c .before .before .cell-at .ensures) (c .before .key-of .ensures) (c .if1 .taken)
-
 returns-2 : tie.Need-returns-2
-returns-2 c = over-key _ _ _ _ _ _ (c .before .before .before .cell-at .ensures) (c .before .before .key-of .ensures) (c .if2 .taken)
+returns-2 c = under-key _ _ _ _ _ (c .before .before .before .before .before .pre .1) (c .before .key-of .ensures) (c .if2 .taken)
 
 depth-of-requires : tie.Need-depth-of-requires
 depth-of-requires c κs = search needs
 
 returns-3 : tie.Need-returns-3
-returns-3 c = within-keys _ _ _ _ _ _ (c .before .before .before .before .cell-at .ensures) (c .before .before .before .key-of .ensures) (c .before .before .if1 .left) (c .before .if2 .left) _ (c .depth-of .ensures)
+returns-3 c = within-keys _ _ _ _ _ (c .before .before .before .before .before .before .pre .1) (c .before .before .key-of .ensures) (c .before .if2 .left) _ (c .depth-of .ensures)
 
 pub is-deep-spec : {M : Type 1} → statement M
 is-deep-spec =
     tie.close
-    (tie.spec cell-at-requires key-of-requires returns returns-2 depth-of-requires returns-3)
+    (tie.spec
+    tag-of-requires
+    returns
+    key-of-requires
+    returns-2
+    depth-of-requires
+    returns-3)

@@ -11,10 +11,10 @@ use Rattle.walk.proofs.close.Reads as close-reads
 use Rattle.walk.proofs.take_turn.Reads as take-turn-reads
 
 abbrev Inv-loop : tie.InvT-loop
-Inv-loop area₀ columns₀ catalogue p budget v₀ m₀ left₀ area columns v m left = RunsTo p catalogue area₀ area columns₀ columns v₀ m₀ budget v m left
+Inv-loop area₀ columns₀ blocks p budget v₀ m₀ left₀ area columns v m left = RunsTo p blocks area₀ area columns₀ columns v₀ m₀ budget v m left
 
 abbrev μ-loop : tie.MeasureT-loop
-μ-loop area₀ columns₀ catalogue p budget v₀ m₀ left₀ area columns v m left = left
+μ-loop area₀ columns₀ blocks p budget v₀ m₀ left₀ area columns v m left = left
 
 -- src/lib.rt:402:5
 loop-holds : tie.Need-loop-holds Inv-loop μ-loop

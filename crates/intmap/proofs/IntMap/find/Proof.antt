@@ -37,19 +37,19 @@ returns c =
     let more : 0 < l .left = omega (arith, c .before .before .before .loop-test .taken) in
     seek-here _ _ _ _ _ _ more (c .before .before .cell-at .ensures) (c .if1 .taken) ∙ l .inv .0
 
-count-requires : tie.Need-count-requires Inv-loop μ-loop
-count-requires c κs =
+count-from-requires : tie.Need-count-from-requires Inv-loop μ-loop
+count-from-requires c κs =
     let s = c .before .before .before .before .before .before in
     let l = c .before .before .before .before .loop in
     let more : 0 < l .left = omega (arith, c .before .before .before .loop-test .taken) in
-    record { fits = omega (arith, sizes-step (size (cells (s .args .area .now)) levels) (l .left) (l .at) more, l .inv .1); small = s .pre .small }
+    (record { fits = omega (arith, sizes-step (size (cells (s .args .area .now)) levels) (l .left) (l .at) more, l .inv .1); small = s .pre .small }, c .before .before .cell-at .ensures)
 
 add-at : tie.Need-add-at Inv-loop μ-loop
 add-at c =
     let s = c .before .before .before .before .before .before .before in
     let l = c .before .before .before .before .before .loop in
     let more : 0 < l .left = omega (arith, c .before .before .before .before .loop-test .taken) in
-    omega (arith, sizes-on (size (cells (s .args .area .now)) levels) (l .left) (l .at) (c .count .result) _ more (c .count .ensures) (l .inv .1), s .pre .small)
+    omega (arith, sizes-on (size (cells (s .args .area .now)) levels) (l .left) (l .at) (c .count-from .result) _ more (c .count-from .ensures) (l .inv .1), s .pre .small)
 
 sub-left : tie.Need-sub-left Inv-loop μ-loop
 sub-left c = omega arith
@@ -61,8 +61,8 @@ loop-again : tie.Need-loop-again Inv-loop μ-loop
 loop-again c =
     let l = c .before .before .before .before .before .loop in
     let more : 0 < l .left = omega (arith, c .before .before .before .before .loop-test .taken) in (
-      seek-on _ _ _ _ _ _ _ more (c .before .before .before .cell-at .ensures) (c .before .if1 .left) (c .count .ensures) ∙ l .inv .0,
-      sizes-on _ _ _ _ _ more (c .count .ensures) (l .inv .1),
+      seek-on _ _ _ _ _ _ _ more (c .before .before .before .cell-at .ensures) (c .before .if1 .left) (c .count-from .ensures) ∙ l .inv .0,
+      sizes-on _ _ _ _ _ more (c .count-from .ensures) (l .inv .1),
     )
 
 returns-2 : tie.Need-returns-2 Inv-loop μ-loop
@@ -77,7 +77,7 @@ find-spec =
     loop-holds
     cell-at-requires
     returns
-    count-requires
+    count-from-requires
     add-at
     sub-left
     loop-less

@@ -1,10 +1,10 @@
--- `read_arm::column_of` makes the cell of the declared type's kind, and gives it the column's number. Assumes nothing.
+-- `root_block::column_of` makes the cell of the declared type's kind, and gives it the column's number. Assumes nothing.
 use mathlib.Core.Bool.{not}
 use native.Mathlib.Omega.{arith}
-use Rattle.read_arm.proofs.ColumnLaws.{code-few, column-made}
+use Rattle.root_block.proofs.ColumnLaws.{code-few, column-made}
 use borrow.Author.Needs.{needs}
-use Rattle.read_arm.proofs.column_of.Statement.{statement}
-use Rattle.read_arm.proofs.column_of.Tie as tie
+use Rattle.root_block.proofs.column_of.Statement.{statement}
+use Rattle.root_block.proofs.column_of.Tie as tie
 
 add-to : tie.Need-add-to
 add-to c = search needs

@@ -1,0 +1,3 @@
+pub mod ColumnLaws
+pub mod FillLaws
+pub mod LinkLaws
