@@ -1,10 +1,9 @@
--- `corners::case_end` stays between the case's start and the end of the text.
--- Assumes nothing.
+-- `vectors::line_end` stays between the line's start and the end of the text. Assumes nothing.
 use Prim.Native.Nat.{_-_, _≤_}
-use native.Mathlib.Omega.{arith}
 use lib.ListN.{length}
-use Rattle.corners.proofs.case_end.Statement.{statement}
-use Rattle.corners.proofs.case_end.Tie as tie
+use borrow.Author.Needs.{needs}
+use Rattle.vectors.proofs.line_end.Statement.{statement}
+use Rattle.vectors.proofs.line_end.Tie as tie
 
 abbrev Inv-loop : tie.InvT-loop
 Inv-loop s at end₀ end = (at ≤ end) × (end ≤ length s)
@@ -13,28 +12,28 @@ abbrev μ-loop : tie.MeasureT-loop
 μ-loop s at end₀ end = length s - end
 
 loop-holds : tie.Need-loop-holds Inv-loop μ-loop
-loop-holds c = omega arith
+loop-holds c = search needs
 
 shared-slice-read-if1 : tie.Need-shared-slice-read-if1 Inv-loop μ-loop
-shared-slice-read-if1 c = omega arith
+shared-slice-read-if1 c = search needs
 
 returns : tie.Need-returns Inv-loop μ-loop
-returns c = omega arith
+returns c = search needs
 
 add-end : tie.Need-add-end Inv-loop μ-loop
-add-end c = omega arith
+add-end c = search needs
 
 loop-less : tie.Need-loop-less Inv-loop μ-loop
-loop-less c = omega arith
+loop-less c = search needs
 
 loop-again : tie.Need-loop-again Inv-loop μ-loop
-loop-again c = omega arith
+loop-again c = search needs
 
 returns-2 : tie.Need-returns-2 Inv-loop μ-loop
-returns-2 c = omega arith
+returns-2 c = search needs
 
-pub case-end-spec : {M : Type 1} → statement M
-case-end-spec =
+pub line-end-spec : {M : Type 1} → statement M
+line-end-spec =
     tie.close
     (tie.spec
     Inv-loop
