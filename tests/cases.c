@@ -1,8 +1,10 @@
 // Runs the entry `column_kinds` of the proved archive over files of cases and compares all that it gives.
 //
 //     rt staticlib column_kinds
-//     gcc -std=c11 -O2 -Wall -Wextra tests/cases.c target/staticlib/libcolumn_kinds.a -o target/cases
+//     gcc -std=c11 -O2 -Wall -Wextra -Iinclude tests/cases.c target/staticlib/libcolumn_kinds.a -o target/cases
 //     target/cases [-t] CASES...          -t: the processor time of each call
+//
+// host/build builds it as target/host/cases.
 //
 // A case is `case NAME LISTING CATALOGUE AREA ANSWER NUMBER LENGTH` LF, then the bytes of the listing, the
 // catalogue and the expected answer. The area is lent full of 0xA5 and the answer full of 0x5A. Compared are
@@ -16,11 +18,7 @@
 #include <string.h>
 #include <time.h>
 
-// A Rattle slice is a pointer and a count of bytes.
-extern uint64_t column_kinds(const uint8_t *listing, size_t listing_len,
-                             const uint8_t *catalogue, size_t catalogue_len,
-                             uint8_t *area, size_t area_len,
-                             uint8_t *answer, size_t answer_len);
+#include "column_kinds.h"
 
 enum { AREA_FILL = 0xA5, ANSWER_FILL = 0x5A, GUARD_FILL = 0xC3 };
 
@@ -106,8 +104,8 @@ static void run_case(const char *name, const uint8_t *listing, size_t listing_le
     uint64_t got = column_kinds(listing, listing_len, catalogue, catalogue_len, a, area_len, w, answer_len);
     double took = seconds(CLOCK_PROCESS_CPUTIME_ID) - start;
 
-    uint64_t got_number = got >> 32;
-    size_t got_length = got & 0xFFFFFFFF;
+    uint64_t got_number = column_kinds_number(got);
+    size_t got_length = column_kinds_length(got);
     size_t written = got_length <= answer_len ? got_length : answer_len;
     int same = got_number == number && got_length == length;
     int bytes = written == length && memcmp(w, expected, length) == 0;
