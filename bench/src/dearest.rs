@@ -1,0 +1,119 @@
+//! Listings made to be slow: they spend the gas, fill the area, or make a row costly.
+use crate::case::{made, records, Case, Row};
+
+/// `n` times two ways that meet again with another register set: 2^n ways in all.
+fn diamonds(n: i64, first: i64, from: i64) -> Vec<Row> {
+    (0..n).flat_map(|i| [("Eq", 0, from + 2 * i + 2, 0), ("Integer", i, first + i, 0)]).collect()
+}
+
+fn with(parts: &[&[Row]]) -> Vec<Row> {
+    parts.concat()
+}
+
+fn case(name: &str, rows: Vec<Row>) -> Case {
+    made(name, &rows, Vec::new())
+}
+
+/// `count` rows behind 2^n ways, so that each row is handled for each way.
+fn behind(n: i64, before: &[Row], rows: impl Fn(i64) -> Row, count: i64) -> Vec<Row> {
+    let from = before.len() as i64;
+    let many: Vec<Row> = (0..count).map(rows).collect();
+    with(&[before, &diamonds(n, 500, from), &many, &[("Halt", 0, 0, 0)]])
+}
+
+fn states() -> Vec<Case> {
+    let ends: [Row; 2] = [("ResultRow", 0, 20, 0), ("Halt", 0, 0, 0)];
+    let ifs: Vec<Row> = (0..14).map(|i| ("If", i, i + 1, 0)).collect();
+    let three: Vec<Row> = (0..16)
+        .flat_map(|i| [("Jump", 3 * i + 1, 3 * i + 2, 3 * i + 3), ("Integer", i, i, 0), ("Null", 0, i, 0)])
+        .collect();
+    let outside: Vec<Row> =
+        (0..8).flat_map(|i| [("Jump", 2 * i + 1, 2 * i + 2, 9_999 + i), ("Integer", i, i, 0)]).collect();
+    let loops: Vec<Row> = (0..8).map(|i| ("If", i, i + 1, 1)).collect();
+    vec![
+        case("14 Ifs", with(&[&ifs, &[("ResultRow", 0, 14, 0)]])),
+        case("17 diamonds", with(&[&diamonds(17, 0, 0), &ends])),
+        case("16 times three ways", with(&[&three, &[("Goto", 0, 0, 0)]])),
+        case("three new states a row", with(&[&outside, &[("If", 9, 0, 0), ("Goto", 0, 0, 0)]])),
+        case("8,000 states of one hash", one_hash(27)),
+        case("the same with different hashes", one_hash(28)),
+        case("a loop of Ifs", with(&[&loops, &diamonds(8, 0, 8), &[("Goto", 0, 0, 0)]])),
+    ]
+}
+
+/// 8,000 states at one row whose registers differ by multiples of (1, -27, 1), each offered 15 times. The port's hash of a state is
+/// a sum of its words times powers of b^2 modulo m, where b = 2^32 and m = b^2 - 5 b - 1, and b^4 - 27 b^2 + 1 is 0 there.
+fn one_hash(step: i64) -> Vec<Row> {
+    let mut rows: Vec<Row> = Vec::new();
+    let (ways, length) = (20, 5);
+    for group in 0..3 {
+        let join = (group + 1) * ways * length;
+        for way in 0..ways {
+            let next = rows.len() as i64 + length;
+            rows.push(("Eq", 0, next.min(join - 1), 0));
+            rows.extend((0..3).map(|k| ("Integer", if k == 1 { 1_000 - step * way } else { way }, 3 * group + k, 0)));
+            rows.push(("Goto", 0, join, 0));
+        }
+    }
+    let end = rows.len() as i64 + 5;
+    rows.extend([("Jump", end, end, end); 5]);
+    rows.push(("Halt", 0, 0, 0));
+    rows
+}
+
+fn wide() -> Vec<Case> {
+    let result: [Row; 2] = [("ResultRow", 0, 2_000, 0), ("Halt", 0, 0, 0)];
+    let full: [Row; 1] = [("Null", 0, 0, 490)];
+    vec![
+        case("490 registers, 10 diamonds", with(&[&full, &diamonds(10, 0, 1)])),
+        case("a result of 2,000 columns", with(&[&diamonds(16, 0, 0), &result])),
+        case("512 cells, all dropped", behind(6, &[("Null", 0, 0, 505)], |_| ("Jump", 1_500, 1_500, 1_500), 1_487)),
+        case("register 65,535, 5 diamonds", with(&[&[("Null", 0, 65_535, 0)], &diamonds(5, 0, 1)])),
+    ]
+}
+
+fn rows() -> Vec<Case> {
+    let few = |i: i64| if i % 3 == 0 { ("Integer", i % 3, i % 5, 0) } else { ("Jump", 0, 1, 2) };
+    vec![
+        case("2,048 rows of Jump 0 0 0", vec![("Jump", 0, 0, 0); 2_048]),
+        case("1,500 rows, jumps to few", (0..1_500).map(few).collect()),
+        case("2,048 rows of Eq", (0..2_048).map(|i| ("Eq", 0, (i * 7) % 2_048, 0)).collect()),
+        case("an IfPos that counts down", vec![("Integer", 1_000_000, 1, 0), ("IfPos", 1, 1, 0), ("ResultRow", 1, 1, 0), ("Goto", 0, 1, 0)]),
+    ]
+}
+
+/// One operation, many times, on a state of nearly 512 cells.
+fn costly_rows() -> Vec<Case> {
+    let table: [Row; 2] = [("OpenEphemeral", 0, 240, 0), ("RowData", 0, 1, 0)];
+    let full: [Row; 1] = [("Null", 0, 0, 490)];
+    let half: [Row; 1] = [("Null", 0, 1, 240)];
+    vec![
+        case("Integer into 490 registers", behind(6, &full, |i| ("Integer", i, (i * 97) % 491, 0), 1_500)),
+        case("Column of 240 columns", behind(6, &table, |i| ("Column", 0, i % 240, 2), 1_500)),
+        case("RowData of 240 columns", behind(6, &table, |_| ("RowData", 0, 1, 0), 1_500)),
+        case("Insert of 240 columns", behind(6, &table, |_| ("Insert", 0, 1, 0), 1_500)),
+        case("NullRow of 240 columns", behind(6, &table, |_| ("NullRow", 0, 0, 0), 1_500)),
+        case("Null of 490 registers", behind(6, &full, |_| ("Null", 0, 0, 489), 200)),
+        case("MakeRecord of 240 registers", behind(6, &half, |_| ("MakeRecord", 1, 240, 250), 200)),
+        case("Copy of 240 registers", behind(6, &full, |_| ("Copy", 0, 245, 239), 200)),
+        case("Move of 240 registers", behind(6, &full, |_| ("Move", 0, 245, 240), 200)),
+        case("ResultRow of 490 registers", behind(6, &full, |_| ("ResultRow", 0, 491, 0), 28)),
+    ]
+}
+
+fn texts() -> Vec<Case> {
+    let last = behind(8, &[], |_| ("OpenRead", 0, 512, 0), 50);
+    let absent = behind(9, &[], |_| ("OpenRead", 0, 9_999, 0), 190);
+    let mut long = made("2,048 rows with P4 of 255 bytes", &vec![("Noop", 0, 0, 0); 2_048], Vec::new());
+    let text = String::from_utf8_lossy(&long.listing).replace("p4=", &format!("p4={}", "61".repeat(255)));
+    long.listing = text.into_bytes();
+    vec![
+        made("OpenRead of the last of 4,096 records", &last, records(4_096)),
+        made("OpenRead of a page that is not there, 4,096 records", &absent, records(4_096)),
+        long,
+    ]
+}
+
+pub fn all() -> Vec<Case> {
+    [states(), wide(), rows(), costly_rows(), texts()].into_iter().flatten().collect()
+}
