@@ -60,11 +60,11 @@ refused-same {k = k} e = ap (λ t. elim t [ refused i ↦ i | done x ↦ k ]) e
 
 -- ---- the answer of a walk
 
-pub small-few : {w : Walk} → Few w → Small (w .width) (w .charged) (w .loopstops) (w .gasstops) (w .repeats)
+pub small-few : {w : Walk} → Few w → Small (w .width) (w .counts .charged) (w .counts .loopstops) (w .counts .gasstops) (w .counts .repeats)
 small-few f = record { width-small = f .width; charged-small = f .charged; loopstops-small = f .loopstops; gasstops-small = f .gasstops; repeats-small = f .repeats }
 
 module _ (cols answer : List ℕ) (x : Progress) where
-  pub may-write : (w : Walk) → x ≡ progress.Ended w → Writable cols x → Small (w .width) (w .charged) (w .loopstops) (w .gasstops) (w .repeats) × (w .width ≤ length cols)
+  pub may-write : (w : Walk) → x ≡ progress.Ended w → Writable cols x → Small (w .width) (w .counts .charged) (w .counts .loopstops) (w .counts .gasstops) (w .counts .repeats) × (w .width ≤ length cols)
   may-write w e h = let t = subst (Writable cols) e h in (small-few (t .0), omega (arith, t .0 .width, t .1))
 
   pub never-paused : (w : Walk) (s : MemoryState) → x ≡ progress.Paused w s → Writable cols x → ⊥
@@ -76,7 +76,7 @@ module _ (cols answer : List ℕ) (x : Progress) where
       subst (λ y. WritesWalk cols y answer answer (written.Refused k)) (sym e)
       (record { says = λ w t. sym (ap (λ v. leave answer (outcomeOf v >>= λ a. printInto (length answer) a)) (t .is)) })
 
-  pub writes-ended : (w : Walk) (answerThen : List ℕ) (r : Written) → x ≡ progress.Ended w → Writes cols (w .width) (w .charged) (w .loopstops) (w .gasstops) (w .repeats) answer answerThen r → WritesWalk cols x answer answerThen r
+  pub writes-ended : (w : Walk) (answerThen : List ℕ) (r : Written) → x ≡ progress.Ended w → Writes cols (w .width) (w .counts .charged) (w .counts .loopstops) (w .counts .gasstops) (w .counts .repeats) answer answerThen r → WritesWalk cols x answer answerThen r
   unfolding outcomeOf
   writes-ended w answerThen r e writes =
       subst (λ y. WritesWalk cols y answer answerThen r) (sym e)
@@ -87,7 +87,7 @@ module _ (cols answer : List ℕ) (x : Progress) where
             sym (ap (λ u. leave answer (outcomeOf u >>= λ a. printInto (length answer) a)) (t .is));
       })
     where
-      same-answer : (n : Notes Defined ResultRow) → HoldsEnd cols w n → answerWith (w .charged) (w .loopstops) (w .gasstops) (w .repeats) (columnsOf (n .counted)) ≡ answerOf n
+      same-answer : (n : Notes Defined ResultRow) → HoldsEnd cols w n → answerWith (w .counts .charged) (w .counts .loopstops) (w .counts .gasstops) (w .counts .repeats) (columnsOf (n .counted)) ≡ answerOf n
       same-answer n h = rw (h .charged, h .loopstops, h .gasstops, h .repeats)
 
 -- ---- the listing and the catalogue, read

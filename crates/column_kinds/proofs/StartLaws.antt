@@ -60,7 +60,7 @@ abbrev programOf : ℕ → Program
 programOf n = record { limit = 512; size = n }
 
 abbrev walkWith : BranchList → Walk
-walkWith b = record { gas = 100000; charged = 0; loopstops = 0; gasstops = 0; repeats = 0; width = 0; branches = b }
+walkWith b = record { gas = 100000; counts = record { charged = 0; loopstops = 0; gasstops = 0; repeats = 0 }; width = 0; branches = b }
 
 abbrev stateWith : IntMap → MemoryState
 stateWith a = record { row = offset; map = a }

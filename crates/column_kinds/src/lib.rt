@@ -6,6 +6,7 @@ ghost use Rattle.column_kinds.specs.Inner.{serves, RowRoom, Prepared, Wa
 ghost use Rattle.root_block.specs.Build.{Indexable};
 use answer::Written;
 use branches::BranchList;
+use counters::Counters;
 use intmap::IntMap;
 use state::MemoryState;
 use text::Counted;
@@ -46,12 +47,15 @@ fn walk_rows(area: &mut [u8], columns: &mut [u8], blocks: &[u8], n: usize) -> Pr
     ensures { λ r. ⌜ WalksRows (now (blocks .entry)) (now (area .entry)) (now (area .exit)) (now (columns .exit)) n r ⌝ }
 {
     let branches = BranchList::new(LIMIT + LIMIT + n + n);
-    let w = Walk {
-        gas: GAS,
+    let counts = Counters {
         charged: 0,
         loopstops: 0,
         gasstops: 0,
         repeats: 0,
+    };
+    let w = Walk {
+        gas: GAS,
+        counts,
         width: 0,
         branches,
     };
@@ -82,10 +86,10 @@ fn write_walk(answer: &mut [u8], columns: &[u8], x: Progress) -> Written
             answer,
             columns,
             w.width,
-            w.charged,
-            w.loopstops,
-            w.gasstops,
-            w.repeats,
+            w.counts.charged,
+            w.counts.loopstops,
+            w.counts.gasstops,
+            w.counts.repeats,
         ),
     }
 }

@@ -85,7 +85,7 @@ pub record ClosedSo (p : Program) (g : Given) (blocks xs cols : List ℕ) (v : W
 
 pub record Closing (p : Program) (xs : List ℕ) (w v : Walk) : Type 0 where
   pub says : (g : Given) (blocks cols : List ℕ) (ls : List (Lineage Defined)) (n : Notes Defined ResultRow) → HoldsWalk p g blocks xs cols w ls n → ClosedSo p g blocks xs cols v ls n
-  pub few : v .gasstops + v .branches .last ≤ w .gasstops + w .branches .last
+  pub few : v .counts .gasstops + v .branches .last ≤ w .counts .gasstops + w .branches .last
 
 pub closing-first : (p : Program) (xs : List ℕ) (w : Walk) → Closing p xs w w
 closing-first p xs w = record { says = λ g blocks cols ls n h. record { waiting = ls; notes = n; same = refl; holds = h }; few = omega arith }
@@ -97,7 +97,7 @@ module _ {p : Program} {xs : List ℕ} {w v : Walk} (c : Closing p xs w v) where
       record { given = a .given; blocks = a .blocks; cols = a .cols; waiting = h .waiting; notes = h .notes; holds = h .holds }
 
   module _ (x : Taken) (takes : Takes p xs v x) where
-    pub closing-end : (u : Walk) → x ≡ taken.Nothing u → w .gasstops + w .branches .last < 4294967295 → Closes p xs w u
+    pub closing-end : (u : Walk) → x ≡ taken.Nothing u → w .counts .gasstops + w .branches .last < 4294967295 → Closes p xs w u
     closing-end u e lt =
         record {
           says = λ g blocks cols ls n h.
@@ -108,7 +108,7 @@ module _ {p : Program} {xs : List ℕ} {w v : Walk} (c : Closing p xs w v) where
               (record { charged = t .holds .counts .charged; loopstops = t .holds .counts .loopstops; gasstops = t .holds .counts .gasstops; repeats = t .holds .counts .repeats; columns = t .holds .list .columns; few = few-then (t .holds) (t .holds .counts .gasstops ∙ none-notes g (a .waiting) (a .notes) (t .notes) (t .is) ∙ sym (a .holds .counts .gasstops)) });
         }
       where
-        few-then : {g : Given} {blocks cols : List ℕ} {ls : List (Lineage Defined)} {n : Notes Defined ResultRow} → HoldsWalk p g blocks xs cols u ls n → u .gasstops ≡ v .gasstops → Few u
+        few-then : {g : Given} {blocks cols : List ℕ} {ls : List (Lineage Defined)} {n : Notes Defined ResultRow} → HoldsWalk p g blocks xs cols u ls n → u .counts .gasstops ≡ v .counts .gasstops → Few u
         few-then h same =
             record {
               charged = omega (arith, h .counts .gas-few);
@@ -126,13 +126,13 @@ module _ {p : Program} {xs : List ℕ} {w v : Walk} (c : Closing p xs w v) where
       as-at = subst (Takes p xs v) e takes
 
       -- no gas stop is counted yet by taking
-      taken-stops : Walking p xs w → u .gasstops ≡ v .gasstops
+      taken-stops : Walking p xs w → u .counts .gasstops ≡ v .counts .gasstops
       taken-stops a =
           let b = closing-walking a in
           let t = as-at .says (b .given) (b .blocks) (b .cols) (b .waiting) (b .notes) (b .holds) in
           t .holds .counts .gasstops ∙ taken-notes (b .given) (b .waiting) (b .notes) _ _ _ _ (t .is) ∙ sym (b .holds .counts .gasstops)
 
-      pub closing-stop : Walking p xs w → w .gasstops + w .branches .last < 4294967295 → u .gasstops < 18446744073709551615
+      pub closing-stop : Walking p xs w → w .counts .gasstops + w .branches .last < 4294967295 → u .counts .gasstops < 18446744073709551615
       closing-stop a lt = omega (arith, taken-stops a, c .few, lt)
 
       pub closing-less : (z : Walk) → z ≡ stopGas u → z .branches .last < v .branches .last
@@ -157,9 +157,9 @@ module _ {p : Program} {xs : List ℕ} {w v : Walk} (c : Closing p xs w v) where
 -- ---- the current lineage first
 
 module _ (p : Program) (xs : List ℕ) (w u : Walk) (e : u ≡ stopGas w) where
-  pub stopped-walking : Walking p xs w → w .gasstops + w .branches .last < 4294967294 → Walking p xs u × (u .gasstops + u .branches .last < 4294967295)
+  pub stopped-walking : Walking p xs w → w .counts .gasstops + w .branches .last < 4294967294 → Walking p xs u × (u .counts .gasstops + u .branches .last < 4294967295)
   stopped-walking a lt =
-      subst (λ x. Walking p xs x × (x .gasstops + x .branches .last < 4294967295)) (sym e)
+      subst (λ x. Walking p xs x × (x .counts .gasstops + x .branches .last < 4294967295)) (sym e)
       (record { given = a .given; blocks = a .blocks; cols = a .cols; waiting = a .waiting; notes = gasStop (a .notes); holds = stopped (a .holds) }, omega (arith, lt))
 
   pub closes-current : (r : Walk) → Closes p xs u r → ClosesCurrent p xs w r

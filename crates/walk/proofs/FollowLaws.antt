@@ -88,16 +88,16 @@ module _ (p : Program) (xs ys : List ℕ) (first : ℕ) (below : Below (cells xs
 
 -- what the area holds after a row's branches, with one repeat more where it counts as one
 module _ {p : Program} {g : Given} {blocks xs cols : List ℕ} {w : Walk} {ls : List (Lineage Defined)} {n : Notes Defined ResultRow} (h : HoldsWalk p g blocks xs cols w ls n) where
-  few-numbers : (v : Walk) → v .charged ≡ w .charged → boundOf v ≤ largest
+  few-numbers : (v : Walk) → v .counts .charged ≡ w .counts .charged → boundOf v ≤ largest
   few-numbers v e = omega (arith, h .counts .gas-few, e)
 
-  repeats-within : (b : Bool) (v : Walk) → SameCounts w v → w .repeats < w .charged → noteRepeat b (v .repeats) ≤ v .charged
+  repeats-within : (b : Bool) (v : Walk) → SameCounts w v → w .counts .repeats < w .counts .charged → noteRepeat b (v .counts .repeats) ≤ v .counts .charged
   repeats-within true v same lt = omega (arith, same .repeats, same .charged)
   repeats-within false v same lt = omega (arith, same .repeats, same .charged)
 
   noted :
       (ys : List ℕ) (v u : Walk) (b : Bool) (waiting : List (Lineage Defined)) (known : List Defined) (left : ℕ) (branches : List Defined) (stays : Option Defined) →
-      SameCounts w v → w .repeats < w .charged → u ≡ noteRepeated v b →
+      SameCounts w v → w .counts .repeats < w .counts .charged → u ≡ noteRepeated v b →
       HoldsList p g blocks ys cols v waiting known left (n .counted) →
       HoldsWalk p g blocks ys cols u waiting (noteWays (record { branches = branches; stays = stays; result = none; repeat = b }) known left n)
   noted ys v u b waiting known left branches stays same lt e list =
@@ -122,7 +122,7 @@ same-counts w = record { gas = refl; charged = refl; loopstops = refl; gasstops 
 -- no branch
 pub ways-nowhere :
     (p : Program) (xs ys : List ℕ) (w u : Walk) (branch stays : Way) (repeat : Bool) (r : Front) →
-    w .repeats < w .charged → branch ≡ way.Nowhere → u ≡ noteRepeated w repeat → GoesOn p xs ys u stays r →
+    w .counts .repeats < w .counts .charged → branch ≡ way.Nowhere → u ≡ noteRepeated w repeat → GoesOn p xs ys u stays r →
     FollowsWays p xs ys w branch stays repeat (turned.Goes r)
 ways-nowhere p xs ys w u branch stays repeat r lt e f on =
     subst (λ b. FollowsWays p xs ys w b stays repeat (turned.Goes r)) (sym e)
@@ -184,7 +184,7 @@ ways-full p xs ys w branch stays repeat s a e f adds =
 -- a branch that is dropped or kept
 pub ways-done :
     (p : Program) (xs ys zs : List ℕ) (w v u : Walk) (branch stays : Way) (repeat : Bool) (s : MemoryState) (a : Added) (r : Front) →
-    Bytes xs → Bytes ys → w .repeats < w .charged →
+    Bytes xs → Bytes ys → w .counts .repeats < w .counts .charged →
     branch ≡ way.To s → a ≡ added.Done v → AddsBranch p xs ys w s a → u ≡ noteRepeated v repeat → GoesOn p ys zs u stays r →
     FollowsWays p xs zs w branch stays repeat (turned.Goes r)
 ways-done p xs ys zs w v u branch stays repeat s a r small less lt e f adds noted-u on =
@@ -211,7 +211,7 @@ ways-done p xs ys zs w v u branch stays repeat s a r small less lt e f adds note
     as-done : AddsBranch p xs ys w s (added.Done v)
     as-done = subst (AddsBranch p xs ys w s) f adds
 
-    bound-of : v .charged ≡ w .charged → boundOf w ≡ boundOf u
+    bound-of : v .counts .charged ≡ w .counts .charged → boundOf w ≡ boundOf u
     bound-of e = ap (λ k. operands + k) (sym e) ∙ sym (ap boundOf noted-u)
 
 -- ---- what is asked of the next call
@@ -231,7 +231,7 @@ turn-holding t =
       counted = t .counted;
     }
 
-pub few-repeats : {p : Program} {xs : List ℕ} {w : Walk} → Turning p xs w → w .repeats < 4294967296
+pub few-repeats : {p : Program} {xs : List ℕ} {w : Walk} → Turning p xs w → w .counts .repeats < 4294967296
 few-repeats t = omega (arith, t .less, t .walking .holds .counts .gas-few)
 
 pub offering-of : {p : Program} {xs : List ℕ} {w : Walk} (branch : Way) (s : MemoryState) → branch ≡ way.To s → MayOffer p xs w branch → Offering p xs w s
@@ -296,7 +296,7 @@ module _ {p : Program} {xs ys : List ℕ} {w v : Walk} {s : MemoryState} {a : Ad
         holds = noted (t .walking .holds) ys v u b (d .0 .waiting) (d .0 .known) (d .0 .left) [] none (d .1) (t .less) f (d .0 .holds);
       }
 
-  pub few-after : Turning p xs w → v .repeats < 4294967296
+  pub few-after : Turning p xs w → v .counts .repeats < 4294967296
   few-after t = let d = after-branch (turn-holding t) in omega (arith, t .less, t .walking .holds .counts .gas-few, d .1 .repeats)
 
   -- another state in front of the remembered ones
@@ -423,7 +423,7 @@ three-over p xs ys w a b c stays x e adds =
 
 pub three-goes :
     (p : Program) (xs ys zs : List ℕ) (w v : Walk) (a b c stays : MemoryState) (x : Added) (r : Front) →
-    Bytes xs → Bytes ys → w .repeats < w .charged → x ≡ added.Done v → AddsThree p xs ys w a b c x → GoesOn p ys zs v (way.To stays) r →
+    Bytes xs → Bytes ys → w .counts .repeats < w .counts .charged → x ≡ added.Done v → AddsThree p xs ys w a b c x → GoesOn p ys zs v (way.To stays) r →
     FollowsThree p xs zs w a b c stays (turned.Goes r)
 three-goes p xs ys zs w v a b c stays x r small less lt e adds on =
     record {

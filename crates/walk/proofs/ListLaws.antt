@@ -16,7 +16,7 @@ use Rattle.model.specs.Offer.{turns, rowAt}
 use Rattle.model.specs.Explain.{numberAt, rowOf}
 use Rattle.intmap.specs.Signed.{offset, intOf}
 use Rattle.intmap.proofs.SignedLaws.{row-below, row-above, int-turns}
-use Rattle.model.specs.Walk.{Lineage, noteRepeat}
+use Rattle.model.specs.Walk.{Lineage}
 use Rattle.model.specs.Results.{ResultRow, columnsOf}
 use Rattle.area.specs.Cells.{blank, cells}
 use Rattle.area.proofs.CellLaws.{cells-kept}
@@ -24,8 +24,10 @@ use Rattle.encoding.specs.Holds.{largest}
 use Rattle.branches.specs.Entries.{Remembers}
 use Rattle.branches.proofs.RememberLaws.{Bytes, remembers-kept, remembers-more}
 use Rattle.merge.specs.Columns.{HasColumns}
+use Rattle.counters.specs.Counted.{oneCharged, oneRepeat}
+use Rattle.counters.specs.declared.Counters.{Counters}
 use Rattle.walk.specs.Walks.{rowsFrom, countsFrom, firstFrom, inListing, Given, boundOf, HoldsList}
-use Rattle.walk.specs.Loop.{noteRepeated}
+use Rattle.walk.specs.Loop.{withCounts, noteRepeated, chargeOne}
 use Rattle.walk.specs.declared.Walk.{Walk}
 use Rattle.walk.proofs.BranchLaws.{rows-kept}
 use Rattle.walk.specs.declared.Program.{Program}
@@ -33,7 +35,7 @@ use Rattle.walk.specs.declared.Program.{Program}
 -- a walk whose cells are as they were but for the current lineage's
 module _ {p : Program} {g : Given} {blocks xs cols : List ℕ} {w : Walk} {ls : List (Lineage Defined)} {remembered : List Defined} {space : ℕ} {counted : List ResultRow} (h : HoldsList p g blocks xs cols w ls remembered space counted) where
   -- other counts, and more charged
-  pub list-as : (v : Walk) → v .branches ≡ w .branches → v .width ≡ w .width → w .charged ≤ v .charged → boundOf v ≤ largest → HoldsList p g blocks xs cols v ls remembered space counted
+  pub list-as : (v : Walk) → v .branches ≡ w .branches → v .width ≡ w .width → w .counts .charged ≤ v .counts .charged → boundOf v ≤ largest → HoldsList p g blocks xs cols v ls remembered space counted
   list-as v b width le top =
       record {
         size = h .size;
@@ -142,14 +144,18 @@ tested-below p w h = lt-leb offset w h ∙ sym (ap (λ b. b && ltb (w - offset) 
 pub row-tested : (p : Program) (row w : ℕ) (b c : Bool) → row ≡ w → b ≡ inListing row p → b ≡ c → inListing w p ≡ c
 row-tested p row w b c e f h = ap (λ k. inListing k p) (sym e) ∙ sym f ∙ h
 
--- one more, where a test is true
-pub one-more-true : (b : Bool) (k : ℕ) → b ≡ true → k + 1 ≡ noteRepeat b k
-one-more-true true k e = omega arith
-one-more-true false k e = absurd (false≢true e)
+-- other counts
+pub counts-as : (w r : Walk) (c d : Counters) → c ≡ d → r ≡ withCounts w c → r ≡ withCounts w d
+counts-as w r c d e f = f ∙ ap (withCounts w) e
 
-pub one-more-false : (b : Bool) (k : ℕ) → b ≡ false → k ≡ noteRepeat b k
-one-more-false true k e = absurd (false≢true (sym e))
-one-more-false false k e = refl
+pub charged-as : (w r : Walk) (c : Counters) → c ≡ oneCharged (w .counts) → r ≡ record { gas = w .gas - 1; counts = c; width = w .width; branches = w .branches } → r ≡ chargeOne w
+charged-as w r c e f = f ∙ ap (λ (x : Counters). record { gas = w .gas - 1; counts = x; width = w .width; branches = w .branches }) e
 
-pub repeats-as : (w : Walk) (b : Bool) (k : ℕ) → k ≡ noteRepeat b (w .repeats) → record { gas = w .gas; charged = w .charged; loopstops = w .loopstops; gasstops = w .gasstops; repeats = k; width = w .width; branches = w .branches } ≡ noteRepeated w b
-repeats-as w b k e = ap (λ r. record { gas = w .gas; charged = w .charged; loopstops = w .loopstops; gasstops = w .gasstops; repeats = r; width = w .width; branches = w .branches }) e
+-- one repeat more, where a test is true
+pub noted-true : (w r : Walk) (b : Bool) (c : Counters) → b ≡ true → c ≡ oneRepeat (w .counts) → r ≡ withCounts w c → r ≡ noteRepeated w b
+noted-true w r true c t e f = counts-as w r c _ (e ∙ ap (λ (k : ℕ). record { charged = w .counts .charged; loopstops = w .counts .loopstops; gasstops = w .counts .gasstops; repeats = k }) (omega arith)) f
+noted-true w r false c t e f = absurd (false≢true t)
+
+pub noted-false : (w : Walk) (b : Bool) → b ≡ false → w ≡ noteRepeated w b
+noted-false w true t = absurd (false≢true (sym t))
+noted-false w false t = refl

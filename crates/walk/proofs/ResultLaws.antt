@@ -101,23 +101,23 @@ module _ (p : Program) (xs cols dols : List ℕ) (w v : Walk) (s : MemoryState) 
   counts-as : {notes : Notes Defined ResultRow} {u : Walk} → Counts w notes → SameCounts v u → (rr : ResultRow) (known : List Defined) (left : ℕ) (branches : List Defined) → Counts u (noteWays (record { branches = branches; stays = none; result = some rr; repeat = false }) known left notes)
   counts-as {notes} {u} c same rr known left branches =
       let v-gas : v .gas ≡ w .gas = ap (λ x. x .gas) e in
-      let v-charged : v .charged ≡ w .charged = ap (λ x. x .charged) e in
-      let v-loopstops : v .loopstops ≡ w .loopstops = ap (λ x. x .loopstops) e in
-      let v-repeats : v .repeats ≡ w .repeats = ap (λ x. x .repeats) e in
+      let v-charged : v .counts .charged ≡ w .counts .charged = ap (λ x. x .counts .charged) e in
+      let v-loopstops : v .counts .loopstops ≡ w .counts .loopstops = ap (λ x. x .counts .loopstops) e in
+      let v-repeats : v .counts .repeats ≡ w .counts .repeats = ap (λ x. x .counts .repeats) e in
       record {
         charged = same .charged ∙ v-charged ∙ c .charged;
         loopstops = same .loopstops ∙ v-loopstops ∙ c .loopstops;
-        gasstops = same .gasstops ∙ ap (λ x. x .gasstops) e ∙ c .gasstops;
+        gasstops = same .gasstops ∙ ap (λ x. x .counts .gasstops) e ∙ c .gasstops;
         repeats = same .repeats ∙ v-repeats ∙ c .repeats;
         gas-few = omega (arith, same .charged, v-charged, same .gas, v-gas, c .gas-few);
         loopstops-few = omega (arith, same .charged, v-charged, same .loopstops, v-loopstops, c .loopstops-few);
         repeats-few = omega (arith, same .charged, v-charged, same .repeats, v-repeats, c .repeats-few);
       }
 
-  all-as : {u : Walk} {units : ℕ} → SameCounts v u → w .charged + w .gas ≡ units → u .charged + u .gas ≡ units
+  all-as : {u : Walk} {units : ℕ} → SameCounts v u → w .counts .charged + w .gas ≡ units → u .counts .charged + u .gas ≡ units
   all-as same a =
       let v-gas : v .gas ≡ w .gas = ap (λ x. x .gas) e in
-      let v-charged : v .charged ≡ w .charged = ap (λ x. x .charged) e in
+      let v-charged : v .counts .charged ≡ w .counts .charged = ap (λ x. x .counts .charged) e in
       omega (arith, same .charged, same .gas, v-gas, v-charged, a)
 
   -- the same notes with other result rows

@@ -116,7 +116,7 @@ module _ {p : Program} {blocks xs ys cols dols : List ℕ} {w v : Walk} {s m : M
     pub runs-standing : 0 < v .gas → Standing p blocks ys dols v m
     runs-standing gas = record { given = a .given; front = now .front; holds = now .holds; width = r .columns ∙ a .width; gas = gas }
 
-    none-stopped : v .gasstops ≡ 0
+    none-stopped : v .counts .gasstops ≡ 0
     none-stopped = now .holds .walk .counts .gasstops ∙ ap (λ f. notesAt f .gasstops) (sym (now .holds .is)) ∙ now .stops
 
     -- few wait
@@ -124,7 +124,7 @@ module _ {p : Program} {blocks xs ys cols dols : List ℕ} {w v : Walk} {s m : M
     waits-few [] all h among small = omega (arith, h)
     waits-few (k ∷ ks) all h among small = omega (arith, h .0, small k (among k (inl refl)))
 
-    pub may-close : Walking p ys v × (v .gasstops + v .branches .last < 4294967294)
+    pub may-close : Walking p ys v × (v .counts .gasstops + v .branches .last < 4294967294)
     may-close = (record { given = a .given; blocks = blocks; cols = dols; waiting = now .holds .waiting; notes = now .holds .notes; holds = now .holds .walk }, omega (arith, none-stopped, few))
       where
         h : HoldsWalk p (a .given) blocks ys dols v (now .holds .waiting) (now .holds .notes)

@@ -320,16 +320,16 @@ module _ {p : Program} {g : Given} {blocks xs cols : List ℕ} {w : Walk} {s : M
 -- ---- the turn
 
 module _ {p : Program} {blocks xs cols : List ℕ} {w : Walk} {s : MemoryState} (st : Standing p blocks xs cols w s) where
-  pub may-charge : w .charged < 4294967295
+  pub may-charge : w .counts .charged < 4294967295
   may-charge = omega (arith, st .gas, st .holds .walk .counts .gas-few)
 
   pub may-count : Inside xs (home (countsFrom p) (s .row - offset)) 1
   may-count = count-inside (st .holds)
 
   module _ (v : Walk) (e : v ≡ chargeOne w) where
-    pub may-stop : v .loopstops < 4294967295
+    pub may-stop : v .counts .loopstops < 4294967295
     may-stop =
-        let same : v .loopstops ≡ w .loopstops = ap (λ x. x .loopstops) e in
+        let same : v .counts .loopstops ≡ w .counts .loopstops = ap (λ x. x .counts .loopstops) e in
         omega (arith, same, st .gas, st .holds .walk .counts .gas-few, st .holds .walk .counts .loopstops-few)
 
     pub closed-walking : (u : Walk) → u ≡ stopLoop v → Walking p xs u

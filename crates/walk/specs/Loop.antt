@@ -24,6 +24,8 @@ use Rattle.branches.specs.Header.{rowAt}
 use Rattle.branches.specs.Entries.{Kept, Counted}
 use Rattle.branches.specs.Lists.{Below, Offers as Below-them}
 use Rattle.branches.specs.declared.BranchList.{BranchList}
+use Rattle.counters.specs.Counted.{oneCharged, oneLoopstop, oneGasstop}
+use Rattle.counters.specs.declared.Counters.{Counters}
 use Rattle.explain.specs.Handles.{OffersWays, OffersThree, OffersResult, TellsHandling}
 use Rattle.walk.specs.Walks.{countsFrom, Given, boundOf, HoldsList, HoldsWalk, HoldsRow, HoldsFront, HoldsEnd, TellsTurn, TellsRun, theOffer, theFollowing, theTurn, theRun}
 use Rattle.explain.specs.declared.Handling.{Handling}
@@ -67,7 +69,7 @@ pub record Turning (p : Program) (xs : List ℕ) (w : Walk) : Type 0 where
   pub walking : Walking p xs w
   pub past : List ℕ
   pub counted : Counted xs (p .size) (countsFrom p) past
-  pub less : w .repeats < w .charged
+  pub less : w .counts .repeats < w .counts .charged
 
 -- a state in front of the remembered ones
 pub record Offering (p : Program) (xs : List ℕ) (w : Walk) (s : MemoryState) : Type 0 where
@@ -81,8 +83,11 @@ MayOffer p xs w (way.To s) = Offering p xs w s
 
 -- the walk with other branches
 abbrev pub withBranches : Walk → BranchList → Walk
-withBranches w b =
-    record { gas = w .gas; charged = w .charged; loopstops = w .loopstops; gasstops = w .gasstops; repeats = w .repeats; width = w .width; branches = b }
+withBranches w b = record { gas = w .gas; counts = w .counts; width = w .width; branches = b }
+
+-- other counts
+abbrev pub withCounts : Walk → Counters → Walk
+withCounts w c = record { gas = w .gas; counts = c; width = w .width; branches = w .branches }
 
 -- ---- taking up
 
@@ -147,10 +152,10 @@ pub record Offers (p : Program) (g : Given) (blocks ys cols : List ℕ) (w : Wal
 -- the counts are the same, and so is the width
 pub record SameCounts (w v : Walk) : Type 0 where
   pub gas : v .gas ≡ w .gas
-  pub charged : v .charged ≡ w .charged
-  pub loopstops : v .loopstops ≡ w .loopstops
-  pub gasstops : v .gasstops ≡ w .gasstops
-  pub repeats : v .repeats ≡ w .repeats
+  pub charged : v .counts .charged ≡ w .counts .charged
+  pub loopstops : v .counts .loopstops ≡ w .counts .loopstops
+  pub gasstops : v .counts .gasstops ≡ w .counts .gasstops
+  pub repeats : v .counts .repeats ≡ w .counts .repeats
   pub width : v .width ≡ w .width
 
 abbrev pub TellsOffers : Program → Given → List ℕ → List ℕ → List ℕ → Walk → Added → List ℕ → List Defined → List (Lineage Defined) → List Defined → ℕ → List ResultRow → Type 0
@@ -183,8 +188,7 @@ pub record AddsThree (p : Program) (xs ys : List ℕ) (w : Walk) (a b c : Memory
 -- ---- what follows the handling of a row
 
 abbrev pub noteRepeated : Walk → Bool → Walk
-noteRepeated w b =
-    record { gas = w .gas; charged = w .charged; loopstops = w .loopstops; gasstops = w .gasstops; repeats = noteRepeat b (w .repeats); width = w .width; branches = w .branches }
+noteRepeated w b = withCounts w (record { charged = w .counts .charged; loopstops = w .counts .loopstops; gasstops = w .counts .gasstops; repeats = noteRepeat b (w .counts .repeats) })
 
 pub record FollowsWays (p : Program) (xs ys : List ℕ) (w : Walk) (branch stays : Way) (repeat : Bool) (r : Turn) : Type 0 where
   pub says :
@@ -207,8 +211,7 @@ pub record FollowsThree (p : Program) (xs ys : List ℕ) (w : Walk) (a b c stays
   pub bytes : length ys ≡ length xs
 
 abbrev pub withWidth : Walk → ℕ → Walk
-withWidth w k =
-    record { gas = w .gas; charged = w .charged; loopstops = w .loopstops; gasstops = w .gasstops; repeats = w .repeats; width = k; branches = w .branches }
+withWidth w k = record { gas = w .gas; counts = w .counts; width = k; branches = w .branches }
 
 -- n registers of a state make a result row
 pub record Resulting (p : Program) (xs cols : List ℕ) (w : Walk) (branch : MemoryState) (first n : ℕ) : Type 0 where
@@ -260,16 +263,13 @@ pub record Follows (p : Program) (xs ys cols dols : List ℕ) (w : Walk) (h : Ha
 -- ---- a turn of the loop, and the run
 
 abbrev pub chargeOne : Walk → Walk
-chargeOne w =
-    record { gas = w .gas - 1; charged = w .charged + 1; loopstops = w .loopstops; gasstops = w .gasstops; repeats = w .repeats; width = w .width; branches = w .branches }
+chargeOne w = record { gas = w .gas - 1; counts = oneCharged (w .counts); width = w .width; branches = w .branches }
 
 abbrev pub stopLoop : Walk → Walk
-stopLoop w =
-    record { gas = w .gas; charged = w .charged; loopstops = w .loopstops + 1; gasstops = w .gasstops; repeats = w .repeats; width = w .width; branches = w .branches }
+stopLoop w = withCounts w (oneLoopstop (w .counts))
 
 abbrev pub stopGas : Walk → Walk
-stopGas w =
-    record { gas = w .gas; charged = w .charged; loopstops = w .loopstops; gasstops = w .gasstops + 1; repeats = w .repeats; width = w .width; branches = w .branches }
+stopGas w = withCounts w (oneGasstop (w .counts))
 
 -- a lineage is on a row, with a unit left
 pub record Standing (p : Program) (blocks xs cols : List ℕ) (w : Walk) (s : MemoryState) : Type 0 where

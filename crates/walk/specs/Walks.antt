@@ -59,7 +59,7 @@ pub record Given : Type 0 where
 
 -- known numbers grow by at most one with each row that is charged
 abbrev pub boundOf : Walk → ℕ
-boundOf w = operands + w .charged
+boundOf w = operands + w .counts .charged
 
 -- what is in the area but for the current lineage: these wait and are remembered, with this space left, and these result rows are counted
 pub record HoldsList (p : Program) (g : Given) (blocks xs cols : List ℕ) (w : Walk) (ls : List (Lineage Defined)) (remembered : List Defined) (space : ℕ) (counted : List ResultRow) : Type 0 where
@@ -79,18 +79,18 @@ pub record HoldsList (p : Program) (g : Given) (blocks xs cols : List ℕ) (w : 
 
 -- the four counts
 pub record Counts (w : Walk) (n : Notes Defined ResultRow) : Type 0 where
-  pub charged : w .charged ≡ n .charged
-  pub loopstops : w .loopstops ≡ n .loopstops
-  pub gasstops : w .gasstops ≡ n .gasstops
-  pub repeats : w .repeats ≡ n .repeats
-  pub gas-few : w .charged + w .gas ≤ 4294967295
-  pub loopstops-few : w .loopstops ≤ w .charged
-  pub repeats-few : w .repeats ≤ w .charged
+  pub charged : w .counts .charged ≡ n .charged
+  pub loopstops : w .counts .loopstops ≡ n .loopstops
+  pub gasstops : w .counts .gasstops ≡ n .gasstops
+  pub repeats : w .counts .repeats ≡ n .repeats
+  pub gas-few : w .counts .charged + w .gas ≤ 4294967295
+  pub loopstops-few : w .counts .loopstops ≤ w .counts .charged
+  pub repeats-few : w .counts .repeats ≤ w .counts .charged
 
 pub record HoldsWalk (p : Program) (g : Given) (blocks xs cols : List ℕ) (w : Walk) (ls : List (Lineage Defined)) (n : Notes Defined ResultRow) : Type 0 where
   pub list : HoldsList p g blocks xs cols w ls (n .remembered) (n .space) (n .counted)
   pub counts : Counts w n
-  pub all : w .charged + w .gas ≡ g .units
+  pub all : w .counts .charged + w .gas ≡ g .units
 
 -- the current lineage: a state from cell 0 on, and the counts of its past
 pub record HoldsLineage (p : Program) (xs : List ℕ) (w : Walk) (s : MemoryState) (l : Lineage Defined) : Type 0 where
@@ -147,18 +147,18 @@ pub record Refused (k : ℕ) (t : Progressed Defined ResultRow) : Type 0 where
 
 -- its numbers are small enough to be printed
 pub record Few (w : Walk) : Type 0 where
-  pub charged : w .charged ≤ 4294967295
-  pub loopstops : w .loopstops ≤ 4294967295
-  pub gasstops : w .gasstops ≤ 4294967295
-  pub repeats : w .repeats ≤ 4294967295
+  pub charged : w .counts .charged ≤ 4294967295
+  pub loopstops : w .counts .loopstops ≤ 4294967295
+  pub gasstops : w .counts .gasstops ≤ 4294967295
+  pub repeats : w .counts .repeats ≤ 4294967295
   pub width : w .width ≤ 2000
 
 -- the counts of a walk that has ended, and its columns
 pub record HoldsEnd (cols : List ℕ) (w : Walk) (notes : Notes Defined ResultRow) : Type 0 where
-  pub charged : w .charged ≡ notes .charged
-  pub loopstops : w .loopstops ≡ notes .loopstops
-  pub gasstops : w .gasstops ≡ notes .gasstops
-  pub repeats : w .repeats ≡ notes .repeats
+  pub charged : w .counts .charged ≡ notes .charged
+  pub loopstops : w .counts .loopstops ≡ notes .loopstops
+  pub gasstops : w .counts .gasstops ≡ notes .gasstops
+  pub repeats : w .counts .repeats ≡ notes .repeats
   pub columns : HasColumns cols (w .width) (columnsOf (notes .counted))
   pub few : Few w
 

@@ -1,12 +1,12 @@
 // The walk over a listing: `explain` of sqlx-sqlite 0.9.0, src/connection/explain.rs.
 ghost use mathlib.Core.Path.{_≡_};
 ghost use Prim.Native.Nat.{_+_, _<_};
-ghost use Rattle.model.specs.Walk.{noteRepeat};
 ghost use Rattle.walk.specs.Walks.{inListing};
-ghost use Rattle.walk.specs.Loop.{Walking, withBranches, Takes, TakesUp, GoesOn, Holding, Turning, Offering, AddsBranch, MayOffer, noteRepeated, FollowsWays, AddsThree, FollowsThree, withWidth, Resulting, FollowsResult, MayFollow, Follows, chargeOne, stopLoop, stopGas, Standing, Turns, Closes, ClosesCurrent, Running, Runs};
+ghost use Rattle.walk.specs.Loop.{Walking, withBranches, withCounts, Takes, TakesUp, GoesOn, Holding, Turning, Offering, AddsBranch, MayOffer, noteRepeated, FollowsWays, AddsThree, FollowsThree, withWidth, Resulting, FollowsResult, MayFollow, Follows, chargeOne, stopLoop, stopGas, Standing, Turns, Closes, ClosesCurrent, Running, Runs};
 use branches::BranchList;
 use branches::Popped;
 use branches::Pushed;
+use counters::Counters;
 use explain::Handling;
 use intmap::IntMap;
 use state::MemoryState;
@@ -21,10 +21,7 @@ pub struct Program {
 // A walk between rows: the units left, the four counts, the width of the widest result row, and the branches.
 pub struct Walk {
     pub gas: u64,
-    pub charged: u64,
-    pub loopstops: u64,
-    pub gasstops: u64,
-    pub repeats: u64,
+    pub counts: Counters,
     pub width: usize,
     pub branches: BranchList,
 }
@@ -66,6 +63,15 @@ fn with_branches(w: Walk, branches: BranchList) -> Walk
 {
     let mut v = w;
     v.branches = branches;
+    v
+}
+
+// The walk with other counts.
+fn with_counts(w: Walk, counts: Counters) -> Walk
+    ensures { λ r. ⌜ r ≡ withCounts w counts ⌝ }
+{
+    let mut v = w;
+    v.counts = counts;
     v
 }
 
@@ -143,25 +149,16 @@ fn go_on(w: Walk, area: &mut [u8], p: Program, stays: Way) -> Front
     }
 }
 
-// One more, where a test is true.
-fn one_more(k: u64, test: bool) -> u64
-    requires { ⌜ k < 4294967296 ⌝ }
-    ensures { λ r. ⌜ r ≡ noteRepeat test k ⌝ }
-{
-    if test {
-        return k + 1;
-    }
-    k
-}
-
 // One repeat more, where a handling counts as one.
 fn note_repeat(w: Walk, repeat: bool) -> Walk
-    requires { ⌜ w .repeats < 4294967296 ⌝ }
+    requires { ⌜ w .counts .repeats < 4294967296 ⌝ }
     ensures { λ r. ⌜ r ≡ noteRepeated w repeat ⌝ }
 {
-    let mut v = w;
-    v.repeats = one_more(w.repeats, repeat);
-    v
+    if repeat {
+        let c = w.counts;
+        return with_counts(w, counters::note_repeat(c));
+    }
+    w
 }
 
 // At most one branch is offered, and then the state that goes on is current.
@@ -272,33 +269,31 @@ fn follow(w: Walk, area: &mut [u8], columns: &mut [u8], p: Program, h: Handling)
 
 // One of the units is charged.
 fn charge(w: Walk) -> Walk
-    requires { ⌜ (0 < w .gas) × (w .charged < 4294967295) ⌝ }
+    requires { ⌜ (0 < w .gas) × (w .counts .charged < 4294967295) ⌝ }
     ensures { λ r. ⌜ r ≡ chargeOne w ⌝ }
 {
     let mut v = w;
     v.gas -= 1;
-    v.charged += 1;
-    v
+    let c = w.counts;
+    with_counts(v, counters::charge(c))
 }
 
 // A lineage is closed at a row that it has handled three times.
 fn loop_stop(w: Walk) -> Walk
-    requires { ⌜ w .loopstops < 4294967295 ⌝ }
+    requires { ⌜ w .counts .loopstops < 4294967295 ⌝ }
     ensures { λ r. ⌜ r ≡ stopLoop w ⌝ }
 {
-    let mut v = w;
-    v.loopstops += 1;
-    v
+    let c = w.counts;
+    with_counts(w, counters::loop_stop(c))
 }
 
 // A lineage is closed since no unit is left.
 fn gas_stop(w: Walk) -> Walk
-    requires { ⌜ w .gasstops < 18446744073709551615 ⌝ }
+    requires { ⌜ w .counts .gasstops < 18446744073709551615 ⌝ }
     ensures { λ r. ⌜ r ≡ stopGas w ⌝ }
 {
-    let mut v = w;
-    v.gasstops += 1;
-    v
+    let c = w.counts;
+    with_counts(w, counters::gas_stop(c))
 }
 
 // A turn of the walk: the row that the current lineage is on is charged; a lineage that has handled it three times is closed, else it is handled.
@@ -328,7 +323,7 @@ fn take_turn(
 
 // With no unit left, each branch that waits on a row is closed.
 fn close_all(w: Walk, area: &[u8], p: Program) -> Walk
-    requires { ⌜ Walking p (now area) w × (w .gasstops + w .branches .last < 4294967295) ⌝ }
+    requires { ⌜ Walking p (now area) w × (w .counts .gasstops + w .branches .last < 4294967295) ⌝ }
     ensures { λ r. ⌜ Closes p (now (area .entry)) w r ⌝ }
 {
     let mut v = w;
@@ -347,7 +342,7 @@ fn close_all(w: Walk, area: &[u8], p: Program) -> Walk
 
 // With no unit left, the current lineage is closed, and then each that waits on a row.
 fn close(w: Walk, area: &[u8], p: Program) -> Walk
-    requires { ⌜ Walking p (now area) w × (w .gasstops + w .branches .last < 4294967294) ⌝ }
+    requires { ⌜ Walking p (now area) w × (w .counts .gasstops + w .branches .last < 4294967294) ⌝ }
     ensures { λ r. ⌜ ClosesCurrent p (now (area .entry)) w r ⌝ }
 {
     close_all(gas_stop(w), area, p)
