@@ -202,10 +202,16 @@ pub fn affinity_to_type(affinity: u8) -> DataType
     }
 }
 
-// P4 as Function, AggStep, AggValue and AggFinal read it.
+// P4 as Function, AggStep, AggValue and AggFinal read it. Most rows have an empty one, no function and no aggregate.
 pub fn judge(p4: &[u8]) -> P4
     ensures { λ r. ⌜ Judges r (now (p4 .entry)) ⌝ }
 {
+    if p4.len() == 0 {
+        return P4::Text {
+            function: 0,
+            aggregate: 0,
+        };
+    }
     if !type_info::utf8::is_utf8(p4) {
         return P4::NotUtf8;
     }
