@@ -2,16 +2,16 @@
 use mathlib.Core.Path.{_≡_, refl, sym, ap, _∙_}
 use mathlib.Core.Bool.{Bool, true, false}
 use mathlib.Core.Option.{Option, none, some}
-use mathlib.Core.List.{List, _∷_}
+use mathlib.Core.List.{List, [], _∷_}
 use Prim.Native.Nat.{ℕ, _+_, _<_, _≤_}
 use native.Mathlib.Numerals.{add-one}
 use native.Mathlib.Omega.{arith}
 use lib.Dec.{eqb}
 use lib.ListN.{length, getD, drop, drop-of-length-le}
 use lib.Seq.{drop-cons}
-use Rattle.type_info.specs.Utf8.{Range, isEmpty, reads, isUtf8, Checked}
+use Rattle.type_info.specs.Utf8.{Range, _‥_, utf8-char, begun, afterByte, isEmpty, reads, isUtf8, Checked}
 use Rattle.type_info.specs.ByteClass.{ClassOf, expectations, expectation, orNone, expected, StateAfter}
-use Rattle.type_info.proofs.Grammar.{sound, complete, reads-on, reads-stops}
+use Rattle.type_info.proofs.Grammar.{in-range, sound, complete, reads-on, reads-stops}
 use Rattle.type_info.proofs.Tables.{passes, passes-at}
 
 -- every state but 8 expects something
@@ -48,17 +48,24 @@ pub at-end : (s : List ℕ) (i q : ℕ) → length s ≤ i → q < 8 → eqb q 0
 unfolding reads
 at-end s i q h hq = ends q hq ∙ ap (reads (expected q)) (sym (drop-of-length-le s h))
 
+-- the first byte of what is left
+byte-read : (rs : List Range) (s : List ℕ) (i : ℕ) → i < length s → reads rs (drop i s) ≡ reads rs (getD s i 0 ∷ drop (i + 1) s)
+byte-read rs s i inside = ap (reads rs) (drop-cons s i 0 inside ∙ ap (λ k. getD s i 0 ∷ drop k s) (sym (add-one i)))
+
 -- one byte: its class c, and the state r behind it
 module _ (s : List ℕ) (i q c r : ℕ) (inside : i < length s) (class : ClassOf (getD s i 0) c) (after : StateAfter q c r) where
-  byte-read : reads (expected q) (drop i s) ≡ reads (expected q) (getD s i 0 ∷ drop (i + 1) s)
-  byte-read = ap (reads (expected q)) (drop-cons s i 0 inside ∙ ap (λ k. getD s i 0 ∷ drop k s) (sym (add-one i)))
-
   pub byte-taken : r < 8 → reads (expected r) (drop (i + 1) s) ≡ reads (expected q) (drop i s)
-  byte-taken h = sym (byte-read ∙ reads-on (expected q) (getD s i 0) (drop (i + 1) s) (expected r) (sym (after .is (getD s i 0) (class .has)) ∙ expects r h))
+  byte-taken h = sym (byte-read (expected q) s i inside ∙ reads-on (expected q) (getD s i 0) (drop (i + 1) s) (expected r) (sym (after .is (getD s i 0) (class .has)) ∙ expects r h))
 
   pub byte-refused : r ≡ 8 → false ≡ reads (expected q) (drop i s)
   unfolding expectation expectations
-  byte-refused e = sym (byte-read ∙ reads-stops (expected q) (getD s i 0) (drop (i + 1) s) (sym (after .is (getD s i 0) (class .has)) ∙ ap expectation e))
+  byte-refused e = sym (byte-read (expected q) s i inside ∙ reads-stops (expected q) (getD s i 0) (drop (i + 1) s) (sym (after .is (getD s i 0) (class .has)) ∙ ap expectation e))
+
+-- a byte below 128 is a character: behind it nothing more is expected
+pub ascii-taken : (s : List ℕ) (i : ℕ) → i < length s → getD s i 0 ≤ 127 → isUtf8 (drop (i + 1) s) ≡ isUtf8 (drop i s)
+unfolding isUtf8 afterByte begun utf8-char
+ascii-taken s i inside low =
+    sym (byte-read [] s i inside ∙ reads-on [] (getD s i 0) (drop (i + 1) s) [] (rw (in-range (0x00 ‥ 0x7F) (getD s i 0) (omega arith) low)))
 
 pub checked : (s : List ℕ) (r : Bool) → r ≡ isUtf8 s → Checked s r
 checked s r e = record { is = e; sound = λ h. sound s (sym e ∙ h); complete = λ u. e ∙ complete u }

@@ -10,7 +10,7 @@ use borrow.Author.Tests.{le-leb, lt-leb, leb-true}
 use Rattle.type_info.specs.Utf8.{Range, utf8-char, Sequence, empty, byte, OneOf, this, later, Utf8-octets, char, inRange, someIf, begun, afterByte, reads, isUtf8}
 
 -- a byte in a range, as the test has it
-in-range : (r : Range) (b : ℕ) → r .first ≤ b → b ≤ r .last → inRange r b ≡ true
+pub in-range : (r : Range) (b : ℕ) → r .first ≤ b → b ≤ r .last → inRange r b ≡ true
 unfolding inRange
 in-range r b lo hi = rw (le-leb (r .first) b lo, le-leb b (r .last) hi)
 

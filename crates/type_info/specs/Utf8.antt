@@ -5,6 +5,7 @@ use mathlib.Core.Bool.{Bool, true, false}
 use mathlib.Core.Option.{Option, none, some}
 use mathlib.Core.List.{List, [], _∷_, _++_}
 use Prim.Native.Nat.{ℕ, _≤_}
+use lib.ListN.{length, drop}
 use Rattle.type_info.specs.Ascii.{within}
 
 -- the bytes from first to last, %xFIRST-LAST
@@ -89,6 +90,11 @@ reads expected (b ∷ s) = elim (afterByte expected b) [ none ↦ false | some r
 
 unfoldable pub isUtf8 : List ℕ → Bool
 isUtf8 s = reads [] s
+
+-- behind its first n bytes the text says what the whole says
+pub record Passed (s : List ℕ) (n : ℕ) : Type 0 where
+  pub inside : n ≤ length s
+  pub rest : isUtf8 (drop n s) ≡ isUtf8 s
 
 -- what the check says: the test's value, and the grammar both ways
 pub record Checked (s : List ℕ) (r : Bool) : Type 0 where

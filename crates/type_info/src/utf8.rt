@@ -1,6 +1,8 @@
 // UTF-8 by RFC 3629: the check that P4 is a text.
 ghost use mathlib.Core.Path.{_≡_};
-ghost use Rattle.type_info.specs.Utf8.{Checked};
+ghost use Prim.Native.Nat.{_≤_};
+ghost use lib.ListN.{length, drop};
+ghost use Rattle.type_info.specs.Utf8.{isUtf8, Passed, Checked};
 
 // The class of each byte; specs/ByteClass.antt says which bytes a class has.
 const CLASSES: [u8; 256] = [
@@ -362,14 +364,40 @@ const STATES: [u8; 96] = [
     8,
 ];
 
-// Whether s is UTF-8: the Rust's `from_utf8` as far as success goes. The tables are taken once, and not for each byte.
+// Whether s is UTF-8: the Rust's `from_utf8` as far as success goes. Nearly every text is ASCII, and needs no tables.
 pub fn is_utf8(s: &[u8]) -> bool
     ensures { λ r. ⌜ Checked (now (s .entry)) r ⌝ }
+{
+    let start = ascii_start(s);
+    if start == s.len() {
+        return true;
+    }
+    reads_from(s, start)
+}
+
+// How many bytes at the start are ASCII. Each is a character, so the rest decides.
+fn ascii_start(s: &[u8]) -> usize
+    ensures { λ r. ⌜ Passed (now (s .entry)) r ⌝ }
+{
+    let mut i: usize = 0;
+    while i < s.len() {
+        if 127 < s[i] {
+            return i;
+        }
+        i += 1;
+    }
+    i
+}
+
+// Whether s is UTF-8 from `at` on. The tables are taken once, and not for each byte.
+fn reads_from(s: &[u8], at: usize) -> bool
+    requires { ⌜ at ≤ length (now s) ⌝ }
+    ensures { λ r. ⌜ r ≡ isUtf8 (drop at (now (s .entry))) ⌝ }
 {
     let classes = CLASSES;
     let states = STATES;
     let mut state: usize = 0;
-    let mut i: usize = 0;
+    let mut i: usize = at;
     while i < s.len() {
         let class = wide(classes[wide(s[i])]);
         state = wide(states[state * 12 + class]);
