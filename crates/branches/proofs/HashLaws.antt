@@ -1,8 +1,9 @@
--- Laws of specs/Hash.antt: a turn of the loop that takes a hash, and that equal entries give equal hashes. Assumes nothing.
+-- Laws of specs/Hash.antt: a turn of the loop that takes a hash, that its products fit a word, and that equal entries give equal hashes. Assumes nothing.
 use mathlib.Core.Path.{_≡_, refl, sym, ap, ap₂, _∙_}
 use mathlib.Core.List.{List, flatten}
 use Prim.Native.Nat.{ℕ, zero, suc, _+_, _-_, _*_, _/_, _%_, _<_, _≤_}
 use native.Mathlib.Omega.{arith}
+use native.Mathlib.Nat.{mul-le-mul}
 use lib.ListN.{getD}
 use Rattle.area.specs.Cells.{blank}
 use Rattle.area.specs.declared.Cell.{Cell}
@@ -12,7 +13,7 @@ use Rattle.intmap.specs.declared.IntMap.{IntMap}
 use Rattle.state.specs.declared.MemoryState.{MemoryState}
 use Rattle.encoding.proofs.Standing.{entries-flat}
 use Rattle.branches.specs.Header.{half}
-use Rattle.branches.specs.Hash.{mix, mixCells, hashOf}
+use Rattle.branches.specs.Hash.{mix, fold, mixCells, hashOf}
 
 -- no cells are left
 pub mixed-end : (cs : List Cell) (h at left : ℕ) → left ≤ 0 → h ≡ mixCells h (span cs at left)
@@ -21,7 +22,7 @@ mixed-end cs h at zero le = refl
 mixed-end cs h at (suc left) le = absurd (omega arith)
 
 -- one cell goes in
-pub mixed-turn : (cs : List Cell) (h at left : ℕ) (c : Cell) (one two : ℕ) → 0 < left → c ≡ getD cs at blank → one ≡ mix h (c .head) → two ≡ mix one (c .payload) → mixCells two (span cs (at + 1) (left - 1)) ≡ mixCells h (span cs at left)
+pub mixed-turn : (cs : List Cell) (h at left : ℕ) (c : Cell) (one two : ℕ) → 0 < left → c ≡ getD cs at blank → one ≡ fold h (c .head) → two ≡ mix one (c .payload) → mixCells two (span cs (at + 1) (left - 1)) ≡ mixCells h (span cs at left)
 unfolding mixCells span
 mixed-turn cs h at zero c one two lt e f g = absurd (omega arith)
 mixed-turn cs h at (suc left) c one two lt e f g = let z : suc left - 1 ≡ left = omega arith in rw (z, g, f, e)
@@ -32,6 +33,14 @@ halves-fit a b p q = omega arith
 
 pub stir-fits : (s x : ℕ) → s ≡ x % 18446744073709551616 → s % half * 4294967291 + s / half < 18446744073709551616
 stir-fits s x e = let lt : s < 18446744073709551616 = omega arith in halves-fit (s % half) (s / half) (omega arith) (omega arith)
+
+-- and so does the product of a word's halves
+pub product-fits : (s x : ℕ) → s ≡ x % 18446744073709551616 → s % half * (s / half) < 18446744073709551616
+product-fits s x e =
+    let low : s % half ≤ 4294967295 = omega arith in
+    let high : s / half ≤ 4294967295 = omega arith in
+    let le : s % half * (s / half) ≤ 18446744065119617025 = mul-le-mul low high in
+    omega arith
 
 pub hash-whole : (cs : List Cell) (s : MemoryState) (h : ℕ) → h ≡ mix 0 (s .row) → mixCells h (span cs (s .map .base) (s .map .used)) ≡ hashOf cs s
 unfolding hashOf

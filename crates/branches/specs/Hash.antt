@@ -1,5 +1,6 @@
--- A hash of a state: its row and the cells of its map, word after word. Nothing is claimed of it but that it is a function of them: it only
--- decides where a state is looked for. Assumes nothing.
+-- A hash of a state: its row and the cells of its map, word after word, a cell's head by `fold` and the rest by `mix`, so that it is no sum of
+-- words times powers. Nothing is claimed of it but that it is a function of row and cells: it only decides where a state is looked for.
+-- Assumes nothing.
 use mathlib.Core.List.{List, [], _∷_}
 use Prim.Native.Nat.{ℕ, _+_, _*_, _/_, _%_}
 use Rattle.area.specs.declared.Cell.{Cell}
@@ -15,9 +16,17 @@ stir s = s % half * 4294967291 + s / half
 unfoldable pub mix : ℕ → ℕ → ℕ
 mix h x = stir ((h + x) % 18446744073709551616)
 
+-- the sum with the product of its halves, as a word
+abbrev pub bend : ℕ → ℕ
+bend s = (s + s % half * (s / half)) % 18446744073709551616
+
+-- a word goes in, and the product of the sum's halves is added: what differs afterwards depends on the hash so far
+unfoldable pub fold : ℕ → ℕ → ℕ
+fold h x = bend ((h + x) % 18446744073709551616)
+
 unfoldable pub mixCells : ℕ → List Cell → ℕ
 mixCells h [] = h
-mixCells h (c ∷ cs) = mixCells (mix (mix h (c .head)) (c .payload)) cs
+mixCells h (c ∷ cs) = mixCells (mix (fold h (c .head)) (c .payload)) cs
 
 unfoldable pub hashOf : List Cell → MemoryState → ℕ
 hashOf cs s = mixCells (mix 0 (s .row)) (span cs (s .map .base) (s .map .used))

@@ -4,7 +4,7 @@ ghost use mathlib.Core.Path.{_≡_};
 ghost use Rattle.area.specs.Cells.{cells, Inside};
 ghost use Rattle.intmap.specs.Map.{IsMap};
 ghost use Rattle.branches.specs.Header.{child, rowAt, stateAt};
-ghost use Rattle.branches.specs.Hash.{mix, hashOf};
+ghost use Rattle.branches.specs.Hash.{mix, fold, hashOf};
 ghost use Rattle.branches.specs.Entries.{none};
 ghost use Rattle.branches.specs.Lists.{Pushes, Loads};
 ghost use Rattle.branches.specs.Search.{HasMap, Tests, Searches, SomeRemembering};
@@ -51,6 +51,14 @@ fn mix(h: u64, x: u64) -> u64
     s % HALF * 4294967291 + s / HALF
 }
 
+// A word goes into a hash, and the product of the sum's halves is added, so that the hash is no sum of words times powers.
+fn fold(h: u64, x: u64) -> u64
+    ensures { λ r. ⌜ r ≡ fold h x ⌝ }
+{
+    let s = std::num::wrapping_add_u64(h, x);
+    std::num::wrapping_add_u64(s, s % HALF * (s / HALF))
+}
+
 // The hash of a state.
 fn hash(area: &[u8], s: MemoryState) -> u64
     requires { ⌜ IsMap (cells (now area)) (s .map) ⌝ }
@@ -61,7 +69,7 @@ fn hash(area: &[u8], s: MemoryState) -> u64
     let mut h = mix(0, s.row);
     while 0 < left {
         let c = area::cell_at(area, at);
-        h = mix(mix(h, c.head), c.payload);
+        h = mix(fold(h, c.head), c.payload);
         at += 1;
         left -= 1;
     }

@@ -27,11 +27,11 @@ loop-holds c = (refl, c .before .before .pre .inside, c .before .before .pre .sm
 cell-at-requires : tie.Need-cell-at-requires Inv-loop μ-loop
 cell-at-requires c κs = search needs
 
+fold-requires : tie.Need-fold-requires Inv-loop μ-loop
+fold-requires c κs = search needs
+
 mix-requires-2 : tie.Need-mix-requires-2 Inv-loop μ-loop
 mix-requires-2 c κs = search needs
-
-mix-requires-3 : tie.Need-mix-requires-3 Inv-loop μ-loop
-mix-requires-3 c κs = search needs
 
 add-at : tie.Need-add-at Inv-loop μ-loop
 add-at c = search needs
@@ -43,7 +43,7 @@ loop-less : tie.Need-loop-less Inv-loop μ-loop
 loop-less c = search needs
 
 loop-again : tie.Need-loop-again Inv-loop μ-loop
-loop-again c = (mixed-turn _ _ _ _ _ _ _ (c .before .before .before .loop-test .taken) (c .before .before .cell-at .ensures) (c .before .mix2 .ensures) (c .mix3 .ensures) ∙ c .before .before .before .before .loop .inv .0, omega arith, c .before .before .before .before .loop .inv .2)
+loop-again c = (mixed-turn _ _ _ _ _ _ _ (c .before .before .before .loop-test .taken) (c .before .before .cell-at .ensures) (c .before .fold .ensures) (c .mix2 .ensures) ∙ c .before .before .before .before .loop .inv .0, omega arith, c .before .before .before .before .loop .inv .2)
 
 returns : tie.Need-returns Inv-loop μ-loop
 returns c = mixed-end _ _ _ _ (omega (arith, c .loop-test .left)) ∙ c .before .loop .inv .0 ∙ hash-whole _ _ _ (c .before .before .mix .ensures)
@@ -57,8 +57,8 @@ hash-spec =
     mix-requires
     loop-holds
     cell-at-requires
+    fold-requires
     mix-requires-2
-    mix-requires-3
     add-at
     sub-left
     loop-less
