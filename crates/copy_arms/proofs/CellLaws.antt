@@ -90,25 +90,23 @@ module _ {limit bound : ℕ} {cs : List Cell} {a : IntMap} {m : MemoryState} (h 
   value-run = sym (there .is) ∙ ap (λ x. span cs x (size cs 9 x)) (found .at) ∙ ap (span cs p) one ∙ one-span cs p
 
   -- a value of one cell stored there
-  module _ (v : RegDataType) (c : Cell) (other : ℕ) (good : GoodRegister v) (small : SmallRegister bound v) (run : runRegister other v ≡ c ∷ []) (ds : List Cell) (e : ds ≡ set cs p (withKey k c)) where
+  module _ (v : RegDataType) (c : Cell) (other : ℕ) (good : GoodRegister v) (small : SmallRegister bound v) (run : runRegister other v ≡ c ∷ []) (ds : List Cell) (e : ds ≡ set cs p (withKey (classKey 0 k) c)) where
     fits : p < length cs
     fits = omega (arith, alone .inside, is .inside)
 
     length-one : registerCells v ≡ 1
     length-one = sym (register-length v other) ∙ ap length run
 
-    new : runRegister key v ≡ withKey k c ∷ []
-    new =
-        let same : key ≡ k = omega arith in
-        sym (register-rekey v other key) ∙ ap (rekey key) run ∙ ap (λ x. withKey x c ∷ []) same
+    new : runRegister key v ≡ withKey (classKey 0 k) c ∷ []
+    new = sym (register-rekey v other key) ∙ ap (rekey key) run
 
     stands : Stands ds p (runRegister key v)
     stands =
         ap (span ds p) (ap length new) ∙ one-span ds p
-        ∙ ap (λ x. x ∷ []) (ap (λ l. getD l p blank) e ∙ getD-set-same cs p (withKey k c) blank fits) ∙ sym new
+        ∙ ap (λ x. x ∷ []) (ap (λ l. getD l p blank) e ∙ getD-set-same cs p (withKey (classKey 0 k) c) blank fits) ∙ sym new
 
     aside : (j : ℕ) → (j ≡ p → ⊥) → getD ds j blank ≡ getD cs j blank
-    aside j ne = ap (λ l. getD l j blank) e ∙ getD-set-other cs p j (withKey k c) blank ne
+    aside j ne = ap (λ l. getD l j blank) e ∙ getD-set-other cs p j (withKey (classKey 0 k) c) blank ne
 
     replaced : Replaced cs ds p (runRegister key v)
     replaced =
@@ -133,18 +131,18 @@ module _ {limit bound : ℕ} {cs : List Cell} {a : IntMap} {m : MemoryState} (h 
 
 -- ---- what is written
 
-module _ {cs : List Cell} {a : IntMap} (is : IsMap cs a) {p k : ℕ} (alone : Alone cs a p k) (found : FoundAt cs a p k) (c : Cell) (plain : tagOf c ≡ 2 → ⊥) (ds : List Cell) (e : ds ≡ set cs p (withKey k c)) where
+module _ {cs : List Cell} {a : IntMap} (is : IsMap cs a) {p k : ℕ} (alone : Alone cs a p k) (found : FoundAt cs a p k) (c : Cell) (plain : tagOf c ≡ 2 → ⊥) (ds : List Cell) (e : ds ≡ set cs p (withKey (classKey 0 k) c)) where
   written-alike : Alike cs ds
   written-alike =
-      alike cs ds p (withKey k c) e (omega (arith, alone .inside, is .inside)) (alone .plain) (λ t. plain (sym (keyed-tag k c) ∙ t)) (keyed-key k c ∙ sym (alone .key))
+      alike cs ds p (withKey (classKey 0 k) c) e (omega (arith, alone .inside, is .inside)) (alone .plain) (λ t. plain (sym (keyed-tag (classKey 0 k) c) ∙ t)) (keyed-key (classKey 0 k) c ∙ sym (alone .key))
 
   written-frame : (limit : ℕ) → Current limit cs a → Frame cs ds (a .base) (limit + limit)
   written-frame limit current =
       let low : a .base ≤ p = omega (arith, found .at, seek-from cs levels (classKey 0 k) (a .len) (a .base)) in
       record {
-        long = ap length e ∙ length-set cs p (withKey k c);
-        below = λ j lt. ap (λ l. getD l j blank) e ∙ getD-set-other cs p j (withKey k c) blank (omega arith);
-        above = λ j le. ap (λ l. getD l j blank) e ∙ getD-set-other cs p j (withKey k c) blank (omega (arith, alone .inside, current .room .most));
+        long = ap length e ∙ length-set cs p (withKey (classKey 0 k) c);
+        below = λ j lt. ap (λ l. getD l j blank) e ∙ getD-set-other cs p j (withKey (classKey 0 k) c) blank (omega arith);
+        above = λ j le. ap (λ l. getD l j blank) e ∙ getD-set-other cs p j (withKey (classKey 0 k) c) blank (omega (arith, alone .inside, current .room .most));
       }
 
   -- what was one cell is still
@@ -155,21 +153,21 @@ module _ {cs : List Cell} {a : IntMap} (is : IsMap cs a) {p k : ℕ} (alone : Al
       go : Dec (q ≡ p) → tagOf (getD ds q blank) ≡ 2 → ⊥
       go (yes y) t =
           plain (
-          sym (keyed-tag k c)
-          ∙ ap tagOf (sym (getD-set-same cs p (withKey k c) blank (omega (arith, alone .inside, is .inside))) ∙ ap (λ l. getD l p blank) (sym e) ∙ ap (λ x. getD ds x blank) (sym y))
+          sym (keyed-tag (classKey 0 k) c)
+          ∙ ap tagOf (sym (getD-set-same cs p (withKey (classKey 0 k) c) blank (omega (arith, alone .inside, is .inside))) ∙ ap (λ l. getD l p blank) (sym e) ∙ ap (λ x. getD ds x blank) (sym y))
           ∙ t
           )
-      go (no n) t = other .plain (ap tagOf (sym (ap (λ l. getD l q blank) e ∙ getD-set-other cs p q (withKey k c) blank n)) ∙ t)
+      go (no n) t = other .plain (ap tagOf (sym (ap (λ l. getD l q blank) e ∙ getD-set-other cs p q (withKey (classKey 0 k) c) blank n)) ∙ t)
 
 -- ---- one register carried
 
 module _ {cs : List Cell} {a : IntMap} (is : IsMap cs a) {p q k l : ℕ} (source : Alone cs a p k) (from : FoundAt cs a p k) (target : Alone cs a q l) (to : FoundAt cs a q l)
-    (c x : Cell) (ce : c ≡ getD cs p blank) (xe : x ≡ withKey l c) (ds : List Cell) (e : ds ≡ set cs q x) (moves : Bool)
+    (c x : Cell) (ce : c ≡ getD cs p blank) (xe : x ≡ withKey (classKey 0 l) c) (ds : List Cell) (e : ds ≡ set cs q x) (moves : Bool)
   where
     plain : tagOf c ≡ 2 → ⊥
     plain t = source .plain (ap tagOf (sym ce) ∙ t)
 
-    same : ds ≡ set cs q (withKey l c)
+    same : ds ≡ set cs q (withKey (classKey 0 l) c)
     same = e ∙ ap (set cs q) xe
 
     first : {limit bound : ℕ} {m : MemoryState} (h : HoldsMap limit bound cs a m) → HeldNext limit bound ds (a .base) (a .len) (a .used) (storeRegister limit (intOf (offset + l)) (value h is source from) m)
@@ -198,7 +196,7 @@ module _ {cs : List Cell} {a : IntMap} (is : IsMap cs a) {p q k l : ℕ} (source
         }
 
     -- the source is null then
-    module _ (n y : Cell) (ne : n ≡ single (datatypeCode Null) 2 0) (ye : y ≡ withKey k n) (es : List Cell) (f : es ≡ set ds p y) where
+    module _ (n y : Cell) (ne : n ≡ single (datatypeCode Null) 2 0) (ye : y ≡ withKey (classKey 0 k) n) (es : List Cell) (f : es ≡ set ds p y) where
       like : Alike cs ds
       like = written-alike is target to c plain ds same
 
@@ -214,7 +212,7 @@ module _ {cs : List Cell} {a : IntMap} (is : IsMap cs a) {p q k l : ℕ} (source
       plain-null : tagOf n ≡ 2 → ⊥
       plain-null t = omega (arith, ap tagOf (sym ne) ∙ t)
 
-      same-then : es ≡ set ds p (withKey k n)
+      same-then : es ≡ set ds p (withKey (classKey 0 k) n)
       same-then = f ∙ ap (set ds p) ye
 
       like-then : Alike ds es

@@ -92,13 +92,11 @@ module _ (cs : List Cell) (d k : ℕ) where
 -- ---- the next register
 
 module _ (cs : List Cell) (a : IntMap) (k : ℕ) (few : k ≤ 65535) (sought : ℕ) (se : sought ≡ classKey 0 k) (w : Found) (we : w ≡ seek cs levels sought (a .len) (a .base)) where
-  led : Past cs levels k (a .len) (a .base) w
-  led =
-      let e : sought ≡ k = omega arith in
-      subst (Past cs levels k (a .len) (a .base)) (sym (we ∙ ap (λ j. seek cs levels j (a .len) (a .base)) e)) (past cs levels k (a .len) (a .base))
+  led : Past cs levels sought (a .len) (a .base) w
+  led = subst (Past cs levels sought (a .len) (a .base)) (sym we) (past cs levels sought (a .len) (a .base))
 
-  lacks : (i : ℕ) → k ≤ i → (0 < w .left → i < keyOf (getD cs (w .at) blank)) → lookup i (runsAt cs a) ≡ none
-  lacks i le h = seek-none cs levels i (a .len) (a .base) (led .absent i le h)
+  lacks : (i : ℕ) → k ≤ i → (0 < w .left → classKey 0 i < keyOf (getD cs (w .at) blank)) → lookup (classKey 0 i) (runsAt cs a) ≡ none
+  lacks i le h = seek-none cs levels (classKey 0 i) (a .len) (a .base) (led .absent (classKey 0 i) (omega arith) h)
 
   pub next-end : w .left ≡ 0 → Next cs a k 65536
   next-end h = record { from = omega arith; upto = omega arith; absent = λ i le lt. lacks i le (λ some-left. absurd (omega arith)); present = λ lt. absurd (omega arith) }
@@ -111,18 +109,22 @@ module _ (cs : List Cell) (a : IntMap) (k : ℕ) (few : k ≤ 65535) (sought : �
       key-is : key ≡ keyOf (getD cs (w .at) blank)
       key-is = ke ∙ ap keyOf ce
 
-      pub next-other : 65535 < key → Next cs a k 65536
+      pub next-other : 131071 < key → Next cs a k 65536
       next-other h =
           record { from = omega arith; upto = omega arith; absent = λ i le lt. lacks i le (λ left. omega (arith, key-is)); present = λ lt. absurd (omega arith) }
 
-      pub next-here : key ≤ 65535 → Next cs a k key
+      pub next-above : sought ≤ key
+      next-above = omega (arith, key-is, led .least (omega arith))
+
+      pub next-here : key ≤ 131071 → Next cs a k (key - 65536)
       next-here h =
           let found = ap (λ j. seek cs levels j (a .len) (a .base) .present) key-is ∙ led .found (omega arith) in
+          let own : classKey 0 (key - 65536) ≡ key = omega (arith, next-above) in
           record {
-            from = omega (arith, key-is, led .least (omega arith));
+            from = omega (arith, next-above);
             upto = omega arith;
             absent = λ i le lt. lacks i le (λ left. omega (arith, key-is));
-            present = λ lt lacked. Option·none-ne-some _ (sym lacked ∙ seek-some cs levels key (a .len) (a .base) found);
+            present = λ lt lacked. Option·none-ne-some _ (sym lacked ∙ ap (λ j. lookup j (runsAt cs a)) own ∙ seek-some cs levels key (a .len) (a .base) found);
           }
 
 -- ---- the definition's registers
@@ -141,20 +143,19 @@ index-place i k e = go (ltb i offset) refl (ltb (65535 + offset) i) refl
     go false low false high = let above = ltb-false i offset low in (above, omega (arith, ap told (sym e ∙ index-within i above (ltb-false (65535 + offset) i high))))
 
 module _ (limit bound : ℕ) (cs : List Cell) (a : IntMap) (m : MemoryState) (h : HoldsMap limit bound cs a m) (i k : ℕ) (is : i ≡ offset + k) where
-  looks-up : k ≤ 65535 → readRuns 0 (intOf i) (runsAt cs a) ≡ done (lookup k (runsAt cs a))
+  looks-up : k ≤ 65535 → readRuns 0 (intOf i) (runsAt cs a) ≡ done (lookup (classKey 0 k) (runsAt cs a))
   unfolding readRuns
   looks-up le =
       let same : i - offset ≡ k = omega arith in
-      let key : classKey 0 k ≡ k = omega arith in
-      ap (λ t. t >>= λ j. done (lookup (classKey 0 j) (runsAt cs a))) (index-within i (omega arith) (omega arith) ∙ ap done same) ∙ ap (λ j. done (lookup j (runsAt cs a))) key
+      ap (λ t. t >>= λ j. done (lookup (classKey 0 j) (runsAt cs a))) (index-within i (omega arith) (omega arith) ∙ ap done same)
 
-  reads-none : k ≤ 65535 → lookup k (runsAt cs a) ≡ none → readRegister (intOf i) m ≡ done none
+  reads-none : k ≤ 65535 → lookup (classKey 0 k) (runsAt cs a) ≡ none → readRegister (intOf i) m ≡ done none
   reads-none le e = told-register h (intOf i) .absent (looks-up le ∙ ap done e)
 
-  stops-some : (n : ℕ) → k ≤ 65535 → (lookup k (runsAt cs a) ≡ none → ⊥) → gapIf (readRegister (intOf i) m) n ≡ 0
-  stops-some n le there = go (lookup k (runsAt cs a)) refl
+  stops-some : (n : ℕ) → k ≤ 65535 → (lookup (classKey 0 k) (runsAt cs a) ≡ none → ⊥) → gapIf (readRegister (intOf i) m) n ≡ 0
+  stops-some n le there = go (lookup (classKey 0 k) (runsAt cs a)) refl
     where
-      go : (o : Option (List Cell)) → lookup k (runsAt cs a) ≡ o → gapIf (readRegister (intOf i) m) n ≡ 0
+      go : (o : Option (List Cell)) → lookup (classKey 0 k) (runsAt cs a) ≡ o → gapIf (readRegister (intOf i) m) n ≡ 0
       go none e = absurd (there e)
       go (some run) e = ap (λ t. gapIf t n) (told-register h (intOf i) .present run (looks-up le ∙ ap done e) .answer)
 
@@ -181,7 +182,7 @@ module _ (limit bound : ℕ) (cs : List Cell) (a : IntMap) (m : MemoryState) (h 
       stops le true e =
           let same : r ≡ k = omega (arith, next .from) in
           let few = ltb-true r 65536 e in
-          stops-some limit bound cs a m h i k is (gap n (sucℤ (intOf i)) m) (omega arith) (λ lacked. next .present few (ap (λ j. lookup j (runsAt cs a)) same ∙ lacked))
+          stops-some limit bound cs a m h i k is (gap n (sucℤ (intOf i)) m) (omega arith) (λ lacked. next .present few (ap (λ j. lookup (classKey 0 j) (runsAt cs a)) same ∙ lacked))
       stops le false e = stops-above limit bound cs a m h i k is (gap n (sucℤ (intOf i)) m) (omega (arith, next .from, ltb-false r 65536 e))
 
       go : (t : Bool) → ltb k r ≡ t → (i + 1 ≡ offset + (k + 1) → Next cs a (k + 1) r → (r - (k + 1) < n → gap n (intOf (i + 1)) m ≡ r - (k + 1)) × (n ≤ r - (k + 1) → gap n (intOf (i + 1)) m ≡ n))

@@ -25,7 +25,7 @@ use Rattle.intmap.proofs.StoreLaws.{found-in}
 use Rattle.copy_arms.specs.InPlace.{Alone, FoundAt, Leading, Alike}
 
 -- what the tests of a cell tell
-pub alone-here : (cs : List Cell) (a : IntMap) (p k : ℕ) (c : Cell) → c ≡ getD cs p blank → (key : ℕ) → key ≡ keyOf c → (tag : ℕ) → tag ≡ tagOf c → p < a .base + a .used → k ≤ 65535 → key ≡ k → not (eqb tag 2) ≡ true → Alone cs a p k
+pub alone-here : (cs : List Cell) (a : IntMap) (p k : ℕ) (c : Cell) → c ≡ getD cs p blank → (key : ℕ) → key ≡ keyOf c → (tag : ℕ) → tag ≡ tagOf c → p < a .base + a .used → k ≤ 65535 → key ≡ classKey 0 k → not (eqb tag 2) ≡ true → Alone cs a p k
 alone-here cs a p k c ce key ke tag te inside small same plain =
     record {
       inside = inside;
@@ -142,7 +142,7 @@ leading-next {cs} {ds} {a} {p} {k} is alone found s =
       most = omega (arith, alone .inside);
       found = λ next.
           (let one : size cs levels p ≡ 1 = sym (size-single cs levels p (getD cs p blank) refl (alone .plain)) in
-          let same : keyOf (getD cs (p + 1) blank) ≡ classKey 0 (k + 1) = sym (s .keys (p + 1)) ∙ omega (arith, next .key) in
+          let same : keyOf (getD cs (p + 1) blank) ≡ classKey 0 (k + 1) = sym (s .keys (p + 1)) ∙ next .key in
           let w = seek-next cs levels (classKey 0 k) (classKey 0 (k + 1)) (omega arith) p one same (a .len) (a .base) (found .at) (found .present) (omega (arith, next .inside, is .used)) in
           alike-found s (record { at = w .0; present = w .1 }));
     }

@@ -9,6 +9,7 @@ use Rattle.model.specs.State.{RegDataType, MemoryState}
 use Rattle.model.specs.Access.{readRegister}
 use Rattle.area.specs.declared.Cell.{Cell}
 use Rattle.intmap.specs.Map.{runsAt}
+use Rattle.intmap.specs.Pack.{classKey}
 use Rattle.intmap.specs.Signed.{intOf}
 use Rattle.intmap.specs.Swap.{lookup}
 use Rattle.intmap.specs.declared.IntMap.{IntMap}
@@ -18,8 +19,8 @@ use Rattle.state.specs.Leads.{HoldsMap}
 pub record Next (cs : List Cell) (a : IntMap) (k r : ℕ) : Type 0 where
   pub from : k ≤ r
   pub upto : r ≤ 65536
-  pub absent : (i : ℕ) → k ≤ i → i < r → lookup i (runsAt cs a) ≡ none
-  pub present : r < 65536 → lookup r (runsAt cs a) ≡ none → ⊥
+  pub absent : (i : ℕ) → k ≤ i → i < r → lookup (classKey 0 i) (runsAt cs a) ≡ none
+  pub present : r < 65536 → lookup (classKey 0 r) (runsAt cs a) ≡ none → ⊥
 
 -- how many of n registers from i on are absent before the first that is present or whose read is refused
 abbrev pub gapIf : Tried (Option RegDataType) → ℕ → ℕ

@@ -20,7 +20,7 @@ use Rattle.copy_arms.specs.Copies.{carryOne, carryMany}
 pub record Alone (cs : List Cell) (a : IntMap) (p k : ℕ) : Type 0 where
   pub inside : p < a .base + a .used
   pub small : k ≤ 65535
-  pub key : keyOf (getD cs p blank) ≡ k
+  pub key : keyOf (getD cs p blank) ≡ classKey 0 k
   pub plain : tagOf (getD cs p blank) ≡ 2 → ⊥
 
 -- a search for register k leads to p

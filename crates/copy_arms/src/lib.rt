@@ -93,10 +93,10 @@ fn next_register(map: IntMap, area: &[u8], k: u64) -> u64
         return 65536;
     }
     let key = intmap::key_of(area::cell_at(area, found.at));
-    if 65535 < key {
+    if 131071 < key {
         return 65536;
     }
-    key
+    key - 65536
 }
 
 // How many of n registers from i on are absent before the first that is present or whose read is refused.
@@ -132,7 +132,7 @@ fn is_alone(map: IntMap, area: &[u8], at: usize, k: u64) -> bool
         return false;
     }
     let c = area::cell_at(area, at);
-    if intmap::key_of(c) != k {
+    if intmap::key_of(c) != intmap::class_key(state::REGISTERS, k) {
         return false;
     }
     intmap::tag_of(c) != intmap::RECORD
@@ -144,12 +144,20 @@ fn carry_cell(map: IntMap, area: &mut [u8], p: usize, q: usize, k: u64, l: u64, 
     ensures { λ _. ⌜ CarriesCell (cells (now (area .entry))) (cells (now (area .exit))) map moves k l ⌝ }
 {
     let c = area::cell_at(area, p);
-    area::put_cell(area, q, intmap::with_key(c, l));
+    area::put_cell(
+        area,
+        q,
+        intmap::with_key(c, intmap::class_key(state::REGISTERS, l)),
+    );
     if !moves {
         return;
     }
     let null = state::single(DataType::Null, state::NULLABLE);
-    area::put_cell(area, p, intmap::with_key(null, k));
+    area::put_cell(
+        area,
+        p,
+        intmap::with_key(null, intmap::class_key(state::REGISTERS, k)),
+    );
 }
 
 // Carries registers from k on, which begin at p, to those from l on, which begin at q, as long as each is one cell where the one before it ends, and

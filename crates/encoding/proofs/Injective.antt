@@ -143,10 +143,10 @@ pub state-told : (limit bound : ℕ) (m n : MemoryState) → Good limit m → Go
 unfolding runsOf
 state-told limit bound m n good good′ small small′ e =
     let h : bound ≤ offset = omega arith in
-    let one = le-refl 65536 in
-    let two = le-refl 131072 in
-    let a = cut 65536 _ _ _ _ (registers-under limit m good 65536 one) (registers-under limit n good′ 65536 one) (cursors-from limit m good 65536 one) (cursors-from limit n good′ 65536 one) e in
-    let b = cut 131072 _ _ _ _ (cursors-under limit m good 131072 two) (cursors-under limit n good′ 131072 two) (tables-from limit m good 131072 two) (tables-from limit n good′ 131072 two) (a .1) in
+    let one = le-refl 131072 in
+    let two = le-refl 196608 in
+    let a = cut 131072 _ _ _ _ (registers-under limit m good 131072 one) (registers-under limit n good′ 131072 one) (cursors-from limit m good 131072 one) (cursors-from limit n good′ 131072 one) e in
+    let b = cut 196608 _ _ _ _ (cursors-under limit m good 196608 two) (cursors-under limit n good′ 196608 two) (tables-from limit m good 196608 two) (tables-from limit n good′ 196608 two) (a .1) in
     record {
       registers = map-told runRegister (SmallRegister bound) (register-told bound h) _ (λ k v s. s) 0 (m .r) (n .r) 0 0 (small .registers) (small′ .registers) (a .0);
       cursors = map-told runCursor (SmallCursor bound) (cursor-told bound h) _ (λ k v s. s) 1 (m .p) (n .p) 0 0 (small .cursors) (small′ .cursors) (b .0);

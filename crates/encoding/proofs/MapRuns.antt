@@ -12,7 +12,7 @@ use Rattle.model.specs.IntMap.{Entry, _⇒_, getIf, get, insertBy, insert, remo
 use Rattle.model.specs.Good.{OnSome}
 use Rattle.area.specs.declared.Cell.{Cell}
 use Rattle.intmap.specs.Pack.{classKey}
-use Rattle.intmap.specs.Entries.{keyRun}
+use Rattle.intmap.specs.Entries.{Runs, keyRun}
 use Rattle.encoding.specs.Encode.{runMap}
 use Rattle.intmap.specs.Swap.{swap, lookup}
 use Rattle.intmap.proofs.SwapLaws.{From, Under, swap-less, swap-same, swap-from, lookup-less, lookup-same, lookup-from}
@@ -109,7 +109,35 @@ module _ {A : Type 0} (P : ℕ → A → Type 0) (k : ℕ) where
       by none g h = update-absent f es g
       by (some v) g h = update-present f v low es s g ∙ ap (λ x. insert k x es) h ∙ sym (update-present (λ v. v) v low es s g) ∙ update-none es
 
+-- runs under keys that rise with the entries' own, and what a search finds among them
+module _ {A : Type 0} (run : ℕ → A → List Cell) (keyed : (key : ℕ) (v : A) → keyRun (run key v) ≡ key) (at : ℕ → ℕ) where
+  abbrev pub runsBy : List (Entry A) → Runs
+  runsBy [] = []
+  runsBy (e ∷ es) = run (at (e .key)) (e .value) ∷ runsBy es
+
+  module _ (rises : (i j : ℕ) → i < j → at i < at j) (k : ℕ) (P : ℕ → A → Type 0) where
+    pub lookup-by : (low : ℕ) (es : List (Entry A)) → Rising P low es → lookup (at k) (runsBy es) ≡ Option·map (run (at k)) (get k es)
+    lookup-by low [] s = lookup-from (at k) [] tt ∙ ap (Option·map (run (at k))) (sym (get-past P k (suc k) [] (omega arith) tt))
+    lookup-by low (e ∷ es) s = by (compare k (e .key)) refl (lookup-by (suc (e .key)) es (s .2))
+      where
+        by : (o : Ordering) → compare k (e .key) ≡ o → lookup (at k) (runsBy es) ≡ Option·map (run (at k)) (get k es)
+            → lookup (at k) (run (at (e .key)) (e .value) ∷ runsBy es) ≡ Option·map (run (at k)) (get k (e ∷ es))
+        by Ordering·lt c rest =
+            let h = compare-less k (e .key) c in
+            lookup-from (at k) _ (omega (arith, keyed (at (e .key)) (e .value), rises k (e .key) h)) ∙ ap (Option·map (run (at k))) (sym (get-past P k (e .key) (e ∷ es) h (omega arith, s .1, s .2)))
+        by Ordering·eq c rest =
+            let h = compare-same k (e .key) c in
+            lookup-same (at k) _ _ (keyed (at (e .key)) (e .value) ∙ ap at (sym h)) ∙ ap (λ x. some (run (at x) (e .value))) (sym h) ∙ ap (Option·map (run (at k))) (sym (get-first k e es (sym h)))
+        by Ordering·gt c rest =
+            let h = compare-more k (e .key) c in
+            lookup-less (at k) _ _ (omega (arith, keyed (at (e .key)) (e .value), rises (e .key) k h)) ∙ rest ∙ ap (Option·map (run (at k))) (sym (get-other k e es (omega arith)))
+
 module _ {A : Type 0} (run : ℕ → A → List Cell) (keyed : (key : ℕ) (v : A) → keyRun (run key v) ≡ key) (class : ℕ) where
+  map-by : (es : List (Entry A)) → runsBy run keyed (classKey class) es ≡ runMap run class es
+  unfolding runMap
+  map-by [] = refl
+  map-by (e ∷ es) = ap (λ l. run (classKey class (e .key)) (e .value) ∷ l) (map-by es)
+
   -- an entry's run, and its key
   abbrev runEntry : Entry A → List Cell
   runEntry e = run (classKey class (e .key)) (e .value)
@@ -144,21 +172,7 @@ module _ {A : Type 0} (run : ℕ → A → List Cell) (keyed : (key : ℕ) (v : 
 
     module _ (P : ℕ → A → Type 0) where
       pub lookup-map : (low : ℕ) (es : List (Entry A)) → Rising P low es → lookup (classKey class k) (runMap run class es) ≡ Option·map (run (classKey class k)) (get k es)
-      unfolding runMap
-      lookup-map low [] s = lookup-from its [] tt ∙ ap (Option·map (run its)) (sym (get-past P k (suc k) [] (omega arith) tt))
-      lookup-map low (e ∷ es) s = by (compare k (e .key)) refl (lookup-map (suc (e .key)) es (s .2))
-        where
-          by : (o : Ordering) → compare k (e .key) ≡ o → lookup its (runMap run class es) ≡ Option·map (run its) (get k es)
-              → lookup its (runEntry e ∷ runMap run class es) ≡ Option·map (run its) (get k (e ∷ es))
-          by Ordering·lt c rest =
-              let h = compare-less k (e .key) c in
-              lookup-from its _ (omega (arith, entry-key e)) ∙ ap (Option·map (run its)) (sym (get-past P k (e .key) (e ∷ es) h (omega arith, s .1, s .2)))
-          by Ordering·eq c rest =
-              let h = compare-same k (e .key) c in
-              lookup-same its _ _ (omega (arith, entry-key e)) ∙ ap (λ x. some (run (classKey class x) (e .value))) (sym h) ∙ ap (Option·map (run its)) (sym (get-first k e es (sym h)))
-          by Ordering·gt c rest =
-              let h = compare-more k (e .key) c in
-              lookup-less its _ _ (omega (arith, entry-key e)) ∙ rest ∙ ap (Option·map (run its)) (sym (get-other k e es (omega arith)))
+      lookup-map low es s = ap (lookup its) (sym (map-by es)) ∙ lookup-by run keyed (classKey class) (λ i j lt. omega arith) k P low es s
 
       pub remove-map : (low : ℕ) (es : List (Entry A)) → Rising P low es → swap (classKey class k) [] (runMap run class es) ≡ runMap run class (remove k es)
       unfolding runMap

@@ -23,10 +23,10 @@ sample =
 
 sample-runs : Runs
 sample-runs =
-    (cell 50331650 2 ∷ cell 66305 0 ∷ cell 33554433 0 ∷ [])
-    ∷ (cell 83886083 9223372036854775807 ∷ [])
-    ∷ (cell 1099511627780 7 ∷ [])
-    ∷ (cell 2199140827138 1 ∷ cell 257 0 ∷ [])
+    (cell 1099561959426 2 ∷ cell 66305 0 ∷ cell 33554433 0 ∷ [])
+    ∷ (cell 1099595513859 9223372036854775807 ∷ [])
+    ∷ (cell 2199023255556 7 ∷ [])
+    ∷ (cell 3298652454914 1 ∷ cell 257 0 ∷ [])
     ∷ []
 
 sample-is : runsOf sample ≡ sample-runs

@@ -1,6 +1,6 @@
 -- The accesses of a row to a state, on its runs: what `lookup` finds is the run of what `get` finds, and `swap` with a value's run is `insert`,
 -- with none `remove`, with the changed value's run `update`, for registers, cursors and tables; and `get` of a record's columns. Assumes nothing.
-use mathlib.Core.Path.{_≡_, refl, sym, ap, ap₂, subst, _∙_}
+use mathlib.Core.Path.{_≡_, refl, sym, ap, _∙_}
 use mathlib.Core.Option.{some, Option·map}
 use mathlib.Core.List.{[], _∷_, _++_}
 use Prim.Native.Nat.{ℕ, _+_, _≤_}
@@ -16,7 +16,7 @@ use Rattle.encoding.specs.Encode.{runColumn, columnRuns, runRegister, ru
 use Rattle.intmap.specs.Swap.{swap, lookup}
 use Rattle.encoding.proofs.Packing.{column-key, register-key, cursor-key, table-key}
 use Rattle.intmap.proofs.SwapLaws.{From, Under, from-append, swap-under, lookup-under, swap-before, lookup-before}
-use Rattle.encoding.proofs.MapRuns.{from-map, under-map, lookup-map, insert-map, remove-map, update-map}
+use Rattle.encoding.proofs.MapRuns.{runsBy, lookup-by, from-map, under-map, lookup-map, insert-map, remove-map, update-map}
 
 module _ (limit : ℕ) (m : MemoryState) (good : Good limit m) where
   abbrev registers : Runs
@@ -28,16 +28,16 @@ module _ (limit : ℕ) (m : MemoryState) (good : Good limit m) where
   abbrev tables : Runs
   tables = runMap runTable 2 (m .t)
 
-  pub registers-under : (key : ℕ) → 65536 ≤ key → Under key registers
+  pub registers-under : (key : ℕ) → 131072 ≤ key → Under key registers
   registers-under key h = under-map runRegister register-key 0 GoodRegister key 0 (m .r) h (good .registers)
 
-  pub cursors-under : (key : ℕ) → 131072 ≤ key → Under key cursors
+  pub cursors-under : (key : ℕ) → 196608 ≤ key → Under key cursors
   cursors-under key h = under-map runCursor cursor-key 1 GoodCursor key 0 (m .p) h (good .cursors)
 
-  pub tables-from : (low : ℕ) → low ≤ 131072 → From low tables
+  pub tables-from : (low : ℕ) → low ≤ 196608 → From low tables
   tables-from low h = from-map runTable table-key 2 low (m .t) h
 
-  pub cursors-from : (low : ℕ) → low ≤ 65536 → From low (cursors ++ tables)
+  pub cursors-from : (low : ℕ) → low ≤ 131072 → From low (cursors ++ tables)
   cursors-from low h = from-append low cursors tables (from-map runCursor cursor-key 1 low (m .p) h) (tables-from low (omega arith))
 
   module _ (k : ℕ) where
@@ -119,14 +119,11 @@ module _ (limit : ℕ) (m : MemoryState) (good : Good limit m) where
     unfolding runsOf
     update-table f v g = swap-tables _ ∙ ap (λ l. registers ++ (cursors ++ l)) (update-map runTable table-key 2 k _ f v 0 (m .t) (good .tables) g)
 
--- the columns of a record or table
-columns-map : (x : Columns) → runMap runColumn 0 (entries x) ≡ columnRuns x
-unfolding runMap entries columnRuns
+-- the columns of a record or table, whose keys are their numbers
+columns-map : (x : Columns) → runsBy runColumn column-key (λ k. k) (entries x) ≡ columnRuns x
+unfolding entries columnRuns
 columns-map end = refl
-columns-map (entry k c cs) = ap₂ (λ j l. runColumn j c ∷ l) (omega arith) (columns-map cs)
+columns-map (entry k c cs) = ap (λ l. runColumn k c ∷ l) (columns-map cs)
 
 pub get-column : (x : Columns) (low k : ℕ) → SortedColumns x low → lookup k (columnRuns x) ≡ Option·map (runColumn k) (get k (entries x))
-get-column x low k s =
-    let z : classKey 0 k ≡ k = omega arith in
-    ap (lookup k) (sym (columns-map x))
-    ∙ subst (λ j. lookup j (runMap runColumn 0 (entries x)) ≡ Option·map (runColumn j) (get k (entries x))) z (lookup-map runColumn column-key 0 k SortedAt low (entries x) (sorted-entries x low s))
+get-column x low k s = ap (lookup k) (sym (columns-map x)) ∙ lookup-by runColumn column-key (λ j. j) (λ i j lt. lt) k SortedAt low (entries x) (sorted-entries x low s)

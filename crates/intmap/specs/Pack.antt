@@ -26,9 +26,9 @@ withKey key c = cell (c .head % 16777216 + 16777216 * key) (c .payload)
 abbrev pub withNullable : ℕ → Cell → Cell
 withNullable nullable c = cell (c .head % 65536 + 65536 * nullable + c .head / 16777216 * 16777216) (c .payload)
 
--- the key of an index: class 0 has the registers, 1 the cursors, 2 the tables
+-- the key of an index: class 0 has the registers, 1 the cursors, 2 the tables; a record's columns have the keys below these
 abbrev pub classKey : ℕ → ℕ → ℕ
-classKey class index = class * 65536 + index
+classKey class index = class * 65536 + 65536 + index
 
 -- parts that fit their places
 pub record Parts (tag kind nullable key : ℕ) : Type 0 where

@@ -338,7 +338,7 @@ pub fn class_key(class: u64, index: u64) -> u64
     requires { ⌜ (class < 3) × (index ≤ 65535) ⌝ }
     ensures { λ r. ⌜ r ≡ classKey class index ⌝ }
 {
-    class * 65536 + index
+    class * 65536 + 65536 + index
 }
 
 // An insertion's answer with 01's number.

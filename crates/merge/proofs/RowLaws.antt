@@ -87,34 +87,37 @@ unfolding mergeRuns
 past-all i n bytes [] f = refl
 past-all i n bytes (e ∷ es) f = runs-past i n e es bytes f
 
-module _ (i n : ℕ) (rest : Runs) (above : From (i + n) rest) where
+module _ (i n : ℕ) (rest : Runs) (above : From (classKey 0 i + n) rest) where
+  abbrev first : ℕ
+  first = classKey 0 i
+
   module _ (P : ℕ → RegDataType → Type 0) (j : ℕ) (lt : j < n) where
-    registers-at : (low : ℕ) (rs : List (Entry RegDataType)) → Rising P low rs → (bytes : List ℕ) → n ≤ length bytes → getD (mergeRuns i n (runMap runRegister 0 rs ++ rest) bytes) j 0 ≡ mergeByte (registerByte (get (i + j) rs)) (getD bytes j 0)
+    registers-at : (low : ℕ) (rs : List (Entry RegDataType)) → Rising P low rs → (bytes : List ℕ) → n ≤ length bytes → getD (mergeRuns (classKey 0 i) n (runMap runRegister 0 rs ++ rest) bytes) j 0 ≡ mergeByte (registerByte (get (i + j) rs)) (getD bytes j 0)
     unfolding runMap
-    registers-at low [] s bytes fits = ap (λ l. getD l j 0) (past-all i n bytes rest above) ∙ sym (absent-byte (get (i + j) []) (getD bytes j 0) (get-past P (i + j) (suc (i + j)) [] (omega arith) tt))
+    registers-at low [] s bytes fits = ap (λ l. getD l j 0) (past-all first n bytes rest above) ∙ sym (absent-byte (get (i + j) []) (getD bytes j 0) (get-past P (i + j) (suc (i + j)) [] (omega arith) tt))
     registers-at low (e ∷ rs) s bytes fits =
         cases (ltb (e .key) (i + n))
-        (λ t. ap (λ l. getD l j 0) (runs-on i n run _ bytes (omega (arith, key, ltb-true (e .key) (i + n) t))) ∙ registers-at (suc (e .key)) rs (s .2) (mergeCell i (headRun run) bytes) (omega (arith, cell-long i (headRun run) bytes)) ∙ turn)
-        (λ t. let far : i + n ≤ e .key = ltb-false (e .key) (i + n) t in ap (λ l. getD l j 0) (runs-past i n run _ bytes (omega (arith, key))) ∙ sym (absent-byte (get (i + j) (e ∷ rs)) (getD bytes j 0) (get-past P (i + j) (e .key) (e ∷ rs) (omega arith) (omega arith, s .1, s .2))))
+        (λ t. ap (λ l. getD l j 0) (runs-on first n run _ bytes (omega (arith, key, ltb-true (e .key) (i + n) t))) ∙ registers-at (suc (e .key)) rs (s .2) (mergeCell first (headRun run) bytes) (omega (arith, cell-long first (headRun run) bytes)) ∙ turn)
+        (λ t. let far : i + n ≤ e .key = ltb-false (e .key) (i + n) t in ap (λ l. getD l j 0) (runs-past first n run _ bytes (omega (arith, key))) ∙ sym (absent-byte (get (i + j) (e ∷ rs)) (getD bytes j 0) (get-past P (i + j) (e .key) (e ∷ rs) (omega arith) (omega arith, s .1, s .2))))
       where
         run : List Cell
         run = runRegister (classKey 0 (e .key)) (e .value)
 
-        key : keyRun run ≡ e .key
-        key = register-key (classKey 0 (e .key)) (e .value) ∙ omega arith
+        key : keyRun run ≡ classKey 0 (e .key)
+        key = register-key (classKey 0 (e .key)) (e .value)
 
-        head-is : keyOf (headRun run) ≡ e .key
+        head-is : keyOf (headRun run) ≡ classKey 0 (e .key)
         head-is = head-key run ∙ key
 
-        turn : mergeByte (registerByte (get (i + j) rs)) (getD (mergeCell i (headRun run) bytes) j 0) ≡ mergeByte (registerByte (get (i + j) (e ∷ rs))) (getD bytes j 0)
+        turn : mergeByte (registerByte (get (i + j) rs)) (getD (mergeCell first (headRun run) bytes) j 0) ≡ mergeByte (registerByte (get (i + j) (e ∷ rs))) (getD bytes j 0)
         turn = cases (eqb (e .key) (i + j))
             (λ t. let same : e .key ≡ i + j = eqb-true (e .key) (i + j) t in
             absent-byte (get (i + j) rs) _ (get-past P (i + j) (suc (e .key)) rs (omega arith) (s .2))
-            ∙ cell-merged i (headRun run) bytes j (head-is ∙ same) (omega arith)
+            ∙ cell-merged first (headRun run) bytes j (head-is ∙ omega (arith, same)) (omega arith)
             ∙ ap (λ x. mergeByte x (getD bytes j 0)) (register-byte (classKey 0 (e .key)) (e .value))
             ∙ ap (λ o. mergeByte (registerByte o) (getD bytes j 0)) (sym (get-first (i + j) e rs same)))
             (λ t. let other : e .key ≡ i + j → ⊥ = eqb-false (e .key) (i + j) t in
-            ap₂ (λ o x. mergeByte (registerByte o) x) (sym (get-other (i + j) e rs other)) (cell-kept i (headRun run) bytes j (λ p. other (sym head-is ∙ p))))
+            ap₂ (λ o x. mergeByte (registerByte o) x) (sym (get-other (i + j) e rs other)) (cell-kept first (headRun run) bytes j (λ p. other (omega (arith, head-is, p)))))
 
 -- what lies behind the n columns is as it was
 behind : (i n j : ℕ) → n ≤ j → (es : Runs) (bytes : List ℕ) → getD (mergeRuns i n es bytes) j 0 ≡ getD bytes j 0
@@ -139,15 +142,15 @@ module _ (limit : ℕ) (m : MemoryState) (good : Good limit m) (n i : ℕ) (row 
   unfolding resultColumns columnByte
   row-end j h = ap columnByte (List·getD-map resultColumn row j default ∙ ap resultColumn (List·getD-eq-default row default {n = j} (omega (arith, is .long))))
 
-  byte-at : (bytes : List ℕ) → n ≤ length bytes → (j : ℕ) → getD (mergeRuns i n (runsOf m) bytes) j 0 ≡ mergeByte (columnByte (getD (resultColumns row) j unsaid)) (getD bytes j 0)
+  byte-at : (bytes : List ℕ) → n ≤ length bytes → (j : ℕ) → getD (mergeRuns (classKey 0 i) n (runsOf m) bytes) j 0 ≡ mergeByte (columnByte (getD (resultColumns row) j unsaid)) (getD bytes j 0)
   unfolding runsOf
   byte-at bytes fits j =
       cases (ltb j n)
       (λ t. let lt : j < n = ltb-true j n t in
-      registers-at i n _ (cursors-from limit m good (i + n) within) _ j lt 0 (m .r) (good .registers) bytes fits
+      registers-at i n _ (cursors-from limit m good (classKey 0 i + n) (omega arith)) _ j lt 0 (m .r) (good .registers) bytes fits
       ∙ ap (λ x. mergeByte x (getD bytes j 0)) (sym (row-byte j lt)))
       (λ t. let far : n ≤ j = ltb-false j n t in
-      behind i n j far _ bytes
+      behind (classKey 0 i) n j far _ bytes
       ∙ sym (merge-nothing (getD bytes j 0))
       ∙ ap (λ x. mergeByte x (getD bytes j 0)) (sym (row-end j far)))
 
@@ -155,19 +158,21 @@ row-length : (row : List ColumnType) → length (resultColumns row) ≡ length r
 unfolding resultColumns
 row-length row = length-map row resultColumn
 
-pub merged-row : (cs : List Cell) (a : IntMap) (i n : ℕ) (before after : List ℕ) (width r : ℕ) (w : Found)
-    → i + n ≤ 65536 → n ≤ length before → w ≡ seek cs levels i (a .len) (a .base) → after ≡ mergeRuns i n (entries cs levels (w .left) (w .at)) before → r ≡ max width n → Merges cs a i n before after width r
-merged-row cs a i n before after width r w within fits found is wide = record { widest = wide; says = says }
+pub merged-row : (cs : List Cell) (a : IntMap) (i n : ℕ) (before after : List ℕ) (width r : ℕ) (w : Found) (key : ℕ)
+    → key ≡ classKey 0 i → i + n ≤ 65536 → n ≤ length before → w ≡ seek cs levels key (a .len) (a .base) → after ≡ mergeRuns key n (entries cs levels (w .left) (w .at)) before → r ≡ max width n → Merges cs a i n before after width r
+merged-row cs a i n before after width r w key ke within fits found is wide = record { widest = wide; says = says }
   where
-    whole : after ≡ mergeRuns i n (entries cs levels (a .len) (a .base)) before
-    whole = is ∙ ap (λ f. mergeRuns i n (entries cs levels (f .left) (f .at)) before) found ∙ merged-sought cs levels i n before (a .len) (a .base)
+    whole : after ≡ mergeRuns (classKey 0 i) n (entries cs levels (a .len) (a .base)) before
+    whole =
+        is ∙ ap (λ f. mergeRuns key n (entries cs levels (f .left) (f .at)) before) found ∙ merged-sought cs levels key n before (a .len) (a .base)
+        ∙ ap (λ k. mergeRuns k n (entries cs levels (a .len) (a .base)) before) ke
 
     says : (limit bound : ℕ) (m : MemoryState) (row : List ColumnType) (columns : List ResultColumn) → HoldsMap limit bound cs a m → readColumns n (pos i) m ≡ done row → HasColumns before width columns → HasColumns after r (merge (resultColumns row) columns)
     says limit bound m row columns holds read has =
         let it = row-read n i m row within read in record {
           wide = merged-length (resultColumns row) columns ∙ ap₂ max (has .wide) (row-length row ∙ it .long) ∙ sym wide;
           stand = λ j.
-              ap (λ l. getD l j 0) (whole ∙ ap (λ es. mergeRuns i n es before) (holds .runs))
+              ap (λ l. getD l j 0) (whole ∙ ap (λ es. mergeRuns (classKey 0 i) n es before) (holds .runs))
               ∙ byte-at limit m (holds .good) n i row within it before fits j
               ∙ ap (λ x. mergeByte (columnByte (getD (resultColumns row) j unsaid)) x) (has .stand j)
               ∙ sym (merged-at (resultColumns row) columns j);

@@ -63,7 +63,7 @@ fn merge_cell(columns: &mut [u8], i: u64, c: Cell)
 
 // Merges the `left` entries from `at` on, up to the first whose key is past the n columns.
 fn merge_entries(columns: &mut [u8], area: &[u8], i: u64, n: u64, at: usize, left: u64)
-    requires { ⌜ AreColumns (cells (now area)) levels left at × (i + n ≤ 65536) × (n ≤ length (now columns)) ⌝ }
+    requires { ⌜ AreColumns (cells (now area)) levels left at × (i + n ≤ 131072) × (n ≤ length (now columns)) ⌝ }
     ensures { λ _. ⌜ now (columns .exit) ≡ mergeRuns i n (entries (cells (now (area .entry))) levels left at) (now (columns .entry)) ⌝ }
 {
     let mut p = at;
@@ -103,7 +103,8 @@ pub fn merge_row(
     requires { ⌜ IsMap (cells (now area)) map × (i + n ≤ 65536) × (n ≤ length (now columns)) ⌝ }
     ensures { λ r. ⌜ Merges (cells (now (area .entry))) map i n (now (columns .entry)) (now (columns .exit)) width r ⌝ }
 {
-    let found = map.find(area, i);
-    merge_entries(columns, area, i, n, found.at, found.left);
+    let first = intmap::class_key(state::REGISTERS, 0) + i;
+    let found = map.find(area, first);
+    merge_entries(columns, area, first, n, found.at, found.left);
     wider(width, n as usize)
 }

@@ -181,7 +181,7 @@ flat-run cs at h es q e =
     let agree = span-agree cs es (size cs 9 at) at q (ap (span es q) (sym n) ∙ e) in
     size-same cs es 8 at q (λ j lt. agree j (omega arith)) ∙ lower ∙ sym n
 
-module _ (cs : List Cell) (a : IntMap) (first end : ℕ) (flat : anyDeep cs first end (a .len) (a .base) ≡ false) (k : ℕ) (l : first ≤ k) (h : k < end) where
+module _ (cs : List Cell) (a : IntMap) (first end : ℕ) (flat : anyDeep cs (classKey 0 first) (classKey 0 end) (a .len) (a .base) ≡ false) (k : ℕ) (l : first ≤ k) (h : k < end) where
   abbrev its : ℕ
   its = classKey 0 k
 
@@ -192,7 +192,7 @@ module _ (cs : List Cell) (a : IntMap) (first end : ℕ) (flat : anyDeep cs firs
       go true f es p st =
           let at = seek cs levels its (a .len) (a .base) .at in
           let is : span cs at (size cs levels at) ≡ run = same (sym (seek-some cs levels its (a .len) (a .base) f) ∙ e) in
-          subst (λ r. Stands es p r → size es 8 p ≡ length r) is (flat-run cs at (found-flat cs first end its (a .len) (a .base) (omega arith) (omega arith) flat f) es p) st
+          subst (λ r. Stands es p r → size es 8 p ≡ length r) is (flat-run cs at (found-flat cs (classKey 0 first) (classKey 0 end) its (a .len) (a .base) (omega arith) (omega arith) flat f) es p) st
         where
           same : {x y : List Cell} → some x ≡ some y → x ≡ y
           same e = cc
@@ -257,8 +257,8 @@ record DeepIn (first end low : ℕ) (es : List (Entry RegDataType)) : Type 0 whe
   key : ℕ
   value : RegDataType
   found : get key es ≡ some value
-  above : first ≤ key
-  below : key < end
+  above : first ≤ classKey 0 key
+  below : classKey 0 key < end
   from : low ≤ key
   deep : 7 < registerDepth value
 
@@ -277,7 +277,7 @@ module _ (cs : List Cell) (first end : ℕ) (rest : Runs) (others : Each (λ r. 
       let h = is-below cs first end n at d in
       go (deepAt cs first at) refl (h .1) (omega (arith, key, k)) (h .0) nests (deep-register es (suc (x .key)) (s .2) n (at + size cs levels at) tail)
     where
-      go : (b : Bool) → deepAt cs first at ≡ b → pick b true (anyDeep cs first end n (at + size cs levels at)) ≡ true → keyOf (getD cs at blank) ≡ x .key → keyOf (getD cs at blank) < end → nesting cs levels at ≡ registerDepth (x .value)
+      go : (b : Bool) → deepAt cs first at ≡ b → pick b true (anyDeep cs first end n (at + size cs levels at)) ≡ true → keyOf (getD cs at blank) ≡ classKey 0 (x .key) → keyOf (getD cs at blank) < end → nesting cs levels at ≡ registerDepth (x .value)
           → (anyDeep cs first end n (at + size cs levels at) ≡ true → DeepIn first end (suc (x .key)) es) → DeepIn first end low (x ∷ es)
       go true f d key h nests more =
           let is = is-deep cs first at f in
@@ -303,13 +303,13 @@ module _ (cs : List Cell) (first end : ℕ) (rest : Runs) (others : Each (λ r. 
           }
 
 module _ (limit bound : ℕ) (cs : List Cell) (a : IntMap) (m : MemoryState) (holds : HoldsMap limit bound cs a m) (first n : ℕ) (within : first + n ≤ 65536) where
-  pub held-deep : anyDeep cs first (first + n) (a .len) (a .base) ≡ true → 7 < columnsDepth (fromDenseRecord (columnsFrom n first m))
+  pub held-deep : anyDeep cs (classKey 0 first) (classKey 0 (first + n)) (a .len) (a .base) ≡ true → 7 < columnsDepth (fromDenseRecord (columnsFrom n first m))
   held-deep d =
-      let others = each-join (λ r. first + n ≤ keyRun r) (runMap runCursor 1 (m .p)) (runMap runTable 2 (m .t)) (each-map runCursor cursor-key 1 (first + n) (omega arith) (m .p)) (each-map runTable table-key 2 (first + n) (omega arith) (m .t)) in
-      let w = deep-register cs first (first + n) (runMap runCursor 1 (m .p) ++ runMap runTable 2 (m .t)) others (m .r) 0 (holds .good .registers) (a .len) (a .base) (unfold runsOf in (holds .runs)) d in
-      some-deep m n first 0 7 (w .key) (w .above) (w .below) (subst (λ o. 7 < columnDepth (registerColumn o)) (sym (w .found)) (omega (arith, w .deep, column-depth (w .value))))
+      let others = each-join (λ r. classKey 0 (first + n) ≤ keyRun r) (runMap runCursor 1 (m .p)) (runMap runTable 2 (m .t)) (each-map runCursor cursor-key 1 (classKey 0 (first + n)) (omega arith) (m .p)) (each-map runTable table-key 2 (classKey 0 (first + n)) (omega arith) (m .t)) in
+      let w = deep-register cs (classKey 0 first) (classKey 0 (first + n)) (runMap runCursor 1 (m .p) ++ runMap runTable 2 (m .t)) others (m .r) 0 (holds .good .registers) (a .len) (a .base) (unfold runsOf in (holds .runs)) d in
+      some-deep m n first 0 7 (w .key) (omega (arith, w .above)) (omega (arith, w .below)) (subst (λ o. 7 < columnDepth (registerColumn o)) (sym (w .found)) (omega (arith, w .deep, column-depth (w .value))))
 
-  pub held-flat : anyDeep cs first (first + n) (a .len) (a .base) ≡ false → columnsDepth (fromDenseRecord (columnsFrom n first m)) ≤ 7
+  pub held-flat : anyDeep cs (classKey 0 first) (classKey 0 (first + n)) (a .len) (a .base) ≡ false → columnsDepth (fromDenseRecord (columnsFrom n first m)) ≤ 7
   held-flat d = most-deep m n first 0 7 each
     where
       each : (i : ℕ) → first ≤ i → i < first + n → columnDepth (registerColumn (get i (m .r))) ≤ 7
@@ -323,7 +323,7 @@ module _ (limit bound : ℕ) (cs : List Cell) (a : IntMap) (m : MemoryState) (ho
               let v = told-register-at holds i (omega arith) .present _ (ap done (seek-some cs levels (classKey 0 i) (a .len) (a .base) f)) in
               let long : length (runRegister (classKey 0 i) (v .value)) ≡ size cs levels at = ap length (sym (v .is)) ∙ length-span cs at (size cs levels at) in
               let nests = register-nesting (v .value) cs at levels (classKey 0 i) (omega (arith, v .has .0 .depth)) (ap (span cs at) long ∙ v .is) in
-              let flat = found-flat cs first (first + n) (classKey 0 i) (a .len) (a .base) (omega arith) (omega arith) d f in
+              let flat = found-flat cs (classKey 0 first) (classKey 0 (first + n)) (classKey 0 i) (a .len) (a .base) (omega arith) (omega arith) d f in
               subst (λ o. columnDepth (registerColumn o) ≤ 7) (sym (done-same (v .answer))) (omega (arith, nests, flat, column-depth (v .value)))
           go false f =
               let gone = told-register-at holds i (omega arith) .absent (ap done (seek-none cs levels (classKey 0 i) (a .len) (a .base) f)) in

@@ -154,13 +154,13 @@ module _ (limit : ℕ) (cs : List Cell) (a : IntMap) (first n i : ℕ) (within :
   record-index k e = stops cs k (frame-none cs (a .base) (limit + limit)) (λ bound m h. store-index limit (intOf i) _ m k (sym e))
 
   module _ (k : ℕ) (e : done k ≡ index (intOf i)) where
-    pub record-deep : anyDeep cs first (first + n) (a .len) (a .base) ≡ true → Leads limit cs cs a (stored.Refused 9) (recordFrom limit n first (intOf i))
+    pub record-deep : anyDeep cs (classKey 0 first) (classKey 0 (first + n)) (a .len) (a .base) ≡ true → Leads limit cs cs a (stored.Refused 9) (recordFrom limit n first (intOf i))
     unfolding recordFrom
     record-deep d =
         stops cs 9 (frame-none cs (a .base) (limit + limit))
         (λ bound m h. store-deep limit (intOf i) _ m k (sym e) (omega (arith, held-deep limit bound cs a m h first n within d, made-depth limit bound cs a m h n first within)))
 
-    module _ (flat : anyDeep cs first (first + n) (a .len) (a .base) ≡ false) where
+    module _ (flat : anyDeep cs (classKey 0 first) (classKey 0 (first + n)) (a .len) (a .base) ≡ false) where
       large : (ds : List Cell) → Frame cs ds (a .base) (limit + limit) → ((bound : ℕ) (m : MemoryState) → HoldsMap limit bound cs a m → limit < registerCells (Column (Record (fromDenseRecord (columnsFrom n first m))))) → Leads limit cs ds a (stored.Refused 8) (recordFrom limit n first (intOf i))
       unfolding recordFrom
       large ds frame more =

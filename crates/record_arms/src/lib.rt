@@ -7,6 +7,7 @@ ghost use lib.ListN.{length, getD};
 ghost use Rattle.model.specs.Operation.{opMakeRecord};
 ghost use Rattle.area.specs.Cells.{blank, cells};
 ghost use Rattle.intmap.specs.Map.{levels, runsAt, IsMap};
+ghost use Rattle.intmap.specs.Pack.{classKey};
 ghost use Rattle.intmap.specs.Runs.{size, IsColumn, AreColumns};
 ghost use Rattle.intmap.specs.Find.{seek};
 ghost use Rattle.intmap.specs.Signed.{intOf};
@@ -88,7 +89,7 @@ fn is_deep(area: &[u8], at: usize, c: Cell, first: u64) -> bool
     7 < intmap::depth_of(area, at, intmap::LEVELS)
 }
 
-// Whether a record of the registers from `first` on and below `end` nests too deep. The entries from `end` on are not looked at.
+// Whether a record of the entries with keys from `first` on and below `end` nests too deep. Those from `end` on are not looked at.
 fn any_deep(map: IntMap, area: &[u8], first: u64, end: u64) -> bool
     requires { ⌜ IsMap (cells (now area)) map ⌝ }
     ensures { λ r. ⌜ r ≡ anyDeep (cells (now (area .entry))) first end (map .len) (map .base) ⌝ }
@@ -108,6 +109,15 @@ fn any_deep(map: IntMap, area: &[u8], first: u64, end: u64) -> bool
         left -= 1;
     }
     false
+}
+
+// Whether a record of the registers from `first` on and below `end` nests too deep.
+fn too_deep(map: IntMap, area: &[u8], first: u64, end: u64) -> bool
+    requires { ⌜ IsMap (cells (now area)) map × (first ≤ 65536) × (end ≤ 65536) ⌝ }
+    ensures { λ r. ⌜ r ≡ anyDeep (cells (now (area .entry))) (classKey 0 first) (classKey 0 end) (map .len) (map .base) ⌝ }
+{
+    let keys = intmap::class_key(state::REGISTERS, 0);
+    any_deep(map, area, keys + first, keys + end)
 }
 
 // Looks for a key among the `left` entries from `at` on.
@@ -236,7 +246,7 @@ fn store_record(map: IntMap, area: &mut [u8], first: u64, n: u64, i: u64, limit:
     if let Index::Bad(k) = x {
         return Stored::Refused(k);
     }
-    if any_deep(map, area, first, first + n) {
+    if too_deep(map, area, first, first + n) {
         return Stored::Refused(9);
     }
     if limit as u64 <= n {

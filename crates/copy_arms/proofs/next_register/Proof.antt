@@ -1,6 +1,6 @@
 -- `copy_arms::next_register` is where a search for the register leads, if that is a register. Assumes nothing.
 use native.Mathlib.Omega.{arith}
-use Rattle.copy_arms.proofs.GapLaws.{next-end, next-within, next-other, next-here}
+use Rattle.copy_arms.proofs.GapLaws.{next-end, next-within, next-other, next-above, next-here}
 use borrow.Author.Needs.{needs}
 use Rattle.copy_arms.proofs.next_register.Statement.{statement}
 use Rattle.copy_arms.proofs.next_register.Tie as tie
@@ -23,6 +23,9 @@ key-of-requires c κs = search needs
 returns-2 : tie.Need-returns-2
 returns-2 c = next-other _ _ _ (c .before .before .before .before .before .before .before .before .pre .1) _ (c .before .before .before .before .before .before .class-key .ensures) _ (c .before .before .before .before .before .find .ensures) (c .before .before .before .if1 .left) _ (c .before .before .cell-at .ensures) _ (c .before .key-of .ensures) (c .if2 .taken)
 
+sub-result : tie.Need-sub-result
+sub-result c = omega (arith, next-above _ (c .before .before .before .before .before .before .before .before .args .map) _ (c .before .before .before .before .before .before .before .before .pre .1) _ (c .before .before .before .before .before .before .class-key .ensures) _ (c .before .before .before .before .before .find .ensures) (c .before .before .before .if1 .left) _ (c .before .before .cell-at .ensures) _ (c .before .key-of .ensures), c .before .before .before .before .before .before .class-key .ensures)
+
 returns-3 : tie.Need-returns-3
 returns-3 c = next-here _ _ _ (c .before .before .before .before .before .before .before .before .pre .1) _ (c .before .before .before .before .before .before .class-key .ensures) _ (c .before .before .before .before .before .find .ensures) (c .before .before .before .if1 .left) _ (c .before .before .cell-at .ensures) _ (c .before .key-of .ensures) (c .if2 .left)
 
@@ -36,4 +39,5 @@ next-register-spec =
     cell-at-requires
     key-of-requires
     returns-2
+    sub-result
     returns-3)

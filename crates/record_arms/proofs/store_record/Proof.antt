@@ -21,26 +21,26 @@ returns c = record-index _ _ _ _ _ _ (c .before .before .before .before .before 
 enum-told : tie.Need-enum-told
 enum-told c = search needs
 
-add-any-deep : tie.Need-add-any-deep
-add-any-deep c = search needs
+add-too-deep : tie.Need-add-too-deep
+add-too-deep c = search needs
 
-any-deep-requires : tie.Need-any-deep-requires
-any-deep-requires c κs = search needs
+too-deep-requires : tie.Need-too-deep-requires
+too-deep-requires c κs = search needs
 
 same-length : tie.Need-same-length
 same-length c = search needs
 
 returns-2 : tie.Need-returns-2
-returns-2 c = record-deep _ _ _ _ _ _ (c .before .before .before .before .before .before .before .pre .1) _ (ap indexOf (sym (c .before .before .before .enum-told .given .1)) ∙ c .before .before .before .before .before .judge-index .ensures .answer) (sym (c .before .any-deep .ensures) ∙ c .if1 .taken)
+returns-2 c = record-deep _ _ _ _ _ _ (c .before .before .before .before .before .before .before .pre .1) _ (ap indexOf (sym (c .before .before .before .enum-told .given .1)) ∙ c .before .before .before .before .before .judge-index .ensures .answer) (sym (c .before .too-deep .ensures) ∙ c .if1 .taken)
 
 same-length-2 : tie.Need-same-length-2
 same-length-2 c = search needs
 
 returns-3 : tie.Need-returns-3
-returns-3 c = record-many _ _ _ _ _ _ (c .before .before .before .before .before .before .before .before .pre .1) _ (ap indexOf (sym (c .before .before .before .before .enum-told .given .1)) ∙ c .before .before .before .before .before .before .judge-index .ensures .answer) (sym (c .before .before .any-deep .ensures) ∙ c .before .if1 .left) (c .if2 .taken)
+returns-3 c = record-many _ _ _ _ _ _ (c .before .before .before .before .before .before .before .before .pre .1) _ (ap indexOf (sym (c .before .before .before .before .enum-told .given .1)) ∙ c .before .before .before .before .before .before .judge-index .ensures .answer) (sym (c .before .before .too-deep .ensures) ∙ c .before .if1 .left) (c .if2 .taken)
 
 build-record-requires : tie.Need-build-record-requires
-build-record-requires c κs = (c .before .before .before .before .before .before .before .before .before .pre .0, c .before .before .before .before .before .before .before .before .before .pre .1, omega (arith, c .before .if2 .left), flat-registers _ (c .before .before .before .before .before .before .before .before .before .args .map) _ _ (sym (c .before .before .before .any-deep .ensures) ∙ c .before .before .if1 .left))
+build-record-requires c κs = (c .before .before .before .before .before .before .before .before .before .pre .0, c .before .before .before .before .before .before .before .before .before .pre .1, omega (arith, c .before .if2 .left), flat-registers _ (c .before .before .before .before .before .before .before .before .before .args .map) _ _ (sym (c .before .before .before .too-deep .ensures) ∙ c .before .before .if1 .left))
 
 enum-told-2 : tie.Need-enum-told-2
 enum-told-2 c = search needs
@@ -51,19 +51,19 @@ enum-known-y c = search needs
 store-run-requires : tie.Need-store-run-requires
 store-run-requires c κs = let built = subst (BuildsRecord _ _ _ _ _ _) (c .before .before .y .given .1) (c .before .before .before .before .before .before .build-record .ensures) in
     let at = ap indexOf (sym (c .before .before .before .before .before .before .before .before .before .before .before .before .enum-told .given .1)) ∙ c .before .before .before .before .before .before .before .before .before .before .before .before .before .before .judge-index .ensures .answer in
-    (built-room _ _ _ _ _ _ (c .before .before .before .before .before .before .before .before .before .before .before .before .before .before .before .before .pre .1) _ at (sym (c .before .before .before .before .before .before .before .before .before .before .any-deep .ensures) ∙ c .before .before .before .before .before .before .before .before .before .if1 .left) _ _ built (c .before .before .before .before .before .before .before .before .before .before .before .before .before .before .before .before .pre .0), omega arith, record { whole = refl; above = built .answer .above; fits = built-fits _ _ _ _ _ _ (c .before .before .before .before .before .before .before .before .before .before .before .before .before .before .before .before .pre .1) _ at (sym (c .before .before .before .before .before .before .before .before .before .before .any-deep .ensures) ∙ c .before .before .before .before .before .before .before .before .before .if1 .left) _ _ built (c .before .before .before .before .before .before .before .before .before .before .before .before .before .before .before .before .pre .0) })
+    (built-room _ _ _ _ _ _ (c .before .before .before .before .before .before .before .before .before .before .before .before .before .before .before .before .pre .1) _ at (sym (c .before .before .before .before .before .before .before .before .before .before .too-deep .ensures) ∙ c .before .before .before .before .before .before .before .before .before .if1 .left) _ _ built (c .before .before .before .before .before .before .before .before .before .before .before .before .before .before .before .before .pre .0), omega arith, record { whole = refl; above = built .answer .above; fits = built-fits _ _ _ _ _ _ (c .before .before .before .before .before .before .before .before .before .before .before .before .before .before .before .before .pre .1) _ at (sym (c .before .before .before .before .before .before .before .before .before .before .too-deep .ensures) ∙ c .before .before .before .before .before .before .before .before .before .if1 .left) _ _ built (c .before .before .before .before .before .before .before .before .before .before .before .before .before .before .before .before .pre .0) })
 
 same-length-3 : tie.Need-same-length-3
 same-length-3 c = search needs
 
 returns-4 : tie.Need-returns-4
-returns-4 c = record-full _ _ _ _ _ _ (c .before .before .before .before .before .before .before .before .before .before .before .before .before .before .pre .1) _ (ap indexOf (sym (c .before .before .before .before .before .before .before .before .before .before .enum-told .given .1)) ∙ c .before .before .before .before .before .before .before .before .before .before .before .before .judge-index .ensures .answer) (sym (c .before .before .before .before .before .before .before .before .any-deep .ensures) ∙ c .before .before .before .before .before .before .before .if1 .left) _ (subst (BuildsRecord _ _ _ _ _ _) (c .enum-told2 .given .1) (c .before .before .before .before .build-record .ensures))
+returns-4 c = record-full _ _ _ _ _ _ (c .before .before .before .before .before .before .before .before .before .before .before .before .before .before .pre .1) _ (ap indexOf (sym (c .before .before .before .before .before .before .before .before .before .before .enum-told .given .1)) ∙ c .before .before .before .before .before .before .before .before .before .before .before .before .judge-index .ensures .answer) (sym (c .before .before .before .before .before .before .before .before .too-deep .ensures) ∙ c .before .before .before .before .before .before .before .if1 .left) _ (subst (BuildsRecord _ _ _ _ _ _) (c .enum-told2 .given .1) (c .before .before .before .before .build-record .ensures))
 
 same-length-4 : tie.Need-same-length-4
 same-length-4 c = search needs
 
 returns-5 : tie.Need-returns-5
-returns-5 c = record-stored _ _ _ _ _ _ (c .before .before .before .before .before .before .before .before .before .before .before .before .before .before .before .before .before .before .before .pre .1) _ (ap indexOf (sym (c .before .before .before .before .before .before .before .before .before .before .before .before .before .before .before .enum-told .given .1)) ∙ c .before .before .before .before .before .before .before .before .before .before .before .before .before .before .before .before .before .judge-index .ensures .answer) (sym (c .before .before .before .before .before .before .before .before .before .before .before .before .before .any-deep .ensures) ∙ c .before .before .before .before .before .before .before .before .before .before .before .before .if1 .left) _ _ (subst (BuildsRecord _ _ _ _ _ _) (c .before .before .before .before .before .y .given .1) (c .before .before .before .before .before .before .before .before .before .build-record .ensures)) (c .before .before .before .before .before .before .before .before .before .before .before .before .before .before .before .before .before .before .before .pre .0) _ _ (c .before .before .store-run .ensures)
+returns-5 c = record-stored _ _ _ _ _ _ (c .before .before .before .before .before .before .before .before .before .before .before .before .before .before .before .before .before .before .before .pre .1) _ (ap indexOf (sym (c .before .before .before .before .before .before .before .before .before .before .before .before .before .before .before .enum-told .given .1)) ∙ c .before .before .before .before .before .before .before .before .before .before .before .before .before .before .before .before .before .judge-index .ensures .answer) (sym (c .before .before .before .before .before .before .before .before .before .before .before .before .before .too-deep .ensures) ∙ c .before .before .before .before .before .before .before .before .before .before .before .before .if1 .left) _ _ (subst (BuildsRecord _ _ _ _ _ _) (c .before .before .before .before .before .y .given .1) (c .before .before .before .before .before .before .before .before .before .build-record .ensures)) (c .before .before .before .before .before .before .before .before .before .before .before .before .before .before .before .before .before .before .before .pre .0) _ _ (c .before .before .store-run .ensures)
 
 pub store-record-spec : {M : Type 1} → statement M
 store-record-spec =
@@ -73,8 +73,8 @@ store-record-spec =
     enum-known-x
     returns
     enum-told
-    add-any-deep
-    any-deep-requires
+    add-too-deep
+    too-deep-requires
     same-length
     returns-2
     same-length-2
