@@ -1,5 +1,5 @@
 -- Laws of specs/Moves.antt: what stands where after a move, and a turn of each loop that moves. Assumes nothing.
-use mathlib.Core.Path.{_≡_, refl, ap, ap₂, _∙_}
+use mathlib.Core.Path.{_≡_, refl, sym, ap, ap₂, _∙_}
 use mathlib.Core.List.{List}
 use Prim.Native.Nat.{ℕ, zero, suc, _+_, _-_, _<_, _≤_}
 use native.Mathlib.Omega.{arith}
@@ -7,7 +7,7 @@ use native.Mathlib.Decide.{ℕ-discrete}
 use native.Mathlib.Nat.{add-zero, add-suc, suc-add, sub-zero}
 use native.Mathlib.Numerals.{add-one}
 use lib.ListN.{length, getD, set, length-set}
-use lib.Seq.{getD-set-same, getD-set-other, set-comm}
+use lib.Seq.{getD-set-same, getD-set-other, set-getD, set-comm}
 use Rattle.area.specs.Cells.{blank, cells, CellsNow}
 use Rattle.area.specs.Moves.{moved}
 use Rattle.area.specs.declared.Cell.{Cell}
@@ -16,6 +16,15 @@ pub length-moved : (cs : List Cell) (f t n : ℕ) → length (moved cs f t n) �
 unfolding moved
 length-moved cs f t zero = refl
 length-moved cs f t (suc n) = simp length-set (length-moved cs f t n)
+
+-- onto its own place
+pub moved-same : (cs : List Cell) (f n : ℕ) → moved cs f f n ≡ cs
+unfolding moved
+moved-same cs f zero = refl
+moved-same cs f (suc n) = ap (λ l. set l (f + n) (getD cs (f + n) blank)) (moved-same cs f n) ∙ set-getD cs (f + n) blank
+
+pub moved-nowhere : (xs : List ℕ) (f t n : ℕ) → t ≡ f → CellsNow xs xs (moved (cells xs) f t n)
+moved-nowhere xs f t n e = record { same = refl; bytes = refl; cells = sym (ap (λ x. moved (cells xs) f x n) e ∙ moved-same (cells xs) f n) }
 
 -- what is not written is as it was
 pub moved-below : (cs : List Cell) (f t n j : ℕ) → j < t → getD (moved cs f t n) j blank ≡ getD cs j blank

@@ -132,7 +132,10 @@ pub fn move_cells(area: &mut [u8], from: usize, to: usize, n: usize)
     requires { ⌜ Inside (now area) from n × Inside (now area) to n ⌝ }
     ensures { λ _. ⌜ CellsNow (now (area .entry)) (now (area .exit)) (moved (cells (now (area .entry))) from to n) ⌝ }
 {
-    if to <= from {
+    if to == from {
+        return;
+    }
+    if to < from {
         move_down(area, from, to, n);
     } else {
         move_up(area, from, to, n);

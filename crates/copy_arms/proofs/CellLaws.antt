@@ -29,7 +29,9 @@ use Rattle.intmap.specs.Runs.{size}
 use Rattle.intmap.specs.Signed.{offset, intOf}
 use Rattle.intmap.specs.declared.IntMap.{IntMap}
 use Rattle.intmap.specs.declared.Stored.the-variants as stored
+use Rattle.intmap.specs.Alike.{Alike}
 use Rattle.intmap.proofs.FindLaws.{seek-from}
+use Rattle.intmap.proofs.Overwritten.{alike, alike-then, alike-room, alike-map}
 use Rattle.intmap.proofs.PackLaws.{keyed-tag, keyed-key}
 use Rattle.intmap.proofs.RunLaws.{size-single}
 use Rattle.intmap.proofs.SignedLaws.{index-within}
@@ -46,8 +48,8 @@ use Rattle.encoding.proofs.Updates.{update-stored}
 use Rattle.state.specs.Leads.{Current, HoldsMap}
 use Rattle.state.proofs.LeadsLaws.{frame-then}
 use Rattle.copy_arms.specs.Copies.{carrySome, carryOne}
-use Rattle.copy_arms.specs.InPlace.{Alone, FoundAt, Alike, CarriesCell}
-use Rattle.copy_arms.proofs.PlaceLaws.{alike, alike-then, alike-room, alike-map, alike-found}
+use Rattle.copy_arms.specs.InPlace.{Alone, FoundAt, CarriesCell}
+use Rattle.copy_arms.proofs.PlaceLaws.{alike-found}
 
 done-same : {A : Type 0} {a b : A} → done a ≡ done b → a ≡ b
 done-same e = cc

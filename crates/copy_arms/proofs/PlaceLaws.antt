@@ -1,28 +1,27 @@
--- A cell that is no record's, overwritten by another with its key, leaves all runs their places and keys, and so every search its answer. And
--- from an entry of one cell the search for the next key leads to the next cell, if that has the key. Assumes nothing.
+-- From an entry of one cell the search for the next key leads to the next cell, if that has the key. Assumes nothing.
 use mathlib.Core.Path.{_≡_, refl, sym, ap, _∙_}
 use mathlib.Core.Bool.{Bool, true, false, not, false≢true}
 use mathlib.Core.List.{List}
 use Prim.Native.Nat.{ℕ, zero, suc, _+_, _<_, _≤_}
 use native.Mathlib.Omega.{arith}
-use native.Mathlib.Decide.{ℕ-discrete}
 use lib.Dec.{eqb, ltb}
-use lib.ListN.{length, getD, set, length-set}
-use lib.Seq.{getD-set-same, getD-set-other}
-use borrow.Author.Tests.{lt-ltb, ltb-true, eqb-true, eqb-false, eq-eqb, not-true}
+use lib.ListN.{getD}
+use borrow.Author.Tests.{ltb-true, eqb-true, eqb-false, eq-eqb, not-true}
 use Rattle.area.specs.Cells.{blank}
 use Rattle.area.specs.declared.Cell.{Cell}
 use Rattle.intmap.specs.Find.{place, seek}
-use Rattle.intmap.specs.Map.{levels, IsMap, HasRoom}
+use Rattle.intmap.specs.Map.{levels, IsMap}
 use Rattle.intmap.specs.Pack.{tagOf, keyOf, classKey}
 use Rattle.intmap.specs.Pick.{pick}
-use Rattle.intmap.specs.Runs.{size, sizes, whole}
+use Rattle.intmap.specs.Runs.{size, sizes}
 use Rattle.intmap.specs.declared.Found.{Found}
 use Rattle.intmap.specs.declared.IntMap.{IntMap}
-use Rattle.intmap.proofs.FindLaws.{seek-here}
+use Rattle.intmap.proofs.FindLaws.{seek-here, seek-past}
 use Rattle.intmap.proofs.RunLaws.{size-single}
 use Rattle.intmap.proofs.StoreLaws.{found-in}
-use Rattle.copy_arms.specs.InPlace.{Alone, FoundAt, Leading, Alike}
+use Rattle.intmap.specs.Alike.{Alike}
+use Rattle.intmap.proofs.Overwritten.{alike-seek}
+use Rattle.copy_arms.specs.InPlace.{Alone, FoundAt, Leading}
 
 -- what the tests of a cell tell
 pub alone-here : (cs : List Cell) (a : IntMap) (p k : ℕ) (c : Cell) → c ≡ getD cs p blank → (key : ℕ) → key ≡ keyOf c → (tag : ℕ) → tag ≡ tagOf c → p < a .base + a .used → k ≤ 65535 → key ≡ classKey 0 k → not (eqb tag 2) ≡ true → Alone cs a p k
@@ -34,75 +33,15 @@ alone-here cs a p k c ce key ke tag te inside small same plain =
       plain = λ t. eqb-false tag 2 (not-true (eqb tag 2) plain) (te ∙ ap tagOf ce ∙ t);
     }
 
--- ---- a cell overwritten
-
-module _ (cs ds : List Cell) (q : ℕ) (c : Cell) (e : ds ≡ set cs q c) (fits : q < length cs) (old : tagOf (getD cs q blank) ≡ 2 → ⊥) (new : tagOf c ≡ 2 → ⊥) where
-  here : getD ds q blank ≡ c
-  here = ap (λ (l : List Cell). getD l q blank) e ∙ getD-set-same cs q c blank fits
-
-  other : (p : ℕ) → (p ≡ q → ⊥) → getD ds p blank ≡ getD cs p blank
-  other p ne = ap (λ (l : List Cell). getD l p blank) e ∙ getD-set-other cs q p c blank ne
-
-  sizes-here : (d : ℕ) → size ds d q ≡ size cs d q
-  sizes-here d = sym (size-single ds d q c (sym here) new) ∙ size-single cs d q (getD cs q blank) refl old
-
-  sizes-all : (d p : ℕ) → size ds d p ≡ size cs d p
-  unfolding size
-  sizes-all zero p = refl
-  sizes-all (suc d) p = go (ℕ-discrete p q) (sizes-all d)
-    where
-      go : Dec (p ≡ q) → ((p : ℕ) → size ds d p ≡ size cs d p) → size ds (suc d) p ≡ size cs (suc d) p
-      go (yes y) ih = ap (size ds (suc d)) y ∙ sizes-here (suc d) ∙ ap (size cs (suc d)) (sym y)
-      go (no n) ih =
-          ap (λ x. whole (size ds d) (eqb (tagOf x) 2) (x .payload) p) (other p n)
-          ∙ ap (λ f. whole f (eqb (tagOf (getD cs p blank)) 2) (getD cs p blank .payload) p) (λ i x. ih x i)
-
-  pub alike : keyOf c ≡ keyOf (getD cs q blank) → Alike cs ds
-  alike k = record { long = ap length e ∙ length-set cs q c; sizes = sizes-all; keys = λ p. go p (ℕ-discrete p q) }
-    where
-      go : (p : ℕ) → Dec (p ≡ q) → keyOf (getD ds p blank) ≡ keyOf (getD cs p blank)
-      go p (yes y) = ap (λ x. keyOf (getD ds x blank)) y ∙ ap keyOf here ∙ k ∙ ap (λ x. keyOf (getD cs x blank)) (sym y)
-      go p (no n) = ap keyOf (other p n)
-
-pub alike-same : (cs : List Cell) → Alike cs cs
-alike-same cs = record { long = refl; sizes = λ d p. refl; keys = λ p. refl }
-
-pub alike-then : {cs ds es : List Cell} → Alike cs ds → Alike ds es → Alike cs es
-alike-then f g = record { long = g .long ∙ f .long; sizes = λ d p. g .sizes d p ∙ f .sizes d p; keys = λ p. g .keys p ∙ f .keys p }
-
 -- ---- what stays
 
 module _ {cs ds : List Cell} (s : Alike cs ds) where
-  pub alike-seek : (d key n b : ℕ) → seek ds d key n b ≡ seek cs d key n b
-  unfolding seek
-  alike-seek d key zero b = refl
-  alike-seek d key (suc n) b = rw (s .keys b, s .sizes d b, alike-seek d key n (b + size cs d b))
-
-  alike-sizes : (d n b : ℕ) → sizes (size cs d) n b ≡ sizes (size ds d) n b
-  alike-sizes d n b = ap (λ f. sizes f n b) (λ i p. sym (s .sizes d p) i)
-
-  pub alike-map : {a : IntMap} → IsMap cs a → IsMap ds a
-  alike-map {a} is = record { used = is .used ∙ alike-sizes levels (a .len) (a .base); inside = omega (arith, is .inside, s .long); small = omega (arith, is .small, s .long) }
-
-  pub alike-room : {limit : ℕ} {a : IntMap} → HasRoom cs limit a → HasRoom ds limit a
-  alike-room {a = a} has =
-      record {
-        used = has .used ∙ alike-sizes levels (a .len) (a .base);
-        most = has .most;
-        room = omega (arith, has .room, s .long);
-        small = omega (arith, has .small, s .long);
-      }
-
   pub alike-found : {a : IntMap} {p k : ℕ} → FoundAt cs a p k → FoundAt ds a p k
   alike-found {a} {p} {k} f =
-      let same = alike-seek levels (classKey 0 k) (a .len) (a .base) in
+      let same = alike-seek s levels (classKey 0 k) (a .len) (a .base) in
       record { at = ap (λ w. w .at) same ∙ f .at; present = ap (λ w. w .present) same ∙ f .present }
 
 -- ---- the next cell
-
-passed : (cs : List Cell) (d key n b : ℕ) → keyOf (getD cs b blank) < key → seek cs d key (suc n) b ≡ seek cs d key n (b + size cs d b)
-unfolding seek
-passed cs d key n b lt = rw (lt-ltb (keyOf (getD cs b blank)) key lt)
 
 some-left : (f : ℕ → ℕ) (n b : ℕ) → 0 < sizes f n b → 0 < n
 unfolding sizes
@@ -118,7 +57,7 @@ module _ (cs : List Cell) (d key next : ℕ) (less : key < next) (p : ℕ) (one 
     where
       on : keyOf (getD cs b blank) < next → (q : ℕ) → b + size cs d b ≡ q → (seek cs d next n q .at ≡ p + 1) × (seek cs d next n q .present ≡ true) → (seek cs d next (suc n) b .at ≡ p + 1) × (seek cs d next (suc n) b .present ≡ true)
       on below q qe found =
-          let same = passed cs d next n b below ∙ ap (seek cs d next n) qe in
+          let same = seek-past cs d next n b below ∙ ap (seek cs d next n) qe in
           (ap (λ w. w .at) same ∙ found .0, ap (λ w. w .present) same ∙ found .1)
 
       go : (t : Bool) → ltb (keyOf (getD cs b blank)) key ≡ t → pick t (seek cs d key n (b + size cs d b)) (place b (suc n) (eqb (keyOf (getD cs b blank)) key)) .at ≡ p

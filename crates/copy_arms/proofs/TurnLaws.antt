@@ -25,7 +25,8 @@ use Rattle.copy_arms.specs.Gaps.{Gap}
 use Rattle.copy_arms.specs.InPlace.{Alone, Leading, CarriesCell, CarriesRun}
 use Rattle.copy_arms.proofs.CopyLaws.{regroup, carries-open, carries-end, carries-same, carries-on}
 use Rattle.copy_arms.proofs.GapLaws.{index-place}
-use Rattle.copy_arms.proofs.PlaceLaws.{leading-next, alike-map}
+use Rattle.intmap.proofs.Overwritten.{alike-map}
+use Rattle.copy_arms.proofs.PlaceLaws.{leading-next}
 
 -- ---- turns of the definition's loop
 

@@ -3,13 +3,13 @@ use mathlib.Core.Path.{_≡_}
 use mathlib.Core.Bool.{Bool, true}
 use mathlib.Core.List.{List}
 use Prim.Native.Nat.{ℕ, _+_, _<_, _≤_}
-use lib.ListN.{length, getD}
+use lib.ListN.{getD}
 use Rattle.area.specs.Cells.{blank}
 use Rattle.area.specs.declared.Cell.{Cell}
+use Rattle.intmap.specs.Alike.{Alike}
 use Rattle.intmap.specs.Find.{seek}
 use Rattle.intmap.specs.Map.{levels}
 use Rattle.intmap.specs.Pack.{tagOf, keyOf, classKey}
-use Rattle.intmap.specs.Runs.{size}
 use Rattle.intmap.specs.Signed.{offset, intOf}
 use Rattle.intmap.specs.declared.IntMap.{IntMap}
 use Rattle.intmap.specs.declared.Stored.the-variants as stored
@@ -32,12 +32,6 @@ pub record FoundAt (cs : List Cell) (a : IntMap) (p k : ℕ) : Type 0 where
 pub record Leading (cs : List Cell) (a : IntMap) (p k : ℕ) : Type 0 where
   pub most : p ≤ a .base + a .used
   pub found : Alone cs a p k → FoundAt cs a p k
-
--- runs begin and end in ds where they do in cs, and have the same keys
-pub record Alike (cs ds : List Cell) : Type 0 where
-  pub long : length ds ≡ length cs
-  pub sizes : (d p : ℕ) → size ds d p ≡ size cs d p
-  pub keys : (p : ℕ) → keyOf (getD ds p blank) ≡ keyOf (getD cs p blank)
 
 -- the same map then holds what a turn gives, from register k to register l
 pub record CarriesCell (cs ds : List Cell) (a : IntMap) (moves : Bool) (k l : ℕ) : Type 0 where

@@ -3,6 +3,7 @@ pub mod MapRuns
 pub mod StateRuns
 pub mod Lengths
 pub mod Standing
+pub mod Places
 pub mod Nesting
 pub mod Dense
 pub mod Heads

@@ -115,6 +115,20 @@ module _ {A : Type 0} (run : ℕ → A → List Cell) (keyed : (key : ℕ) (v : 
   runsBy [] = []
   runsBy (e ∷ es) = run (at (e .key)) (e .value) ∷ runsBy es
 
+  pub insert-by : ((i j : ℕ) → i < j → at i < at j) → (k : ℕ) (v : A) (es : List (Entry A)) → swap (at k) (run (at k) v ∷ []) (runsBy es) ≡ runsBy (insert k v es)
+  unfolding insert
+  insert-by rises k v [] = swap-from (at k) (run (at k) v ∷ []) [] tt
+  insert-by rises k v (e ∷ es) = by (compare k (e .key)) refl (insert-by rises k v es)
+    where
+      key : keyRun (run (at (e .key)) (e .value)) ≡ at (e .key)
+      key = keyed (at (e .key)) (e .value)
+
+      by : (o : Ordering) → compare k (e .key) ≡ o → swap (at k) (run (at k) v ∷ []) (runsBy es) ≡ runsBy (insert k v es)
+          → swap (at k) (run (at k) v ∷ []) (run (at (e .key)) (e .value) ∷ runsBy es) ≡ runsBy (insertBy o (k ⇒ v) e es (insert k v es))
+      by Ordering·lt c rest = swap-from (at k) _ _ (omega (arith, key, rises k (e .key) (compare-less k (e .key) c)))
+      by Ordering·eq c rest = swap-same (at k) _ _ (key ∙ ap at (sym (compare-same k (e .key) c))) _
+      by Ordering·gt c rest = swap-less (at k) _ _ (omega (arith, key, rises (e .key) k (compare-more k (e .key) c))) _ ∙ ap (λ l. run (at (e .key)) (e .value) ∷ l) rest
+
   module _ (rises : (i j : ℕ) → i < j → at i < at j) (k : ℕ) (P : ℕ → A → Type 0) where
     pub lookup-by : (low : ℕ) (es : List (Entry A)) → Rising P low es → lookup (at k) (runsBy es) ≡ Option·map (run (at k)) (get k es)
     lookup-by low [] s = lookup-from (at k) [] tt ∙ ap (Option·map (run (at k))) (sym (get-past P k (suc k) [] (omega arith) tt))
@@ -160,15 +174,7 @@ module _ {A : Type 0} (run : ℕ → A → List Cell) (keyed : (key : ℕ) (v : 
     its = classKey class k
 
     pub insert-map : (v : A) (es : List (Entry A)) → swap (classKey class k) (run (classKey class k) v ∷ []) (runMap run class es) ≡ runMap run class (insert k v es)
-    unfolding runMap insert
-    insert-map v [] = swap-from its (run its v ∷ []) [] tt
-    insert-map v (e ∷ es) = by (compare k (e .key)) refl (insert-map v es)
-      where
-        by : (o : Ordering) → compare k (e .key) ≡ o → swap its (run its v ∷ []) (runMap run class es) ≡ runMap run class (insert k v es)
-            → swap its (run its v ∷ []) (runEntry e ∷ runMap run class es) ≡ runMap run class (insertBy o (k ⇒ v) e es (insert k v es))
-        by Ordering·lt c rest = swap-from its _ _ (omega (arith, entry-key e, compare-less k (e .key) c))
-        by Ordering·eq c rest = swap-same its _ _ (omega (arith, entry-key e, compare-same k (e .key) c)) _
-        by Ordering·gt c rest = swap-less its _ _ (omega (arith, entry-key e, compare-more k (e .key) c)) _ ∙ ap (λ l. runEntry e ∷ l) rest
+    insert-map v es = ap (swap its (run its v ∷ [])) (sym (map-by es)) ∙ insert-by run keyed (classKey class) (λ i j lt. omega arith) k v es ∙ map-by (insert k v es)
 
     module _ (P : ℕ → A → Type 0) where
       pub lookup-map : (low : ℕ) (es : List (Entry A)) → Rising P low es → lookup (classKey class k) (runMap run class es) ≡ Option·map (run (classKey class k)) (get k es)

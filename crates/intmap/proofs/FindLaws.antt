@@ -31,6 +31,11 @@ module _ (cs : List Cell) (d key : ℕ) where
   seek-on zero at r x lt e h g = absurd (omega arith)
   seek-on (suc n) at r x lt e h g = let z : suc n - 1 ≡ n = omega arith in rw (z, g, ← e, lt-ltb (keyOf x) key h)
 
+  -- an entry whose key is below is passed
+  pub seek-past : (n at : ℕ) → keyOf (getD cs at blank) < key → seek cs d key (suc n) at ≡ seek cs d key n (at + size cs d at)
+  unfolding seek
+  seek-past n at lt = rw (lt-ltb (keyOf (getD cs at blank)) key lt)
+
 module _ (cs : List Cell) (d key : ℕ) where
   pub seek-from : (n p : ℕ) → p ≤ seek cs d key n p .at
   unfolding seek

@@ -13,3 +13,4 @@ pub mod JudgedLaws
 pub mod EqualLaws
 pub mod PackLaws
 pub mod ChangeLaws
+pub mod Overwritten

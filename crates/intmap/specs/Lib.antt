@@ -10,3 +10,4 @@ pub mod Store
 pub mod Signed
 pub mod Get
 pub mod Change
+pub mod Alike

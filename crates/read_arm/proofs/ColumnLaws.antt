@@ -3,7 +3,7 @@ use mathlib.Core.Path.{_≡_, refl, sym, ap, ap₂, _∙_}
 use mathlib.Core.Bool.{Bool, true, false, _&&_, not}
 use mathlib.Core.Option.{some}
 use mathlib.Core.List.{List, [], _∷_}
-use Prim.Native.Nat.{ℕ, _+_, _*_}
+use Prim.Native.Nat.{ℕ, _+_}
 use native.Mathlib.Omega.{arith}
 use lib.Dec.{eqb}
 use lib.IntN.{pos}
@@ -28,9 +28,9 @@ use Rattle.intmap.specs.declared.Insertion.the-variants as insertion
 use Rattle.intmap.proofs.EntryLaws.{total-sizes}
 use Rattle.intmap.proofs.StoreLaws.{frame-same}
 use Rattle.intmap.proofs.SignedLaws.{int-above, int-same}
-use Rattle.encoding.specs.Encode.{nullableCode, single, runColumn, columnRuns, runMap}
+use Rattle.encoding.specs.Encode.{nullableCode, single, runColumn, columnRuns}
 use Rattle.encoding.proofs.Packing.{column-key}
-use Rattle.encoding.proofs.MapRuns.{insert-map}
+use Rattle.encoding.proofs.MapRuns.{runsBy, insert-by}
 use Rattle.rows.specs.declared.Row.{Row}
 use Rattle.root_block.specs.Blocks.{pageOf, dbOf, columnOf, IsBlock}
 use Rattle.read_arm.specs.Gathers.{Adds}
@@ -62,17 +62,15 @@ column-plain c r is h =
 
 -- ---- among the columns gathered
 
-as-map : (es : List (Entry ColumnType)) → runMap runColumn 0 es ≡ columnRuns (asColumns es)
-unfolding runMap columnRuns asColumns
+as-map : (es : List (Entry ColumnType)) → runsBy runColumn column-key (λ k. k) es ≡ columnRuns (asColumns es)
+unfolding columnRuns asColumns
 as-map [] = refl
-as-map (e ∷ es) = let z : 0 * 65536 + e .key ≡ e .key = omega arith in ap₂ (λ k l. runColumn k (e .value) ∷ l) z (as-map es)
+as-map (e ∷ es) = ap (λ l. runColumn (e .key) (e .value) ∷ l) (as-map es)
 
 put-column : (k : ℕ) (v : ColumnType) (es : List (Entry ColumnType)) → put (runColumn k v) (columnRuns (asColumns es)) ≡ columnRuns (asColumns (insert k v es))
 put-column k v es =
-    let z : k ≡ 0 * 65536 + k = omega arith in
-    ap (λ j. swap j (runColumn k v ∷ []) (columnRuns (asColumns es))) (column-key k v)
-    ∙ ap₂ (λ j l. swap j (runColumn j v ∷ []) l) z (sym (as-map es))
-    ∙ insert-map runColumn column-key 0 k v es
+    ap₂ (λ j l. swap j (runColumn k v ∷ []) l) (column-key k v) (sym (as-map es))
+    ∙ insert-by runColumn column-key (λ j. j) (λ i j lt. lt) k v es
     ∙ as-map (insert k v es)
 
 module _ (limit : ℕ) (cs : List Cell) (m : IntMap) (c : Cell) (x : Row) where
