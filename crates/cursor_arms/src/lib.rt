@@ -108,6 +108,10 @@ pub fn read_cursor(map: IntMap, area: &[u8], i: u64) -> CursorDataType
     requires { ⌜ IsMap (cells (now area)) map ⌝ }
     ensures { λ r. ⌜ ReadsCursor (cells (now (area .entry))) map i r ⌝ }
 {
+    let own = state::own_cell(map, area, CURSORS, i);
+    if let Slot::At(p) = own {
+        return cursor_in(area::cell_at(area, p));
+    }
     let x = map.get(area, CURSORS, i);
     match x {
         Slot::Bad(n) => CursorDataType::Bad(n),

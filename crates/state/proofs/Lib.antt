@@ -1,3 +1,4 @@
 pub mod StoreLeads
 pub mod ReadLaws
 pub mod LeadsLaws
+pub mod OwnLaws

@@ -2,3 +2,4 @@ pub mod Leads
 pub mod Reads
 pub mod Arms
 pub mod Steps
+pub mod Own

@@ -1,19 +1,22 @@
 // Accesses to the state in the area by value: a register read, and values of one cell stored.
 ghost use mathlib.Core.Path.{_≡_};
-ghost use Prim.Native.Nat.{_<_};
-ghost use lib.ListN.{getD};
+ghost use Prim.Native.Nat.{_<_, _≤_};
+ghost use lib.ListN.{length, getD};
 ghost use mathlib.Core.Option.{none};
 ghost use Rattle.model.specs.State.{Column, Single, Int, datatypeCode};
 ghost use Rattle.model.specs.Access.{storeRegister};
 ghost use Rattle.area.specs.Cells.{cells};
 ghost use Rattle.intmap.specs.Map.{IsMap};
+ghost use Rattle.intmap.specs.Pack.{tagOf};
 ghost use Rattle.intmap.specs.Signed.{intOf};
 ghost use Rattle.encoding.specs.Encode.{single};
 ghost use Rattle.encoding.specs.Decode.{nullables};
 ghost use Rattle.rows.specs.Rows.{Operand};
 ghost use Rattle.state.specs.Leads.{Current, Leads};
+ghost use Rattle.state.specs.Own.{Narrower, Hints, Owns, StoresCell};
 ghost use Rattle.state.specs.Reads.{registerIn, Reads};
 use area::Cell;
+use intmap::Index;
 use intmap::IntMap;
 use intmap::Slot;
 use intmap::Stored;
@@ -77,6 +80,132 @@ pub fn single(d: DataType, nullable: u64) -> Cell
     }
 }
 
+// The cells among which a search looks on: from `low` on and below `high`.
+struct Span {
+    low: usize,
+    high: usize,
+}
+
+// The upper of two parts of a span, behind `mid`, or the lower, before p.
+fn part(s: Span, mid: usize, p: usize, upper: bool) -> Span
+    requires { ⌜ (s .low ≤ p) × (p ≤ mid) × (mid < s .high) ⌝ }
+    ensures { λ r. ⌜ Narrower s r ⌝ }
+{
+    if upper {
+        return Span {
+            low: mid + 1,
+            high: s.high,
+        };
+    }
+    Span {
+        low: s.low,
+        high: p,
+    }
+}
+
+// The nearest cell from `at` down to `low` that begins an entry, or `low`: the cells inside a record or table have lower keys than entries.
+fn entry_below(area: &[u8], low: usize, at: usize) -> usize
+    requires { ⌜ (low ≤ at) × (at < length (cells (now area))) × (length (cells (now area)) ≤ 1048576) ⌝ }
+    ensures { λ r. ⌜ (low ≤ r) × (r ≤ at) ⌝ }
+{
+    let mut p = at;
+    while low < p {
+        if 65535 < intmap::key_of(area::cell_at(area, p)) {
+            return p;
+        }
+        p -= 1;
+    }
+    low
+}
+
+// Looks for a key by halves. It says no more of a key that it does not find.
+fn by_halves(map: IntMap, area: &[u8], key: u64) -> Slot
+    requires { ⌜ IsMap (cells (now area)) map ⌝ }
+    ensures { λ r. ⌜ Hints (cells (now (area .entry))) map key r ⌝ }
+{
+    let mut s = Span {
+        low: map.base,
+        high: map.base + map.used,
+    };
+    while s.low < s.high {
+        let mid = s.low + (s.high - s.low) / 2;
+        let p = entry_below(area, s.low, mid);
+        let k = intmap::key_of(area::cell_at(area, p));
+        if k == key {
+            return Slot::At(p);
+        }
+        s = part(s, mid, p, k < key);
+    }
+    Slot::Absent
+}
+
+// Looks for a key where it stands if the entries before it have one cell each, and no key between is absent. It says no more of one that it does
+// not find.
+fn by_distance(map: IntMap, area: &[u8], key: u64) -> Slot
+    requires { ⌜ IsMap (cells (now area)) map ⌝ }
+    ensures { λ r. ⌜ Hints (cells (now (area .entry))) map key r ⌝ }
+{
+    if map.used == 0 {
+        return Slot::Absent;
+    }
+    let first = intmap::key_of(area::cell_at(area, map.base));
+    if key < first {
+        return Slot::Absent;
+    }
+    if (map.used as u64) <= key - first {
+        return Slot::Absent;
+    }
+    let p = map.base + (key - first) as usize;
+    if intmap::key_of(area::cell_at(area, p)) == key {
+        return Slot::At(p);
+    }
+    Slot::Absent
+}
+
+// Looks for a key where it may be found at once: a register's by its distance, since they stand close, and others by halves.
+fn hint(map: IntMap, area: &[u8], class: u64, key: u64) -> Slot
+    requires { ⌜ IsMap (cells (now area)) map ⌝ }
+    ensures { λ r. ⌜ Hints (cells (now (area .entry))) map key r ⌝ }
+{
+    if class == REGISTERS {
+        return by_distance(map, area, key);
+    }
+    by_halves(map, area, key)
+}
+
+// The cell of index i in a class, if it is found at once and is no record's. In cells that hold a state it is the entry.
+pub fn own_cell(map: IntMap, area: &[u8], class: u64, i: u64) -> Slot
+    requires { ⌜ IsMap (cells (now area)) map × (class < 3) ⌝ }
+    ensures { λ r. ⌜ Owns (cells (now (area .entry))) map class i r ⌝ }
+{
+    let x = intmap::judge_index(i);
+    let Index::At(k) = x else {
+        return Slot::Absent;
+    };
+    let found = hint(map, area, class, intmap::class_key(class, k));
+    let Slot::At(p) = found else {
+        return Slot::Absent;
+    };
+    if intmap::tag_of(area::cell_at(area, p)) == intmap::RECORD {
+        return Slot::Absent;
+    }
+    Slot::At(p)
+}
+
+// Stores a cell that is no record's under index i of a class: over its own cell, if that is found at once.
+pub fn store_cell(map: IntMap, area: &mut [u8], class: u64, i: u64, c: Cell, limit: usize) -> Stored
+    requires { ⌜ Current limit (cells (now area)) map × (class < 3) × (tagOf c ≡ 2 → ⊥) ⌝ }
+    ensures { λ r. ⌜ StoresCell limit (cells (now (area .entry))) (cells (now (area .exit))) map class i c r ⌝ }
+{
+    let own = own_cell(map, area, class, i);
+    let Slot::At(p) = own else {
+        return map.store_cell(area, class, i, c, limit);
+    };
+    let key = intmap::key_of(area::cell_at(area, p));
+    area::put_cell(area, p, intmap::with_key(c, key));
+    Stored::Done(map)
+}
+
 // Stores a plain column in register i.
 pub fn store_single(
     map: IntMap,
@@ -89,7 +218,7 @@ pub fn store_single(
     requires { ⌜ Current limit (cells (now area)) map × (nullable < 3) ⌝ }
     ensures { λ r. ⌜ Leads limit (cells (now (area .entry))) (cells (now (area .exit))) map r (storeRegister limit (intOf i) (Column (Single d (getD nullables nullable none)))) ⌝ }
 {
-    map.store_cell(area, REGISTERS, i, single(d, nullable), limit)
+    store_cell(map, area, REGISTERS, i, single(d, nullable), limit)
 }
 
 // Stores a known number, as an operand's word, in register i.
@@ -97,7 +226,8 @@ pub fn store_int(map: IntMap, area: &mut [u8], i: u64, value: u64, limit: usize)
     requires { ⌜ Current limit (cells (now area)) map × Operand value ⌝ }
     ensures { λ r. ⌜ Leads limit (cells (now (area .entry))) (cells (now (area .exit))) map r (storeRegister limit (intOf i) (Int (intOf value))) ⌝ }
 {
-    map.store_cell(
+    store_cell(
+        map,
         area,
         REGISTERS,
         i,
@@ -137,6 +267,10 @@ pub fn read_register(map: IntMap, area: &[u8], i: u64) -> Register
     requires { ⌜ IsMap (cells (now area)) map ⌝ }
     ensures { λ r. ⌜ Reads (cells (now (area .entry))) map i r ⌝ }
 {
+    let own = own_cell(map, area, REGISTERS, i);
+    if let Slot::At(p) = own {
+        return register_in(area::cell_at(area, p), p);
+    }
     let x = map.get(area, REGISTERS, i);
     match x {
         Slot::Bad(n) => Register::Bad(n),

@@ -1,4 +1,5 @@
 -- `state::store_int` stores one cell. Assumes nothing.
+use Rattle.state.proofs.OwnLaws.{cell-leads}
 use Rattle.state.proofs.StoreLeads.{int-leads}
 use borrow.Author.Needs.{needs}
 use Rattle.state.proofs.store_int.Statement.{statement}
@@ -11,7 +12,7 @@ same-length : tie.Need-same-length
 same-length c = search needs
 
 returns : tie.Need-returns
-returns c = int-leads _ _ _ _ _ _ _ (c .before .before .before .before .before .pre .1) (c .before .before .store-cell .ensures)
+returns c = cell-leads (c .before .before .store-cell .ensures) (int-leads _ _ _ _ _ _ _ (c .before .before .before .before .before .pre .1))
 
 pub store-int-spec : {M : Type 1} → statement M
 store-int-spec = tie.close (tie.spec store-cell-requires same-length returns)

@@ -1,4 +1,5 @@
 -- `state::store_single` stores one cell. Assumes nothing.
+use Rattle.state.proofs.OwnLaws.{cell-leads}
 use Rattle.state.proofs.StoreLeads.{single-leads}
 use mathlib.Core.Path.{ap}
 use native.Mathlib.Omega.{arith}
@@ -12,13 +13,13 @@ single-requires : tie.Need-single-requires
 single-requires c κs = search needs
 
 store-cell-requires : tie.Need-store-cell-requires
-store-cell-requires c κs = (c .before .before .before .pre .0 .room, omega arith, omega (arith, ap (λ x. tagOf x) (c .single .ensures), code-small (c .before .before .before .args .d)))
+store-cell-requires c κs = (c .before .before .before .pre .0, omega arith, omega (arith, ap (λ x. tagOf x) (c .single .ensures), code-small (c .before .before .before .args .d)))
 
 same-length : tie.Need-same-length
 same-length c = search needs
 
 returns : tie.Need-returns
-returns c = single-leads _ _ _ _ _ _ _ _ _ (c .before .before .before .before .before .before .pre .1) (c .before .before .before .single .ensures) (c .before .before .store-cell .ensures)
+returns c = cell-leads (c .before .before .store-cell .ensures) (single-leads _ _ _ _ _ _ _ _ _ (c .before .before .before .before .before .before .pre .1) (c .before .before .before .single .ensures))
 
 pub store-single-spec : {M : Type 1} → statement M
 store-single-spec = tie.close (tie.spec single-requires store-cell-requires same-length returns)

@@ -1,0 +1,50 @@
+-- `state::entry_below` goes down a cell a turn. The measure is how far it can go. Assumes nothing.
+use Prim.Native.Nat.{_-_, _≤_}
+use borrow.Author.Needs.{needs}
+use Rattle.state.proofs.entry_below.Statement.{statement}
+use Rattle.state.proofs.entry_below.Tie as tie
+
+abbrev Inv-loop : tie.InvT-loop
+Inv-loop area low at p₀ p = (low ≤ p) × (p ≤ at)
+
+abbrev μ-loop : tie.MeasureT-loop
+μ-loop area low at p₀ p = p - low
+
+loop-holds : tie.Need-loop-holds Inv-loop μ-loop
+loop-holds c = search needs
+
+cell-at-requires : tie.Need-cell-at-requires Inv-loop μ-loop
+cell-at-requires c κs = search needs
+
+key-of-requires : tie.Need-key-of-requires Inv-loop μ-loop
+key-of-requires c κs = search needs
+
+returns : tie.Need-returns Inv-loop μ-loop
+returns c = search needs
+
+sub-p : tie.Need-sub-p Inv-loop μ-loop
+sub-p c = search needs
+
+loop-less : tie.Need-loop-less Inv-loop μ-loop
+loop-less c = search needs
+
+loop-again : tie.Need-loop-again Inv-loop μ-loop
+loop-again c = search needs
+
+returns-2 : tie.Need-returns-2 Inv-loop μ-loop
+returns-2 c = search needs
+
+pub entry-below-spec : {M : Type 1} → statement M
+entry-below-spec =
+    tie.close
+    (tie.spec
+    Inv-loop
+    μ-loop
+    loop-holds
+    cell-at-requires
+    key-of-requires
+    returns
+    sub-p
+    loop-less
+    loop-again
+    returns-2)

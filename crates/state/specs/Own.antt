@@ -1,0 +1,56 @@
+-- An entry of one cell found where it stands, by its key. Only what is found is told: a cell of the map with that key, which in cells that hold a
+-- state is the entry. And what a store over it gives. Assumes nothing.
+use mathlib.Core.Path.{_≡_}
+use mathlib.Core.List.{List, [], _∷_}
+use Prim.Native.Nat.{ℕ, _+_, _-_, _<_, _≤_}
+use lib.ListN.{getD}
+use Rattle.model.specs.Walk.{done}
+use Rattle.model.specs.State.{MemoryState}
+use Rattle.model.specs.Access.{index}
+use Rattle.area.specs.Cells.{blank}
+use Rattle.area.specs.declared.Cell.{Cell}
+use Rattle.intmap.specs.Map.{Frame}
+use Rattle.intmap.specs.Pack.{tagOf, keyOf, classKey}
+use Rattle.intmap.specs.Signed.{intOf}
+use Rattle.intmap.specs.Store.{Stores}
+use Rattle.intmap.specs.declared.IntMap.{IntMap}
+use Rattle.intmap.specs.declared.Slot.{Slot}
+use Rattle.intmap.specs.declared.Slot.the-variants as slot
+use Rattle.intmap.specs.declared.Stored.{Stored}
+use Rattle.state.specs.Leads.{HoldsMap, Leaves}
+use Rattle.state.specs.declared.Span.{Span}
+
+-- a part of a span, and a smaller one
+pub record Narrower (s r : Span) : Type 0 where
+  pub low : s .low ≤ r .low
+  pub high : r .high ≤ s .high
+  pub less : r .high - r .low < s .high - s .low
+
+-- a cell of the map has the key
+pub record HasKey (cs : List Cell) (a : IntMap) (key p : ℕ) : Type 0 where
+  pub low : a .base ≤ p
+  pub inside : p < a .base + a .used
+  pub is : keyOf (getD cs p blank) ≡ key
+
+abbrev pub Hints : List Cell → IntMap → ℕ → Slot → Type 0
+Hints cs a key (slot.Bad n) = Unit {0}
+Hints cs a key slot.Absent = Unit {0}
+Hints cs a key (slot.At p) = HasKey cs a key p
+
+-- it is the one of index i in a class, and no record's
+pub record Own (cs : List Cell) (a : IntMap) (class i p : ℕ) : Type 0 where
+  pub place : ℕ
+  pub judged : index (intOf i) ≡ done place
+  pub has : HasKey cs a (classKey class place) p
+  pub plain : tagOf (getD cs p blank) ≡ 2 → ⊥
+
+abbrev pub Owns : List Cell → IntMap → ℕ → ℕ → Slot → Type 0
+Owns cs a class i (slot.Bad n) = Unit {0}
+Owns cs a class i slot.Absent = Unit {0}
+Owns cs a class i (slot.At p) = Own cs a class i p
+
+-- of cells that hold a state, the answer is that of a store of the cell under index i of a class
+pub record StoresCell (limit : ℕ) (cs ds : List Cell) (a : IntMap) (class i : ℕ) (c : Cell) (r : Stored) : Type 0 where
+  pub says : (bound : ℕ) (m : MemoryState) → HoldsMap limit bound cs a m → Stores cs ds limit a class i 0 (c ∷ []) r
+  pub leaves : Leaves limit ds a r
+  pub frame : Frame cs ds (a .base) limit
