@@ -1,21 +1,21 @@
--- A table of bytes says what a table of texts says: one law for any table, one for the texts of one length. Assumes nothing.
+-- A table of bytes says what a table of texts says, in whatever order: one law for any table, one for the texts of one length. Assumes nothing.
 use mathlib.Core.Path.{_≡_, refl, sym, ap, subst, _∙_}
-use mathlib.Core.Bool.{Bool, true, false, _&&_, and-eq-true-iff}
+use mathlib.Core.Bool.{Bool, true, false, not, _&&_, _||_, true≢false, and-eq-true-iff}
 use mathlib.Core.Option.{Option, none, some}
 use mathlib.Core.List.{List, [], _∷_, map}
 use Prim.Native.Nat.{ℕ, suc, _<_}
 use lib.Dec.{eqb, leb}
 use lib.ListN.{length}
 use borrow.Author.Tests.{eqb-true, eqb-false, leb-true}
-use Rattle.type_info.specs.Ascii.{equals, startsWith}
+use Rattle.type_info.specs.Ascii.{ascii, equals, startsWith}
 use Rattle.type_info.proofs.Words.{equals-starts, equals-other}
 use Rattle.model.specs.IntMap.{getIf}
-use Rattle.model.specs.TextTable.{Named, firstFor, orElse}
+use Rattle.model.specs.TextTable.{Named, firstFor, orElse, texts}
 use Rattle.model.proofs.TestLaws.{cases}
 use Rattle.opcode.specs.Lookup.{entries, sought, StandsFor}
 use Rattle.opcode.proofs.Arms.{NoneOf, oneOf, others}
 
-unfoldable pub numbersBelow : ℕ → List (Named ℕ) → Bool
+unfoldable numbersBelow : ℕ → List (Named ℕ) → Bool
 numbersBelow count [] = true
 numbersBelow count (e ∷ es) = leb (suc (e .value)) count && numbersBelow count es
 
@@ -29,6 +29,51 @@ first-below count given (a ∷ es) h e =
     step : (b : Bool) → a .value < count → orElse 0 (firstFor startsWith given es) < count → orElse 0 (getIf b (a .value) (firstFor startsWith given es)) < count
     step true k i = k
     step false k i = i
+
+-- the texts that start with `text` all start with `word`, or none does
+unfoldable settles : List ℕ → List ℕ → Bool
+settles text [] = true
+settles [] (w ∷ ws) = false
+settles (a ∷ text) (w ∷ ws) = not (eqb a w) || settles text ws
+
+settled : (given text word : List ℕ) → startsWith given text ≡ true → settles text word ≡ true → startsWith given word ≡ startsWith text word
+unfolding settles startsWith
+settled given text [] h k = refl
+settled given [] (w ∷ ws) h k = absurd (true≢false (sym k))
+settled [] (a ∷ text) (w ∷ ws) h k = absurd (true≢false (sym h))
+settled (b ∷ given) (a ∷ text) (w ∷ ws) h k =
+    let (first, rest) = and-eq-true-iff (eqb b a) (startsWith given text) .0 h in
+    ap (λ x. eqb x w && startsWith given ws) (eqb-true b a first) ∙ step (eqb a w) k (settled given text ws rest)
+  where
+    step :
+        (x : Bool) →
+        (not x || settles text ws) ≡ true →
+        (settles text ws ≡ true → startsWith given ws ≡ startsWith text ws) →
+        (x && startsWith given ws) ≡ (x && startsWith text ws)
+    step true s i = i s
+    step false s i = refl
+
+-- so with every text of a table: it has one answer for all that start with `text`
+unfoldable settlesEach : {A : Type 0} → List ℕ → List (Named A) → Bool
+settlesEach text [] = true
+settlesEach text (n ∷ ns) = settles text (n .text) && settlesEach text ns
+
+one-answer :
+    {A : Type 0} (given text : List ℕ) (ns : List (Named A)) →
+    startsWith given text ≡ true →
+    settlesEach text ns ≡ true →
+    firstFor startsWith given ns ≡ firstFor startsWith text ns
+unfolding settlesEach firstFor
+one-answer given text [] h e = refl
+one-answer given text (n ∷ ns) h e =
+    let (first, rest) = and-eq-true-iff (settles text (n .text)) (settlesEach text ns) .0 e in
+    ap (λ b. getIf b (n .value) (firstFor startsWith given ns)) (settled given text (n .text) h first) ∙
+    ap (getIf (startsWith text (n .text)) (n .value)) (one-answer given text ns h rest)
+
+-- so with every one of some texts, in two tables
+unfoldable allSettle : {A C : Type 0} → List (Named A) → List (Named C) → List (List ℕ) → Bool
+allSettle es ns [] = true
+allSettle es ns (t ∷ ts) = (settlesEach t es && settlesEach t ns) && allSettle es ns ts
 
 module _ {A : Type 0} where
   -- the texts of one length
@@ -69,59 +114,57 @@ module _ {A : Type 0} where
 
   -- what the numbers stand for, and what becomes of a text's value
   module _ {B : Type 0} (valueAt : ℕ → B) (value : Option A → B) (nothing : valueAt 0 ≡ value none) where
-    abbrev pub numbered : Named ℕ → List ℕ × B
-    numbered e = (e .text, valueAt (e .value))
+    -- the answers of the table and of the definition
+    abbrev told : List (Named ℕ) → List ℕ → B
+    told es text = valueAt (orElse 0 (firstFor startsWith text es))
 
-    abbrev pub named : Named A → List ℕ × B
-    named n = (n .text, value (some (n .value)))
+    abbrev said : List (Named A) → List ℕ → B
+    said ns text = value (firstFor startsWith text ns)
 
-    abbrev pickIf : Bool → B → B → B
-    pickIf true v rest = v
-    pickIf false v rest = rest
+    -- they are alike for a text that starts with one of those where they are tested
+    by-texts :
+        {C : Type 0} (es : List (Named ℕ)) (ns : List (Named A)) (given : List ℕ) (ts : List (Named C)) →
+        map (told es) (texts ts) ≡ map (said ns) (texts ts) →
+        allSettle es ns (texts ts) ≡ true →
+        (firstFor startsWith given ts ≡ none → told es given ≡ said ns given) →
+        told es given ≡ said ns given
+    unfolding texts allSettle firstFor
+    by-texts es ns given [] e s otherwise = otherwise refl
+    by-texts es ns given (t ∷ ts) e s otherwise =
+        let (both, rest) = and-eq-true-iff (settlesEach (t .text) es && settlesEach (t .text) ns) (allSettle es ns (texts ts)) .0 s in
+        let (first, second) = and-eq-true-iff (settlesEach (t .text) es) (settlesEach (t .text) ns) .0 both in
+        let here : told es (t .text) ≡ said ns (t .text) = cc in
+        let later : map (told es) (texts ts) ≡ map (said ns) (texts ts) = cc in
+        cases (startsWith given (t .text))
+        (λ h. ap (λ o. valueAt (orElse 0 o)) (one-answer given (t .text) es h first) ∙ here ∙ sym (ap value (one-answer given (t .text) ns h second)))
+        (λ h. by-texts es ns given ts later rest (λ n. otherwise (ap (λ b. getIf b (t .value) (firstFor startsWith given ts)) h ∙ n)))
 
-    pick : List ℕ → List (List ℕ × B) → B
-    pick given [] = value none
-    pick given (p ∷ ps) = pickIf (startsWith given (p .0)) (p .1) (pick given ps)
-
-    pick-numbered : (given : List ℕ) (es : List (Named ℕ)) → valueAt (orElse 0 (firstFor startsWith given es)) ≡ pick given (map numbered es)
-    unfolding firstFor pick
-    pick-numbered given [] = nothing
-    pick-numbered given (e ∷ es) = step (startsWith given (e .text)) (pick-numbered given es)
-      where
-        step :
-            (b : Bool) →
-            valueAt (orElse 0 (firstFor startsWith given es)) ≡ pick given (map numbered es) →
-            valueAt (orElse 0 (getIf b (e .value) (firstFor startsWith given es))) ≡ pickIf b (valueAt (e .value)) (pick given (map numbered es))
-        step true i = refl
-        step false i = i
-
-    pick-named : (given : List ℕ) (ns : List (Named A)) → value (firstFor startsWith given ns) ≡ pick given (map named ns)
-    unfolding firstFor pick
-    pick-named given [] = refl
-    pick-named given (n ∷ ns) = step (startsWith given (n .text)) (pick-named given ns)
-      where
-        step :
-            (b : Bool) →
-            value (firstFor startsWith given ns) ≡ pick given (map named ns) →
-            value (getIf b (n .value) (firstFor startsWith given ns)) ≡ pickIf b (value (some (n .value))) (pick given (map named ns))
-        step true i = refl
-        step false i = i
-
-    -- the table has the same texts with the same values, in the same order; its numbers are below `count`
-    abbrev pub Agrees : ℕ → List ℕ → List (Named A) → Type 0
+    -- the one test of a table: the answers are alike at every text of both, and these settle all others; its numbers are below `count`
+    unfoldable pub Agrees : ℕ → List ℕ → List (Named A) → Type 0
+    unfolding entries texts firstFor startsWith settles settlesEach allSettle numbersBelow ofLength ascii
     Agrees count table ns =
-        (map numbered (entries (length table) table) ≡ map named ns) × (numbersBelow count (entries (length table) table) ≡ true)
+        let es = entries (length table) table in
+        _≡_ {A = List B × List B × Bool}
+        (map (told es) (texts es), map (told es) (texts ns), (allSettle es ns (texts es) && allSettle es ns (texts ns)) && numbersBelow count es)
+        (map (said ns) (texts es), map (said ns) (texts ns), true)
 
     module _ (count : ℕ) (given : List ℕ) (ns : List (Named A)) where
       abbrev pub Result : ℕ → Option A → Type 0
       Result r found = StandsFor valueAt count (value found) r
 
       pub look-up : (table : List ℕ) {r : ℕ} → 0 < count → r ≡ sought given table → Agrees count table ns → Result r (firstFor startsWith given ns)
-      unfolding sought
+      unfolding sought Agrees
       look-up table some-count h e =
+          let es = entries (length table) table in
+          let (settle, below) = and-eq-true-iff (allSettle es ns (texts es) && allSettle es ns (texts ns)) (numbersBelow count es) .0 (ap (λ p. p .2) e) in
+          let (first, second) = and-eq-true-iff (allSettle es ns (texts es)) (allSettle es ns (texts ns)) .0 settle in
           record {
-            value = ap valueAt h ∙ pick-numbered given (entries (length table) table) ∙ ap (pick given) (e .0) ∙ sym (pick-named given ns);
-            below = subst (λ k. k < count) (sym h) (first-below count given (entries (length table) table) some-count (e .1));
+            value =
+                ap valueAt h ∙
+                by-texts es ns given es (ap (λ p. p .0) e) first
+                (λ untold. by-texts es ns given ns (ap (λ p. p .1) e) second
+                (λ unsaid. ap (λ o. valueAt (orElse 0 o)) untold ∙ nothing ∙ sym (ap value unsaid)));
+            below = subst (λ k. k < count) (sym h) (first-below count given es some-count below);
           }
 
     -- only texts of the given length, or none

@@ -114,61 +114,62 @@ pub fn opcode(name: &[u8]) -> u8
     long_opcode(name)
 }
 
-// One table for each length of a name.
+// The number of a name of fewer than 8 bytes: a table for each length, the frequent names first.
 fn short_opcode(name: &[u8]) -> u8
     requires { ⌜ length (now name) < 8 ⌝ }
     ensures { λ r. ⌜ IsOpcode (operationOf (now (name .entry))) r ⌝ }
 {
     match name.len() {
         2 => seek(
-            b"\x02Eq\x03\x02Ge\x03\x02Gt\x03\x02Le\x03\x02Lt\x03\x02Ne\x03\x02If\x07\x02Or\x1c",
+            b"\x02Ne\x03\x02Eq\x03\x02If\x07\x02Lt\x03\x02Le\x03\x02Gt\x03\x02Ge\x03\x02Or\x1c",
             name,
         ),
         3 => seek(b"\x03Not\x17\x03And\x1c\x03Add\x1c", name),
         4 => seek(
-            b"\x04Init\x01\x04Goto\x01\x04Next\x03\x04Once\x03\x04Prev\x03\x04Last\x08\x04Sort\x08\x04Jump\x0d\x04Cast\x16\x04Copy\x18\x04Move\x19\x04Blob\x20\x04Real\x1e\x04Null\x1b\x04Halt\x0e",
+            b"\x04Null\x1b\x04Next\x03\x04Goto\x01\x04Halt\x0e\x04Init\x01\x04Copy\x18\x04Move\x19\x04Once\x03\x04Prev\x03\x04Last\x08\x04Sort\x08\x04Jump\x0d\x04Cast\x16\x04Blob\x20\x04Real\x1e",
             name,
         ),
         5 => seek(
-            b"\x05Gosub\x02\x05Found\x03\x05IdxGE\x03\x05IdxGT\x03\x05IdxLE\x03\x05IdxLT\x03\x05IfNot\x03\x05VNext\x03\x05IfPos\x0f\x05Yield\x0c\x05SCopy\x17\x05Count\x1d\x05Rowid\x1d\x05BitOr\x1c",
+            b"\x05SCopy\x17\x05IdxGT\x03\x05IdxGE\x03\x05Rowid\x1d\x05Gosub\x02\x05IfNot\x03\x05Yield\x0c\x05Found\x03\x05IdxLE\x03\x05IdxLT\x03\x05VNext\x03\x05IfPos\x0f\x05Count\x1d\x05BitOr\x1c",
             name,
         ),
         6 => seek(
-            b"\x06ElseEq\x03\x06Filter\x03\x06SeekGE\x03\x06SeekGT\x03\x06SeekLE\x03\x06SeekLT\x03\x06IsNull\x04\x06Rewind\x08\x06Return\x0b\x06Column\x21\x06Insert\x23\x06Delete\x24\x06BitAnd\x1c\x06Divide\x1c\x06Concat\x1c",
+            b"\x06Column\x21\x06IsNull\x04\x06SeekGE\x03\x06SeekGT\x03\x06Return\x0b\x06Rewind\x08\x06Insert\x23\x06Delete\x24\x06ElseEq\x03\x06Filter\x03\x06SeekLE\x03\x06SeekLT\x03\x06BitAnd\x1c\x06Divide\x1c\x06Concat\x1c",
             name,
         ),
         7 => seek(
-            b"\x07Program\x03\x07VFilter\x03\x07NotNull\x05\x07RowData\x22\x07OpenDup\x26\x07NullRow\x29\x07AggStep\x14\x07IntCopy\x17\x07Integer\x1a\x07String8\x1f",
+            b"\x07Integer\x1a\x07NotNull\x05\x07String8\x1f\x07AggStep\x14\x07NullRow\x29\x07Program\x03\x07VFilter\x03\x07RowData\x22\x07OpenDup\x26\x07IntCopy\x17",
             name,
         ),
         _ => 0,
     }
 }
 
+// The number of a longer name, found in the same way.
 fn long_opcode(name: &[u8]) -> u8
     requires { ⌜ 8 ≤ length (now name) ⌝ }
     ensures { λ r. ⌜ IsOpcode (operationOf (now (name .entry))) r ⌝ }
 {
     match name.len() {
         8 => seek(
-            b"\x08FkIfZero\x01\x08IfNoHope\x03\x08SeekScan\x03\x08Sequence\x1d\x08OpenRead\x27\x08Variable\x11\x08Function\x13\x08AggValue\x14\x08AggFinal\x15\x08IdxRowid\x1d\x08NewRowid\x1d\x08Subtract\x1c\x08Multiply\x1c",
+            b"\x08OpenRead\x27\x08Function\x13\x08AggFinal\x15\x08AggValue\x14\x08Variable\x11\x08FkIfZero\x01\x08IfNoHope\x03\x08SeekScan\x03\x08Sequence\x1d\x08IdxRowid\x1d\x08NewRowid\x1d\x08Subtract\x1c\x08Multiply\x1c",
             name,
         ),
         9 => seek(
-            b"\x09IfNotOpen\x03\x09IfNotZero\x03\x09IfNullRow\x03\x09IfSmaller\x03\x09NotExists\x03\x09SeekRowid\x03\x09MustBeInt\x06\x09IdxInsert\x23\x09OpenWrite\x27\x09ShiftLeft\x1c\x09Remainder\x1c\x09ResultRow\x2a",
+            b"\x09ResultRow\x2a\x09OpenWrite\x27\x09IdxInsert\x23\x09NotExists\x03\x09SeekRowid\x03\x09IfNotOpen\x03\x09IfNotZero\x03\x09IfNullRow\x03\x09IfSmaller\x03\x09MustBeInt\x06\x09ShiftLeft\x1c\x09Remainder\x1c",
             name,
         ),
         10 => seek(
-            b"\x0aIncrVacuum\x03\x0aNoConflict\x03\x0aRowSetRead\x03\x0aRowSetTest\x03\x0aSorterNext\x03\x0aSorterSort\x08\x0aSorterData\x22\x0aMakeRecord\x10\x0aOpenPseudo\x25\x0aSorterOpen\x28\x0aHaltIfNull\x12\x0aShiftRight\x1c",
+            b"\x0aMakeRecord\x10\x0aSorterOpen\x28\x0aSorterSort\x08\x0aSorterData\x22\x0aSorterNext\x03\x0aIncrVacuum\x03\x0aNoConflict\x03\x0aRowSetRead\x03\x0aRowSetTest\x03\x0aOpenPseudo\x25\x0aHaltIfNull\x12\x0aShiftRight\x1c",
             name,
         ),
         11 => seek(b"\x0bOffsetLimit\x1d", name),
         12 => seek(
-            b"\x0cDecrJumpZero\x03\x0cIsNullOrType\x03\x0cSequenceTest\x03\x0cEndCoroutine\x0a\x0cSorterInsert\x23",
+            b"\x0cSorterInsert\x23\x0cEndCoroutine\x0a\x0cDecrJumpZero\x03\x0cIsNullOrType\x03\x0cSequenceTest\x03",
             name,
         ),
         13 => seek(
-            b"\x0dInitCoroutine\x09\x0dOpenEphemeral\x28\x0dOpenAutoindex\x28",
+            b"\x0dOpenEphemeral\x28\x0dInitCoroutine\x09\x0dOpenAutoindex\x28",
             name,
         ),
         _ => 0,

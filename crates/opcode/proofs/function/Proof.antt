@@ -3,10 +3,9 @@ use mathlib.Core.Path.{refl}
 use mathlib.Core.List.{[], _∷_}
 use Rattle.type_info.specs.Ascii.{ascii}
 use Rattle.model.specs.Functions.{builtIn, functionIn}
-use Rattle.opcode.specs.Lookup.{entries}
 use Rattle.opcode.specs.P4.{values, functionAt}
 use Rattle.opcode.proofs.Arms.{NoneOf, oneOf}
-use Rattle.opcode.proofs.Tables.{numbersBelow, ofLength, lengthsIn, look-up-length, look-up-none}
+use Rattle.opcode.proofs.Tables.{Agrees, lengthsIn, look-up-length, look-up-none}
 use native.Mathlib.Omega.{arith}
 use borrow.Author.Needs.{needs}
 use Rattle.opcode.proofs.function.Statement.{statement}
@@ -37,20 +36,20 @@ seek-requires-4 : tie.Need-seek-requires-4
 seek-requires-4 c κs = search needs
 
 returns : tie.Need-returns
-unfolding functionIn functionAt values builtIn entries numbersBelow ofLength ascii
-returns c = look-up-length functionAt (λ v. v) refl 5 (c .before .before .before .before .args .text .now) builtIn _ 8 (omega arith) (c .before .before .match .keys1) (c .seek .ensures) (refl, refl)
+unfolding functionIn functionAt values builtIn Agrees
+returns c = look-up-length functionAt (λ v. v) refl 5 (c .before .before .before .before .args .text .now) builtIn _ 8 (omega arith) (c .before .before .match .keys1) (c .seek .ensures) refl
 
 returns-2 : tie.Need-returns-2
-unfolding functionIn functionAt values builtIn entries numbersBelow ofLength ascii
-returns-2 c = look-up-length functionAt (λ v. v) refl 5 (c .before .before .before .before .args .text .now) builtIn _ 12 (omega arith) (c .before .before .match .keys2) (c .seek2 .ensures) (refl, refl)
+unfolding functionIn functionAt values builtIn Agrees
+returns-2 c = look-up-length functionAt (λ v. v) refl 5 (c .before .before .before .before .args .text .now) builtIn _ 12 (omega arith) (c .before .before .match .keys2) (c .seek2 .ensures) refl
 
 returns-3 : tie.Need-returns-3
-unfolding functionIn functionAt values builtIn entries numbersBelow ofLength ascii
-returns-3 c = look-up-length functionAt (λ v. v) refl 5 (c .before .before .before .before .args .text .now) builtIn _ 13 (omega arith) (c .before .before .match .keys3) (c .seek3 .ensures) (refl, refl)
+unfolding functionIn functionAt values builtIn Agrees
+returns-3 c = look-up-length functionAt (λ v. v) refl 5 (c .before .before .before .before .args .text .now) builtIn _ 13 (omega arith) (c .before .before .match .keys3) (c .seek3 .ensures) refl
 
 returns-4 : tie.Need-returns-4
-unfolding functionIn functionAt values builtIn entries numbersBelow ofLength ascii
-returns-4 c = look-up-length functionAt (λ v. v) refl 5 (c .before .before .before .before .args .text .now) builtIn _ 20 (omega arith) (c .before .before .match .keys4) (c .seek4 .ensures) (refl, refl)
+unfolding functionIn functionAt values builtIn Agrees
+returns-4 c = look-up-length functionAt (λ v. v) refl 5 (c .before .before .before .before .args .text .now) builtIn _ 20 (omega arith) (c .before .before .match .keys4) (c .seek4 .ensures) refl
 
 returns-5 : tie.Need-returns-5
 unfolding functionIn functionAt values builtIn lengthsIn NoneOf oneOf ascii
