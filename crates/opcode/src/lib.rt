@@ -115,32 +115,41 @@ pub fn opcode(name: &[u8]) -> u8
 }
 
 // The number of a name of fewer than 8 bytes: a table for each length, the frequent names first.
+// A table is a local of its arm: a byte string that is only borrowed would be stored in every call, where the function starts.
 fn short_opcode(name: &[u8]) -> u8
     requires { ⌜ length (now name) < 8 ⌝ }
     ensures { λ r. ⌜ IsOpcode (operationOf (now (name .entry))) r ⌝ }
 {
     match name.len() {
-        2 => seek(
-            b"\x02Ne\x03\x02Eq\x03\x02If\x07\x02Lt\x03\x02Le\x03\x02Gt\x03\x02Ge\x03\x02Or\x1c",
-            name,
-        ),
-        3 => seek(b"\x03Not\x17\x03And\x1c\x03Add\x1c", name),
-        4 => seek(
-            b"\x04Null\x1b\x04Next\x03\x04Goto\x01\x04Halt\x0e\x04Init\x01\x04Copy\x18\x04Move\x19\x04Once\x03\x04Prev\x03\x04Last\x08\x04Sort\x08\x04Jump\x0d\x04Cast\x16\x04Blob\x20\x04Real\x1e",
-            name,
-        ),
-        5 => seek(
-            b"\x05SCopy\x17\x05IdxGT\x03\x05IdxGE\x03\x05Rowid\x1d\x05Gosub\x02\x05IfNot\x03\x05Yield\x0c\x05Found\x03\x05IdxLE\x03\x05IdxLT\x03\x05VNext\x03\x05IfPos\x0f\x05Count\x1d\x05BitOr\x1c",
-            name,
-        ),
-        6 => seek(
-            b"\x06Column\x21\x06IsNull\x04\x06SeekGE\x03\x06SeekGT\x03\x06Return\x0b\x06Rewind\x08\x06Insert\x23\x06Delete\x24\x06ElseEq\x03\x06Filter\x03\x06SeekLE\x03\x06SeekLT\x03\x06BitAnd\x1c\x06Divide\x1c\x06Concat\x1c",
-            name,
-        ),
-        7 => seek(
-            b"\x07Integer\x1a\x07NotNull\x05\x07String8\x1f\x07AggStep\x14\x07NullRow\x29\x07Program\x03\x07VFilter\x03\x07RowData\x22\x07OpenDup\x26\x07IntCopy\x17",
-            name,
-        ),
+        2 => {
+            let names =
+                *b"\x02Ne\x03\x02Eq\x03\x02If\x07\x02Lt\x03\x02Le\x03\x02Gt\x03\x02Ge\x03\x02Or\x1c";
+            seek(&names, name)
+        }
+        3 => {
+            let names = *b"\x03Not\x17\x03And\x1c\x03Add\x1c";
+            seek(&names, name)
+        }
+        4 => {
+            let names =
+                *b"\x04Null\x1b\x04Next\x03\x04Goto\x01\x04Halt\x0e\x04Init\x01\x04Copy\x18\x04Move\x19\x04Once\x03\x04Prev\x03\x04Last\x08\x04Sort\x08\x04Jump\x0d\x04Cast\x16\x04Blob\x20\x04Real\x1e";
+            seek(&names, name)
+        }
+        5 => {
+            let names =
+                *b"\x05SCopy\x17\x05IdxGT\x03\x05IdxGE\x03\x05Rowid\x1d\x05Gosub\x02\x05IfNot\x03\x05Yield\x0c\x05Found\x03\x05IdxLE\x03\x05IdxLT\x03\x05VNext\x03\x05IfPos\x0f\x05Count\x1d\x05BitOr\x1c";
+            seek(&names, name)
+        }
+        6 => {
+            let names =
+                *b"\x06Column\x21\x06IsNull\x04\x06SeekGE\x03\x06SeekGT\x03\x06Return\x0b\x06Rewind\x08\x06Insert\x23\x06Delete\x24\x06ElseEq\x03\x06Filter\x03\x06SeekLE\x03\x06SeekLT\x03\x06BitAnd\x1c\x06Divide\x1c\x06Concat\x1c";
+            seek(&names, name)
+        }
+        7 => {
+            let names =
+                *b"\x07Integer\x1a\x07NotNull\x05\x07String8\x1f\x07AggStep\x14\x07NullRow\x29\x07Program\x03\x07VFilter\x03\x07RowData\x22\x07OpenDup\x26\x07IntCopy\x17";
+            seek(&names, name)
+        }
         _ => 0,
     }
 }
@@ -151,27 +160,34 @@ fn long_opcode(name: &[u8]) -> u8
     ensures { λ r. ⌜ IsOpcode (operationOf (now (name .entry))) r ⌝ }
 {
     match name.len() {
-        8 => seek(
-            b"\x08OpenRead\x27\x08Function\x13\x08AggFinal\x15\x08AggValue\x14\x08Variable\x11\x08FkIfZero\x01\x08IfNoHope\x03\x08SeekScan\x03\x08Sequence\x1d\x08IdxRowid\x1d\x08NewRowid\x1d\x08Subtract\x1c\x08Multiply\x1c",
-            name,
-        ),
-        9 => seek(
-            b"\x09ResultRow\x2a\x09OpenWrite\x27\x09IdxInsert\x23\x09NotExists\x03\x09SeekRowid\x03\x09IfNotOpen\x03\x09IfNotZero\x03\x09IfNullRow\x03\x09IfSmaller\x03\x09MustBeInt\x06\x09ShiftLeft\x1c\x09Remainder\x1c",
-            name,
-        ),
-        10 => seek(
-            b"\x0aMakeRecord\x10\x0aSorterOpen\x28\x0aSorterSort\x08\x0aSorterData\x22\x0aSorterNext\x03\x0aIncrVacuum\x03\x0aNoConflict\x03\x0aRowSetRead\x03\x0aRowSetTest\x03\x0aOpenPseudo\x25\x0aHaltIfNull\x12\x0aShiftRight\x1c",
-            name,
-        ),
-        11 => seek(b"\x0bOffsetLimit\x1d", name),
-        12 => seek(
-            b"\x0cSorterInsert\x23\x0cEndCoroutine\x0a\x0cDecrJumpZero\x03\x0cIsNullOrType\x03\x0cSequenceTest\x03",
-            name,
-        ),
-        13 => seek(
-            b"\x0dOpenEphemeral\x28\x0dInitCoroutine\x09\x0dOpenAutoindex\x28",
-            name,
-        ),
+        8 => {
+            let names =
+                *b"\x08OpenRead\x27\x08Function\x13\x08AggFinal\x15\x08AggValue\x14\x08Variable\x11\x08FkIfZero\x01\x08IfNoHope\x03\x08SeekScan\x03\x08Sequence\x1d\x08IdxRowid\x1d\x08NewRowid\x1d\x08Subtract\x1c\x08Multiply\x1c";
+            seek(&names, name)
+        }
+        9 => {
+            let names =
+                *b"\x09ResultRow\x2a\x09OpenWrite\x27\x09IdxInsert\x23\x09NotExists\x03\x09SeekRowid\x03\x09IfNotOpen\x03\x09IfNotZero\x03\x09IfNullRow\x03\x09IfSmaller\x03\x09MustBeInt\x06\x09ShiftLeft\x1c\x09Remainder\x1c";
+            seek(&names, name)
+        }
+        10 => {
+            let names =
+                *b"\x0aMakeRecord\x10\x0aSorterOpen\x28\x0aSorterSort\x08\x0aSorterData\x22\x0aSorterNext\x03\x0aIncrVacuum\x03\x0aNoConflict\x03\x0aRowSetRead\x03\x0aRowSetTest\x03\x0aOpenPseudo\x25\x0aHaltIfNull\x12\x0aShiftRight\x1c";
+            seek(&names, name)
+        }
+        11 => {
+            let names = *b"\x0bOffsetLimit\x1d";
+            seek(&names, name)
+        }
+        12 => {
+            let names =
+                *b"\x0cSorterInsert\x23\x0cEndCoroutine\x0a\x0cDecrJumpZero\x03\x0cIsNullOrType\x03\x0cSequenceTest\x03";
+            seek(&names, name)
+        }
+        13 => {
+            let names = *b"\x0dOpenEphemeral\x28\x0dInitCoroutine\x09\x0dOpenAutoindex\x28";
+            seek(&names, name)
+        }
         _ => 0,
     }
 }
@@ -227,10 +243,22 @@ fn function(text: &[u8]) -> u8
     ensures { λ r. ⌜ IsFunction (functionIn builtIn (now (text .entry))) r ⌝ }
 {
     match text.len() {
-        8 => seek(b"\x08date(-1)\x02\x08time(-1)\x02", text),
-        12 => seek(b"\x0cdatetime(-1)\x02\x0cstrftime(-1)\x02", text),
-        13 => seek(b"\x0djulianday(-1)\x03\x0dunixepoch(-1)\x04", text),
-        20 => seek(b"\x14last_insert_rowid(0)\x01", text),
+        8 => {
+            let texts = *b"\x08date(-1)\x02\x08time(-1)\x02";
+            seek(&texts, text)
+        }
+        12 => {
+            let texts = *b"\x0cdatetime(-1)\x02\x0cstrftime(-1)\x02";
+            seek(&texts, text)
+        }
+        13 => {
+            let texts = *b"\x0djulianday(-1)\x03\x0dunixepoch(-1)\x04";
+            seek(&texts, text)
+        }
+        20 => {
+            let texts = *b"\x14last_insert_rowid(0)\x01";
+            seek(&texts, text)
+        }
         _ => 0,
     }
 }
@@ -243,10 +271,11 @@ fn aggregate(text: &[u8]) -> u8
         return 0;
     }
     match text[0] {
-        b'c' | b'd' | b'l' | b'n' | b'p' | b'r' | b's' => seek(
-            b"\x06count(\x01\x0brow_number(\x01\x05rank(\x01\x0bdense_rank(\x01\x06ntile(\x01\x0dpercent_rank(\x02\x09cume_dist\x02\x04sum(\x03\x05lead(\x04\x04lag(\x04",
-            text,
-        ),
+        b'c' | b'd' | b'l' | b'n' | b'p' | b'r' | b's' => {
+            let texts =
+                *b"\x06count(\x01\x0brow_number(\x01\x05rank(\x01\x0bdense_rank(\x01\x06ntile(\x01\x0dpercent_rank(\x02\x09cume_dist\x02\x04sum(\x03\x05lead(\x04\x04lag(\x04";
+            seek(&texts, text)
+        }
         _ => 0,
     }
 }

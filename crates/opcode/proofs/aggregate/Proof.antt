@@ -57,7 +57,7 @@ returns-4 c = no-aggregate (c .before .before .before .before .before .before .b
 
 returns-5 : tie.Need-returns-5
 unfolding aggregateOf aggregateAt aggregates prefixes Agrees
-returns-5 c = look-up aggregateAt (orElse toOperand) refl 5 (c .before .before .before .before .before .before .args .text .now) prefixes _ (omega arith) (c .seek .ensures) refl
+returns-5 c = look-up aggregateAt (orElse toOperand) refl 5 (c .before .before .before .before .before .before .before .before .args .text .now) prefixes _ (omega arith) (c .seek .ensures) refl
 
 pub aggregate-spec : {M : Type 1} → statement M
 aggregate-spec =

@@ -37,19 +37,19 @@ seek-requires-4 c κs = search needs
 
 returns : tie.Need-returns
 unfolding functionIn functionAt values builtIn Agrees
-returns c = look-up-length functionAt (λ v. v) refl 5 (c .before .before .before .before .args .text .now) builtIn _ 8 (omega arith) (c .before .before .match .keys1) (c .seek .ensures) refl
+returns c = look-up-length functionAt (λ v. v) refl 5 (c .before .before .before .before .before .before .args .text .now) builtIn _ 8 (omega arith) (c .before .before .before .before .match .keys1) (c .seek .ensures) refl
 
 returns-2 : tie.Need-returns-2
 unfolding functionIn functionAt values builtIn Agrees
-returns-2 c = look-up-length functionAt (λ v. v) refl 5 (c .before .before .before .before .args .text .now) builtIn _ 12 (omega arith) (c .before .before .match .keys2) (c .seek2 .ensures) refl
+returns-2 c = look-up-length functionAt (λ v. v) refl 5 (c .before .before .before .before .before .before .args .text .now) builtIn _ 12 (omega arith) (c .before .before .before .before .match .keys2) (c .seek2 .ensures) refl
 
 returns-3 : tie.Need-returns-3
 unfolding functionIn functionAt values builtIn Agrees
-returns-3 c = look-up-length functionAt (λ v. v) refl 5 (c .before .before .before .before .args .text .now) builtIn _ 13 (omega arith) (c .before .before .match .keys3) (c .seek3 .ensures) refl
+returns-3 c = look-up-length functionAt (λ v. v) refl 5 (c .before .before .before .before .before .before .args .text .now) builtIn _ 13 (omega arith) (c .before .before .before .before .match .keys3) (c .seek3 .ensures) refl
 
 returns-4 : tie.Need-returns-4
 unfolding functionIn functionAt values builtIn Agrees
-returns-4 c = look-up-length functionAt (λ v. v) refl 5 (c .before .before .before .before .args .text .now) builtIn _ 20 (omega arith) (c .before .before .match .keys4) (c .seek4 .ensures) refl
+returns-4 c = look-up-length functionAt (λ v. v) refl 5 (c .before .before .before .before .before .before .args .text .now) builtIn _ 20 (omega arith) (c .before .before .before .before .match .keys4) (c .seek4 .ensures) refl
 
 returns-5 : tie.Need-returns-5
 unfolding functionIn functionAt values builtIn lengthsIn NoneOf oneOf ascii

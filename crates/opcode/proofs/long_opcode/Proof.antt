@@ -50,27 +50,27 @@ seek-requires-6 c κs = search needs
 
 returns : tie.Need-returns
 unfolding operationOf operationAt arms operations Agrees
-returns c = look-up-length operationAt (orElse noArm) refl 43 (c .before .before .before .before .args .name .now) operations _ 8 (omega arith) (c .before .before .match .keys1) (c .seek .ensures) refl
+returns c = look-up-length operationAt (orElse noArm) refl 43 (c .before .before .before .before .before .before .args .name .now) operations _ 8 (omega arith) (c .before .before .before .before .match .keys1) (c .seek .ensures) refl
 
 returns-2 : tie.Need-returns-2
 unfolding operationOf operationAt arms operations Agrees
-returns-2 c = look-up-length operationAt (orElse noArm) refl 43 (c .before .before .before .before .args .name .now) operations _ 9 (omega arith) (c .before .before .match .keys2) (c .seek2 .ensures) refl
+returns-2 c = look-up-length operationAt (orElse noArm) refl 43 (c .before .before .before .before .before .before .args .name .now) operations _ 9 (omega arith) (c .before .before .before .before .match .keys2) (c .seek2 .ensures) refl
 
 returns-3 : tie.Need-returns-3
 unfolding operationOf operationAt arms operations Agrees
-returns-3 c = look-up-length operationAt (orElse noArm) refl 43 (c .before .before .before .before .args .name .now) operations _ 10 (omega arith) (c .before .before .match .keys3) (c .seek3 .ensures) refl
+returns-3 c = look-up-length operationAt (orElse noArm) refl 43 (c .before .before .before .before .before .before .args .name .now) operations _ 10 (omega arith) (c .before .before .before .before .match .keys3) (c .seek3 .ensures) refl
 
 returns-4 : tie.Need-returns-4
 unfolding operationOf operationAt arms operations Agrees
-returns-4 c = look-up-length operationAt (orElse noArm) refl 43 (c .before .before .before .before .args .name .now) operations _ 11 (omega arith) (c .before .before .match .keys4) (c .seek4 .ensures) refl
+returns-4 c = look-up-length operationAt (orElse noArm) refl 43 (c .before .before .before .before .before .before .args .name .now) operations _ 11 (omega arith) (c .before .before .before .before .match .keys4) (c .seek4 .ensures) refl
 
 returns-5 : tie.Need-returns-5
 unfolding operationOf operationAt arms operations Agrees
-returns-5 c = look-up-length operationAt (orElse noArm) refl 43 (c .before .before .before .before .args .name .now) operations _ 12 (omega arith) (c .before .before .match .keys5) (c .seek5 .ensures) refl
+returns-5 c = look-up-length operationAt (orElse noArm) refl 43 (c .before .before .before .before .before .before .args .name .now) operations _ 12 (omega arith) (c .before .before .before .before .match .keys5) (c .seek5 .ensures) refl
 
 returns-6 : tie.Need-returns-6
 unfolding operationOf operationAt arms operations Agrees
-returns-6 c = look-up-length operationAt (orElse noArm) refl 43 (c .before .before .before .before .args .name .now) operations _ 13 (omega arith) (c .before .before .match .keys6) (c .seek6 .ensures) refl
+returns-6 c = look-up-length operationAt (orElse noArm) refl 43 (c .before .before .before .before .before .before .args .name .now) operations _ 13 (omega arith) (c .before .before .before .before .match .keys6) (c .seek6 .ensures) refl
 
 returns-7 : tie.Need-returns-7
 unfolding operationOf operationAt arms operations lengthsIn NoneOf oneOf ascii
