@@ -123,31 +123,31 @@ fn short_opcode(name: &[u8]) -> u8
     match name.len() {
         2 => {
             let names =
-                *b"\x02Ne\x03\x02Eq\x03\x02If\x07\x02Lt\x03\x02Le\x03\x02Gt\x03\x02Ge\x03\x02Or\x1c";
+                *b"\x02Ne\x03\x02Eq\x03\x02If\x07\x02Ge\x03\x02Le\x03\x02Lt\x03\x02Gt\x03\x02Or\x1c";
             seek(&names, name)
         }
         3 => {
-            let names = *b"\x03Not\x17\x03And\x1c\x03Add\x1c";
+            let names = *b"\x03Add\x1c\x03Not\x17\x03And\x1c";
             seek(&names, name)
         }
         4 => {
             let names =
-                *b"\x04Null\x1b\x04Next\x03\x04Goto\x01\x04Halt\x0e\x04Init\x01\x04Copy\x18\x04Move\x19\x04Once\x03\x04Prev\x03\x04Last\x08\x04Sort\x08\x04Jump\x0d\x04Cast\x16\x04Blob\x20\x04Real\x1e";
+                *b"\x04Goto\x01\x04Next\x03\x04Copy\x18\x04Halt\x0e\x04Null\x1b\x04Init\x01\x04Once\x03\x04Jump\x0d\x04Blob\x20\x04Move\x19\x04Real\x1e\x04Cast\x16\x04Last\x08\x04Sort\x08\x04Prev\x03";
             seek(&names, name)
         }
         5 => {
             let names =
-                *b"\x05SCopy\x17\x05IdxGT\x03\x05IdxGE\x03\x05Rowid\x1d\x05Gosub\x02\x05IfNot\x03\x05Yield\x0c\x05Found\x03\x05IdxLE\x03\x05IdxLT\x03\x05VNext\x03\x05IfPos\x0f\x05Count\x1d\x05BitOr\x1c";
+                *b"\x05Gosub\x02\x05Rowid\x1d\x05Yield\x0c\x05IfPos\x0f\x05IdxGT\x03\x05SCopy\x17\x05Found\x03\x05IfNot\x03\x05VNext\x03\x05Count\x1d\x05IdxLE\x03\x05IdxGE\x03\x05BitOr\x1c\x05IdxLT\x03";
             seek(&names, name)
         }
         6 => {
             let names =
-                *b"\x06Column\x21\x06IsNull\x04\x06SeekGE\x03\x06SeekGT\x03\x06Return\x0b\x06Rewind\x08\x06Insert\x23\x06Delete\x24\x06ElseEq\x03\x06Filter\x03\x06SeekLE\x03\x06SeekLT\x03\x06BitAnd\x1c\x06Divide\x1c\x06Concat\x1c";
+                *b"\x06Column\x21\x06Rewind\x08\x06Return\x0b\x06IsNull\x04\x06Insert\x23\x06SeekGE\x03\x06Delete\x24\x06Filter\x03\x06Concat\x1c\x06BitAnd\x1c\x06Divide\x1c\x06SeekGT\x03\x06ElseEq\x03\x06SeekLE\x03\x06SeekLT\x03";
             seek(&names, name)
         }
         7 => {
             let names =
-                *b"\x07Integer\x1a\x07NotNull\x05\x07String8\x1f\x07AggStep\x14\x07NullRow\x29\x07Program\x03\x07VFilter\x03\x07RowData\x22\x07OpenDup\x26\x07IntCopy\x17";
+                *b"\x07Integer\x1a\x07String8\x1f\x07AggStep\x14\x07NullRow\x29\x07OpenDup\x26\x07NotNull\x05\x07IntCopy\x17\x07Program\x03\x07VFilter\x03\x07RowData\x22";
             seek(&names, name)
         }
         _ => 0,
@@ -162,17 +162,17 @@ fn long_opcode(name: &[u8]) -> u8
     match name.len() {
         8 => {
             let names =
-                *b"\x08OpenRead\x27\x08Function\x13\x08AggFinal\x15\x08AggValue\x14\x08Variable\x11\x08FkIfZero\x01\x08IfNoHope\x03\x08SeekScan\x03\x08Sequence\x1d\x08IdxRowid\x1d\x08NewRowid\x1d\x08Subtract\x1c\x08Multiply\x1c";
+                *b"\x08OpenRead\x27\x08Variable\x11\x08NewRowid\x1d\x08Function\x13\x08AggFinal\x15\x08IdxRowid\x1d\x08AggValue\x14\x08FkIfZero\x01\x08Subtract\x1c\x08Multiply\x1c\x08Sequence\x1d\x08IfNoHope\x03\x08SeekScan\x03";
             seek(&names, name)
         }
         9 => {
             let names =
-                *b"\x09ResultRow\x2a\x09OpenWrite\x27\x09IdxInsert\x23\x09NotExists\x03\x09SeekRowid\x03\x09IfNotOpen\x03\x09IfNotZero\x03\x09IfNullRow\x03\x09IfSmaller\x03\x09MustBeInt\x06\x09ShiftLeft\x1c\x09Remainder\x1c";
+                *b"\x09ResultRow\x2a\x09IdxInsert\x23\x09OpenWrite\x27\x09SeekRowid\x03\x09MustBeInt\x06\x09NotExists\x03\x09IfNotZero\x03\x09Remainder\x1c\x09IfNullRow\x03\x09ShiftLeft\x1c\x09IfNotOpen\x03\x09IfSmaller\x03";
             seek(&names, name)
         }
         10 => {
             let names =
-                *b"\x0aMakeRecord\x10\x0aSorterOpen\x28\x0aSorterSort\x08\x0aSorterData\x22\x0aSorterNext\x03\x0aIncrVacuum\x03\x0aNoConflict\x03\x0aRowSetRead\x03\x0aRowSetTest\x03\x0aOpenPseudo\x25\x0aHaltIfNull\x12\x0aShiftRight\x1c";
+                *b"\x0aMakeRecord\x10\x0aSorterOpen\x28\x0aOpenPseudo\x25\x0aSorterSort\x08\x0aSorterData\x22\x0aSorterNext\x03\x0aHaltIfNull\x12\x0aRowSetTest\x03\x0aNoConflict\x03\x0aRowSetRead\x03\x0aShiftRight\x1c\x0aIncrVacuum\x03";
             seek(&names, name)
         }
         11 => {
@@ -181,11 +181,11 @@ fn long_opcode(name: &[u8]) -> u8
         }
         12 => {
             let names =
-                *b"\x0cSorterInsert\x23\x0cEndCoroutine\x0a\x0cDecrJumpZero\x03\x0cIsNullOrType\x03\x0cSequenceTest\x03";
+                *b"\x0cSorterInsert\x23\x0cEndCoroutine\x0a\x0cDecrJumpZero\x03\x0cSequenceTest\x03\x0cIsNullOrType\x03";
             seek(&names, name)
         }
         13 => {
-            let names = *b"\x0dOpenEphemeral\x28\x0dInitCoroutine\x09\x0dOpenAutoindex\x28";
+            let names = *b"\x0dInitCoroutine\x09\x0dOpenEphemeral\x28\x0dOpenAutoindex\x28";
             seek(&names, name)
         }
         _ => 0,
