@@ -35,27 +35,65 @@ fn states() -> Vec<Case> {
         case("17 diamonds", with(&[&diamonds(17, 0, 0), &ends])),
         case("16 times three ways", with(&[&three, &[("Goto", 0, 0, 0)]])),
         case("three new states a row", with(&[&outside, &[("If", 9, 0, 0), ("Goto", 0, 0, 0)]])),
-        case("8,000 states of one hash", one_hash(27)),
-        case("the same with different hashes", one_hash(28)),
+        case("8,000 states of one hash", one_hash(0)),
+        case("the same with different hashes", one_hash(1)),
         case("a loop of Ifs", with(&[&loops, &diamonds(8, 0, 8), &[("Goto", 0, 0, 0)]])),
     ]
 }
 
-/// 8,000 states at one row whose registers differ by multiples of (1, -27, 1), each offered 15 times. The port's hash of a state is
-/// a sum of its words times powers of b^2 modulo m, where b = 2^32 and m = b^2 - 5 b - 1, and b^4 - 27 b^2 + 1 is 0 there.
-fn one_hash(step: i64) -> Vec<Row> {
+/// The port's hash of a state (crates/branches/specs/Hash.antt): a word goes in.
+fn stir(s: u64) -> u64 {
+    (s & 0xffff_ffff) * 4_294_967_291 + (s >> 32)
+}
+
+/// And so that the sum's halves are multiplied.
+fn fold(h: u64, x: u64) -> u64 {
+    let s = h.wrapping_add(x);
+    s.wrapping_add((s & 0xffff_ffff) * (s >> 32))
+}
+
+/// The hash behind a register's head and its known number, and before its number.
+fn headed(h: u64, register: u64) -> u64 {
+    fold(h, 3 + ((65_536 + register) << 24))
+}
+
+fn numbered(h: u64, number: i64) -> u64 {
+    stir(h.wrapping_add((1 << 63) ^ number as u64))
+}
+
+/// Numbers for two registers, so many pairs, that all lead from the hash h to one hash, which is given too. Where the first number changes by d,
+/// what is then folded changes by a parabola in d; near its vertex by so little that the second number makes up for it.
+fn pairs(h: u64, register: u64, many: i64) -> (Vec<(i64, i64)>, u64) {
+    let after = |x: i64| headed(numbered(headed(h, register), x), register + 1);
+    let slope = |x: i64| after(x + 1).wrapping_sub(after(x)) as i64;
+    let vertex = |from: i64| {
+        let near = (0..6).fold(from, |x, _| (x + slope(x) / 10).clamp(-2_000_000_000, 2_000_000_000));
+        (slope(near).abs() <= 10).then_some(near)
+    };
+    let top = (-15..16).find_map(|i| vertex(i << 27)).expect("a parabola has a vertex within the numbers");
+    let second = |x: i64| after(top).wrapping_sub(after(x)) as i64;
+    let found = (top - many / 2..top - many / 2 + many).map(|x| (x, second(x))).collect();
+    (found, numbered(after(top), 0))
+}
+
+/// 8,000 states at one row, each offered 15 times: of one hash, or, with the second numbers one larger, of different ones.
+fn one_hash(off: i64) -> Vec<Row> {
     let mut rows: Vec<Row> = Vec::new();
-    let (ways, length) = (20, 5);
+    let (ways, length) = (20, 4);
+    let end = 3 * ways * length + 5;
+    let mut hash = numbered(0, end);
     for group in 0..3 {
         let join = (group + 1) * ways * length;
-        for way in 0..ways {
-            let next = rows.len() as i64 + length;
-            rows.push(("Eq", 0, next.min(join - 1), 0));
-            rows.extend((0..3).map(|k| ("Integer", if k == 1 { 1_000 - step * way } else { way }, 3 * group + k, 0)));
+        let (numbers, next) = pairs(hash, 2 * group as u64, ways);
+        hash = next;
+        for (way, (first, second)) in numbers.into_iter().enumerate() {
+            let other = rows.len() as i64 + length;
+            rows.push(("Eq", 0, other.min(join - 1), 0));
+            rows.push(("Integer", first, 2 * group, 0));
+            rows.push(("Integer", second + off * way as i64, 2 * group + 1, 0));
             rows.push(("Goto", 0, join, 0));
         }
     }
-    let end = rows.len() as i64 + 5;
     rows.extend([("Jump", end, end, end); 5]);
     rows.push(("Halt", 0, 0, 0));
     rows
