@@ -7,10 +7,10 @@ use native.Mathlib.Omega.{arith}
 use lib.ListN.{getD}
 use lib.Dec.{eqb}
 use borrow.Author.Tests.{eq-eqb, ne-eqb, eqb-true}
-use Rattle.area.specs.Cells.{blank}
+use Rattle.area.specs.Cells.{blank, cells, Inside}
 use Rattle.area.specs.declared.Cell.{Cell}
 use Rattle.intmap.specs.Pack.{tagOf}
-use Rattle.intmap.specs.Runs.{sizes, whole, size, sameCell, eachSame, inside, eqColumn, eqColumns}
+use Rattle.intmap.specs.Runs.{sizes, whole, size, IsColumn, sameCell, eachSame, inside, eqColumn, eqColumns}
 
 pub size-none : (cs : List Cell) (d at : ℕ) → d ≡ 0 → 1 ≡ size cs d at
 unfolding size
@@ -58,6 +58,10 @@ pub size-pos : (cs : List Cell) (d at : ℕ) → 1 ≤ size cs d at
 unfolding size
 size-pos cs zero at = omega arith
 size-pos cs (suc d) at = whole-pos (size cs d) (eqb (tagOf (getD cs at blank)) 2) (getD cs at blank .payload) at
+
+-- a column's first cell lies within the area
+pub first-inside : (xs : List ℕ) (d at : ℕ) → IsColumn (cells xs) d at → Inside xs at 1
+first-inside xs d at is = record { within = omega (arith, is .fits, size-pos (cells xs) d at); small = is .small }
 
 -- what the first part and the second of a test that holds say
 pub and-left : (x y : Bool) → x && y ≡ true → x ≡ true

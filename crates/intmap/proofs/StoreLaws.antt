@@ -15,7 +15,7 @@ use Rattle.area.specs.declared.Cell.{Cell}
 use Rattle.area.proofs.MoveLaws.{moved-below, moved-above, moved-in, length-moved}
 use Rattle.intmap.specs.Pack.{tagOf, withKey}
 use Rattle.intmap.specs.Pick.{pick}
-use Rattle.intmap.specs.Runs.{size, sizes, Agree}
+use Rattle.intmap.specs.Runs.{size, sizes, IsColumn, Agree}
 use Rattle.intmap.specs.Find.{seek}
 use Rattle.intmap.specs.Entries.{Runs, span, entries, keyRun, total}
 use Rattle.intmap.specs.Swap.{swap, lookup}
@@ -52,6 +52,9 @@ module _ (cs : List Cell) (m : IntMap) (key : ℕ) (w : Found) (is : IsMap cs m)
 
   pub found-all : w .present ≡ true → w .at + size cs levels (w .at) ≤ m .base + m .used
   found-all h = omega (arith, found-whole cs levels key (m .len) (m .base) w we h, is .used)
+
+  pub found-column : w .present ≡ true → IsColumn cs levels (w .at)
+  found-column h = record { fits = omega (arith, found-all h, is .inside); small = is .small }
 
   pub found-pos : w .present ≡ true → 0 < m .len
   found-pos h = seek-pos cs levels key (m .len) (m .base) (rw we at h)

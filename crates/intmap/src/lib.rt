@@ -341,6 +341,33 @@ pub fn class_key(class: u64, index: u64) -> u64
     class * 65536 + 65536 + index
 }
 
+// Looks for a key among the n columns from `at` on, where records nest at most `depth` deep.
+pub fn find_from(area: &[u8], at: usize, n: u64, key: u64, depth: usize) -> Found
+    requires { ⌜ AreColumns (cells (now area)) depth n at ⌝ }
+    ensures { λ r. ⌜ r ≡ seek (cells (now (area .entry))) depth key n at ⌝ }
+{
+    let mut p = at;
+    let mut rest = n;
+    while 0 < rest {
+        let c = area::cell_at(area, p);
+        let k = c.head / 16777216;
+        if key <= k {
+            return Found {
+                at: p,
+                left: rest,
+                present: k == key,
+            };
+        }
+        p += count_from(area, p, c, depth);
+        rest -= 1;
+    }
+    Found {
+        at: p,
+        left: 0,
+        present: false,
+    }
+}
+
 // An insertion's answer with 01's number.
 fn as_stored(x: Insertion) -> Stored
     ensures { λ r. ⌜ r ≡ asStored x ⌝ }
@@ -368,26 +395,7 @@ impl IntMap {
         requires { ⌜ IsMap (cells (now area)) self ⌝ }
         ensures { λ r. ⌜ r ≡ seek (cells (now (area .entry))) levels key (self .len) (self .base) ⌝ }
     {
-        let mut at = self.base;
-        let mut left = self.len;
-        while 0 < left {
-            let c = area::cell_at(area, at);
-            let k = c.head / 16777216;
-            if key <= k {
-                return Found {
-                    at,
-                    left,
-                    present: k == key,
-                };
-            }
-            at += count_from(area, at, c, LEVELS);
-            left -= 1;
-        }
-        Found {
-            at,
-            left: 0,
-            present: false,
-        }
+        find_from(area, self.base, self.len, key, LEVELS)
     }
 
     // Makes room for n cells in the place of the `old` cells at `at`, with `len` entries then, unless that makes more than `limit` cells.
@@ -422,7 +430,8 @@ impl IntMap {
         let at = found.at;
         let there = found.present;
         if there {
-            let old = count(area, at, LEVELS);
+            let c = area::cell_at(area, at);
+            let old = count_from(area, at, c, LEVELS);
             return self.make_room(area, at, old, n, self.len, limit);
         }
         self.make_room(area, at, 0, n, self.len + 1, limit)
@@ -479,7 +488,8 @@ impl IntMap {
         let at = found.at;
         let there = found.present;
         if there {
-            let old = count(area, at, LEVELS);
+            let c = area::cell_at(area, at);
+            let old = count_from(area, at, c, LEVELS);
             area::move_cells(area, at + old, at, base + used - at - old);
             return IntMap {
                 base,

@@ -2,25 +2,28 @@
 use native.Mathlib.Omega.{arith}
 use borrow.Author.Needs.{needs}
 use Rattle.area.specs.Cells.{cells}
-use Rattle.intmap.proofs.StoreLaws.{room-map, few-entries, found-in, found-all, opened-old, opened-new}
+use Rattle.intmap.proofs.RunLaws.{first-inside}
+use Rattle.intmap.proofs.StoreLaws.{room-map, few-entries, found-in, found-all, found-column, opened-old, opened-new}
 use Rattle.intmap.proofs.IntMap.room_for.Statement.{statement}
 use Rattle.intmap.proofs.IntMap.room_for.Tie as tie
 
 find-requires : tie.Need-find-requires
 find-requires c κs = room-map (c .before .before .pre .0)
 
-count-requires : tie.Need-count-requires
-count-requires c κs = let found = c .before .before in
-    let has = found .before .before .before .pre .0 in
-    let a = found-all _ _ _ _ (room-map has) (found .find .ensures) (c .before .if1 .taken) in
-    record { fits = omega (arith, a, has); small = has .small }
+cell-at-requires : tie.Need-cell-at-requires
+cell-at-requires c κs = let found = c .before .before in
+    first-inside _ _ _ (found-column _ _ _ _ (room-map (found .before .before .before .pre .0)) (found .find .ensures) (c .before .if1 .taken))
+
+count-from-requires : tie.Need-count-from-requires
+count-from-requires c κs = let found = c .before .before .before .before in
+    (found-column _ _ _ _ (room-map (found .before .before .before .pre .0)) (found .find .ensures) (c .before .before .before .if1 .taken), c .before .cell-at .ensures)
 
 make-room-requires : tie.Need-make-room-requires
-make-room-requires c κs = let found = c .before .before .before .before in
+make-room-requires c κs = let found = c .before .before .before .before .before .before in
     let pre = found .before .before .before .pre in
     let is = room-map (pre .0) in
-    let a = found-all _ _ _ _ is (found .find .ensures) (c .before .before .before .if1 .taken) in
-    (pre .0, found-in _ _ _ _ is (found .find .ensures) .0, omega (arith, a, c .before .count .ensures), pre .1)
+    let a = found-all _ _ _ _ is (found .find .ensures) (c .before .before .before .before .before .if1 .taken) in
+    (pre .0, found-in _ _ _ _ is (found .find .ensures) .0, omega (arith, a, c .before .count-from .ensures), pre .1)
 
 same-length : tie.Need-same-length
 same-length c = search needs
@@ -28,10 +31,10 @@ same-length c = search needs
 returns : tie.Need-returns
 returns c = let made = c .before .before in
     let counted = made .before .before in
-    let tested = counted .before .before in
+    let tested = counted .before .before .before .before in
     let found = tested .before in
     let a = found .before .before .before .args in
-    opened-old (cells (a .area .now)) (cells (made .make-room .last .1 .0)) (a .limit) (a .self) _ _ (a .n) (made .make-room .result) (found .find .ensures) _ (tested .if1 .taken) (counted .count .ensures) (made .make-room .ensures)
+    opened-old (cells (a .area .now)) (cells (made .make-room .last .1 .0)) (a .limit) (a .self) _ _ (a .n) (made .make-room .result) (found .find .ensures) _ (tested .if1 .taken) (counted .count-from .ensures) (made .make-room .ensures)
 
 add-make-room : tie.Need-add-make-room
 add-make-room c = let is = room-map (c .before .before .before .before .before .before .pre .0) in omega (arith, few-entries _ _ is, is .inside, is .small)
@@ -57,7 +60,8 @@ room-for-spec =
     tie.close
     (tie.spec
     find-requires
-    count-requires
+    cell-at-requires
+    count-from-requires
     make-room-requires
     same-length
     returns
