@@ -1,15 +1,13 @@
 // Registers one after the other as columns, and the arm of `explain` that makes a record of them, OP_MAKE_RECORD. Translated from sqlx-sqlite
 // 0.9.0, src/connection/explain.rs. No number of registers, however large, makes more turns than there are entries and cells in a state.
 ghost use mathlib.Core.Path.{_≡_};
-ghost use mathlib.Core.Bool.{false};
 ghost use Prim.Native.Nat.{ℕ, _+_, _<_, _≤_};
 ghost use lib.ListN.{length, getD};
 ghost use Rattle.model.specs.Operation.{opMakeRecord};
 ghost use Rattle.area.specs.Cells.{blank, cells};
 ghost use Rattle.intmap.specs.Map.{levels, runsAt, IsMap};
 ghost use Rattle.intmap.specs.Pack.{classKey};
-ghost use Rattle.intmap.specs.Runs.{size, IsColumn, AreColumns};
-ghost use Rattle.intmap.specs.Find.{seek};
+ghost use Rattle.intmap.specs.Runs.{IsColumn};
 ghost use Rattle.intmap.specs.Signed.{intOf};
 ghost use Rattle.encoding.specs.Heads.{asColumn};
 ghost use Rattle.rows.specs.Rows.{Fits};
@@ -17,7 +15,6 @@ ghost use Rattle.state.specs.Leads.{Current, Leads};
 ghost use Rattle.state.specs.Arms.{RegisterArm};
 ghost use Rattle.record_arms.specs.Records.{JudgesRange, deepAt, anyDeep, Flat, Puttable, PutsColumn, PutsColumns, BuildsRecord, recordFrom};
 use area::Cell;
-use intmap::Found;
 use intmap::Index;
 use intmap::IntMap;
 use intmap::Stored;
@@ -63,17 +60,6 @@ pub fn judge_range(i: u64, n: u64) -> Range
     Range::From(first)
 }
 
-// How many cells the entry at `at` takes, of which c is the first. Only a record's are counted.
-fn entry_cells(area: &[u8], at: usize, c: Cell) -> usize
-    requires { ⌜ IsColumn (cells (now area)) levels at × (c ≡ getD (cells (now area)) at blank) ⌝ }
-    ensures { λ r. ⌜ r ≡ size (cells (now (area .entry))) levels at ⌝ }
-{
-    if intmap::tag_of(c) != intmap::RECORD {
-        return 1;
-    }
-    intmap::count(area, at, intmap::LEVELS)
-}
-
 // Whether the entry at `at`, of which c is the first cell, has a key from `first` on, and a record in it would nest too deep within another.
 fn is_deep(area: &[u8], at: usize, c: Cell, first: u64) -> bool
     requires { ⌜ IsColumn (cells (now area)) levels at × (c ≡ getD (cells (now area)) at blank) ⌝ }
@@ -105,7 +91,7 @@ fn any_deep(map: IntMap, area: &[u8], first: u64, end: u64) -> bool
         if is_deep(area, at, c, first) {
             return true;
         }
-        at += entry_cells(area, at, c);
+        at += intmap::count_from(area, at, c, intmap::LEVELS);
         left -= 1;
     }
     false
@@ -118,33 +104,6 @@ fn too_deep(map: IntMap, area: &[u8], first: u64, end: u64) -> bool
 {
     let keys = intmap::class_key(state::REGISTERS, 0);
     any_deep(map, area, keys + first, keys + end)
-}
-
-// Looks for a key among the `left` entries from `at` on.
-fn find_from(area: &[u8], at: usize, left: u64, key: u64) -> Found
-    requires { ⌜ AreColumns (cells (now area)) levels left at ⌝ }
-    ensures { λ r. ⌜ r ≡ seek (cells (now (area .entry))) levels key left at ⌝ }
-{
-    let mut p = at;
-    let mut n = left;
-    while 0 < n {
-        let c = area::cell_at(area, p);
-        let k = intmap::key_of(c);
-        if key <= k {
-            return Found {
-                at: p,
-                left: n,
-                present: k == key,
-            };
-        }
-        p += entry_cells(area, p, c);
-        n -= 1;
-    }
-    Found {
-        at: p,
-        left: 0,
-        present: false,
-    }
 }
 
 // A register's head as that of a column: a known number is an Integer that is never null.
@@ -171,13 +130,14 @@ fn put_column(
     requires { ⌜ Puttable (cells (now area)) at left k to end × (k ≤ 65535) × (key ≤ 65535) ⌝ }
     ensures { λ r. ⌜ PutsColumn (cells (now (area .entry))) (cells (now (area .exit))) at left k key to end r ⌝ }
 {
-    let found = find_from(area, at, left, intmap::class_key(state::REGISTERS, k));
+    let its = intmap::class_key(state::REGISTERS, k);
+    let found = intmap::find_from(area, at, left, its, intmap::LEVELS);
     let p = found.at;
     let rest = found.left;
     let there = found.present;
     if there {
         let c = area::cell_at(area, p);
-        let n = entry_cells(area, p, c);
+        let n = intmap::count_from(area, p, c, intmap::LEVELS);
         if end < to + n {
             return Step::Full;
         }

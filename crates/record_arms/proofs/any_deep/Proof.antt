@@ -41,15 +41,15 @@ is-deep-requires c κs = let l = c .before .before .before .before .loop in
 returns : tie.Need-returns Inv-loop μ-loop
 returns c = any-over _ _ _ _ _ _ _ (c .before .before .cell-at .ensures) (c .before .key-of .ensures) (omega (arith, c .before .before .before .loop-test .taken)) (c .if1 .taken) ∙ c .before .before .before .before .loop .inv .0
 
-entry-cells-requires : tie.Need-entry-cells-requires Inv-loop μ-loop
-entry-cells-requires c κs = let l = c .before .before .before .before .before .before .loop in
+count-from-requires : tie.Need-count-from-requires Inv-loop μ-loop
+count-from-requires c κs = let l = c .before .before .before .before .before .before .loop in
     let more : 0 < l .left = omega (arith, c .before .before .before .before .before .loop-test .taken) in
     (record { fits = omega (arith, sizes-step (size (cells (c .before .before .before .before .before .before .before .before .args .area .now)) levels) (l .left) (l .at) more, l .inv .1); small = c .before .before .before .before .before .before .before .before .pre .small }, c .before .before .before .before .cell-at .ensures)
 
 add-at : tie.Need-add-at Inv-loop μ-loop
 add-at c = let l = c .before .before .before .before .before .before .before .loop in
     let more : 0 < l .left = omega (arith, c .before .before .before .before .before .before .loop-test .taken) in
-    omega (arith, sizes-on (size (cells (c .before .before .before .before .before .before .before .before .before .args .area .now)) levels) (l .left) (l .at) (c .entry-cells .result) _ more (c .entry-cells .ensures) (l .inv .1), c .before .before .before .before .before .before .before .before .before .pre .small)
+    omega (arith, sizes-on (size (cells (c .before .before .before .before .before .before .before .before .before .args .area .now)) levels) (l .left) (l .at) (c .count-from .result) _ more (c .count-from .ensures) (l .inv .1), c .before .before .before .before .before .before .before .before .before .pre .small)
 
 sub-left : tie.Need-sub-left Inv-loop μ-loop
 sub-left c = omega arith
@@ -59,7 +59,7 @@ loop-less c = omega arith
 
 loop-again : tie.Need-loop-again Inv-loop μ-loop
 loop-again c = let more : 0 < c .before .before .before .before .before .before .before .loop .left = omega (arith, c .before .before .before .before .before .before .loop-test .taken) in
-    (any-on _ _ _ _ _ _ _ (c .before .before .before .before .before .cell-at .ensures) (c .before .before .before .before .key-of .ensures) more (c .before .before .before .if1 .left) (sym (c .before .if2 .left) ∙ c .before .before .is-deep .ensures) _ (c .entry-cells .ensures) ∙ c .before .before .before .before .before .before .before .loop .inv .0, sizes-on _ _ _ _ _ more (c .entry-cells .ensures) (c .before .before .before .before .before .before .before .loop .inv .1))
+    (any-on _ _ _ _ _ _ _ (c .before .before .before .before .before .cell-at .ensures) (c .before .before .before .before .key-of .ensures) more (c .before .before .before .if1 .left) (sym (c .before .if2 .left) ∙ c .before .before .is-deep .ensures) _ (c .count-from .ensures) ∙ c .before .before .before .before .before .before .before .loop .inv .0, sizes-on _ _ _ _ _ more (c .count-from .ensures) (c .before .before .before .before .before .before .before .loop .inv .1))
 
 returns-2 : tie.Need-returns-2 Inv-loop μ-loop
 returns-2 c = any-here _ _ _ _ _ _ _ (c .before .before .before .before .cell-at .ensures) (c .before .before .before .key-of .ensures) (omega (arith, c .before .before .before .before .before .loop-test .taken)) (c .before .before .if1 .left) (sym (c .if2 .taken) ∙ c .before .is-deep .ensures) ∙ c .before .before .before .before .before .before .loop .inv .0
@@ -79,7 +79,7 @@ any-deep-spec =
     returns
     is-deep-requires
     returns-2
-    entry-cells-requires
+    count-from-requires
     add-at
     sub-left
     loop-less

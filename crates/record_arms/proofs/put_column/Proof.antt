@@ -17,29 +17,29 @@ find-from-requires c κs = let pre = c .before .before .before .pre .0 in
 
 cell-at-requires : tie.Need-cell-at-requires
 cell-at-requires c κs = let pre = c .before .before .before .before .before .before .pre .0 in
-    let within = present-within _ _ _ _ 0 _ _ pre _ (c .before .before .before .class-key .ensures) _ (c .before .before .find-from .ensures) (c .before .if1 .taken) in
+    let within = present-within _ _ _ _ 0 _ _ pre _ (c .before .before .before .before .class-key .ensures) _ (c .before .before .find-from .ensures) (c .before .if1 .taken) in
     record { within = omega (arith, within, size-pos (cells (c .before .before .before .before .before .before .args .area .now)) levels (c .before .before .find-from .result .at), pre .ordered, pre .fits); small = pre .small }
 
-entry-cells-requires : tie.Need-entry-cells-requires
-entry-cells-requires c κs = let pre = c .before .before .before .before .before .before .before .before .pre .0 in
-    let within = present-within _ _ _ _ 0 _ _ pre _ (c .before .before .before .before .before .class-key .ensures) _ (c .before .before .before .before .find-from .ensures) (c .before .before .before .if1 .taken) in
+count-from-requires : tie.Need-count-from-requires
+count-from-requires c κs = let pre = c .before .before .before .before .before .before .before .before .pre .0 in
+    let within = present-within _ _ _ _ 0 _ _ pre _ (c .before .before .before .before .before .before .class-key .ensures) _ (c .before .before .before .before .find-from .ensures) (c .before .before .before .if1 .taken) in
     (record { fits = omega (arith, within, pre .ordered, pre .fits); small = pre .small }, c .before .cell-at .ensures)
 
 add-if2 : tie.Need-add-if2
 add-if2 c = let pre = c .before .before .before .before .before .before .before .before .before .pre .0 in
-    let within = present-within _ _ _ _ 0 _ _ pre _ (c .before .before .before .before .before .before .class-key .ensures) _ (c .before .before .before .before .before .find-from .ensures) (c .before .before .before .before .if1 .taken) in
-    omega (arith, within, c .entry-cells .ensures, pre .ordered, pre .fits, pre .small)
+    let within = present-within _ _ _ _ 0 _ _ pre _ (c .before .before .before .before .before .before .before .class-key .ensures) _ (c .before .before .before .before .before .find-from .ensures) (c .before .before .before .before .if1 .taken) in
+    omega (arith, within, c .count-from .ensures, pre .ordered, pre .fits, pre .small)
 
 same-length : tie.Need-same-length
 same-length c = search needs
 
 returns : tie.Need-returns
-returns c = present-full _ _ _ _ _ _ _ (c .before .before .before .before .before .before .before .before .before .before .pre .0) _ (c .before .before .before .before .before .before .before .class-key .ensures) _ (c .before .before .before .before .before .before .find-from .ensures) (c .before .before .before .before .before .if1 .taken) _ (c .before .entry-cells .ensures) (c .if2 .taken)
+returns c = present-full _ _ _ _ _ _ _ (c .before .before .before .before .before .before .before .before .before .before .pre .0) _ (c .before .before .before .before .before .before .before .before .class-key .ensures) _ (c .before .before .before .before .before .before .find-from .ensures) (c .before .before .before .before .before .if1 .taken) _ (c .before .count-from .ensures) (c .if2 .taken)
 
 move-cells-requires : tie.Need-move-cells-requires
 move-cells-requires c κs = let pre = c .before .before .before .before .before .before .before .before .before .before .before .pre .0 in
-    let within = present-within _ _ _ _ 0 _ _ pre _ (c .before .before .before .before .before .before .before .before .class-key .ensures) _ (c .before .before .before .before .before .before .before .find-from .ensures) (c .before .before .before .before .before .before .if1 .taken) in
-    (record { within = omega (arith, within, c .before .before .entry-cells .ensures, pre .ordered, pre .fits); small = pre .small }, record { within = omega (arith, pre .fits, c .before .if2 .left); small = pre .small })
+    let within = present-within _ _ _ _ 0 _ _ pre _ (c .before .before .before .before .before .before .before .before .before .class-key .ensures) _ (c .before .before .before .before .before .before .before .find-from .ensures) (c .before .before .before .before .before .before .if1 .taken) in
+    (record { within = omega (arith, within, c .before .before .count-from .ensures, pre .ordered, pre .fits); small = pre .small }, record { within = omega (arith, pre .fits, c .before .if2 .left); small = pre .small })
 
 map-to-columntype-requires : tie.Need-map-to-columntype-requires
 map-to-columntype-requires c κs = search needs
@@ -50,30 +50,30 @@ with-key-requires c κs = search needs
 put-cell-requires : tie.Need-put-cell-requires
 put-cell-requires c κs = let pre = c .before .before .before .before .before .before .before .before .before .before .before .before .before .before .before .before .before .pre .0 in
     let more = size-pos (cells (c .before .before .before .before .before .before .before .before .before .before .before .before .before .before .before .before .before .args .area .now)) levels (c .before .before .before .before .before .before .before .before .before .before .before .before .before .find-from .result .at) in
-    record { within = omega (arith, more, c .before .before .before .before .before .before .before .before .entry-cells .ensures, pre .fits, c .before .before .before .before .before .before .before .if2 .left, c .before .before .before .before .before .move-cells .ensures .same); small = omega (arith, pre .small, c .before .before .before .before .before .move-cells .ensures .same) }
+    record { within = omega (arith, more, c .before .before .before .before .before .before .before .before .count-from .ensures, pre .fits, c .before .before .before .before .before .before .before .if2 .left, c .before .before .before .before .before .move-cells .ensures .same); small = omega (arith, pre .small, c .before .before .before .before .before .move-cells .ensures .same) }
 
 add-t24 : tie.Need-add-t24
 add-t24 c = omega (arith, c .before .before .before .before .before .before .before .before .before .before .if2 .left, c .before .before .before .before .before .before .before .before .before .before .before .before .before .before .before .before .before .before .before .before .pre .0 .fits, c .before .before .before .before .before .before .before .before .before .before .before .before .before .before .before .before .before .before .before .before .pre .0 .small)
 
 add-t32 : tie.Need-add-t32
 add-t32 c = let pre = c .before .before .before .before .before .before .before .before .before .before .before .before .before .before .before .before .before .before .before .before .pre .0 in
-    let within = present-within _ _ _ _ 0 _ _ pre _ (c .before .before .before .before .before .before .before .before .before .before .before .before .before .before .before .before .before .class-key .ensures) _ (c .before .before .before .before .before .before .before .before .before .before .before .before .before .before .before .before .find-from .ensures) (c .before .before .before .before .before .before .before .before .before .before .before .before .before .before .before .if1 .taken) in
-    omega (arith, within, c .before .before .before .before .before .before .before .before .before .before .before .entry-cells .ensures, pre .ordered, pre .fits, pre .small)
+    let within = present-within _ _ _ _ 0 _ _ pre _ (c .before .before .before .before .before .before .before .before .before .before .before .before .before .before .before .before .before .before .class-key .ensures) _ (c .before .before .before .before .before .before .before .before .before .before .before .before .before .before .before .before .find-from .ensures) (c .before .before .before .before .before .before .before .before .before .before .before .before .before .before .before .if1 .taken) in
+    omega (arith, within, c .before .before .before .before .before .before .before .before .before .before .before .count-from .ensures, pre .ordered, pre .fits, pre .small)
 
 sub-t33 : tie.Need-sub-t33
-sub-t33 c = omega (arith, present-left _ _ _ _ 0 _ _ (c .before .before .before .before .before .before .before .before .before .before .before .before .before .before .before .before .before .before .before .before .pre .0) _ (c .before .before .before .before .before .before .before .before .before .before .before .before .before .before .before .before .before .class-key .ensures) _ (c .before .before .before .before .before .before .before .before .before .before .before .before .before .before .before .before .find-from .ensures) (c .before .before .before .before .before .before .before .before .before .before .before .before .before .before .before .if1 .taken))
+sub-t33 c = omega (arith, present-left _ _ _ _ 0 _ _ (c .before .before .before .before .before .before .before .before .before .before .before .before .before .before .before .before .before .before .before .before .pre .0) _ (c .before .before .before .before .before .before .before .before .before .before .before .before .before .before .before .before .before .before .class-key .ensures) _ (c .before .before .before .before .before .before .before .before .before .before .before .before .before .before .before .before .find-from .ensures) (c .before .before .before .before .before .before .before .before .before .before .before .before .before .before .before .if1 .taken))
 
 same-length-2 : tie.Need-same-length-2
 same-length-2 c = search needs
 
 returns-2 : tie.Need-returns-2
-returns-2 c = present-put _ _ _ _ _ _ _ (c .before .before .before .before .before .before .before .before .before .before .before .before .before .before .before .before .before .before .before .before .pre .0) _ (c .before .before .before .before .before .before .before .before .before .before .before .before .before .before .before .before .before .class-key .ensures) _ (c .before .before .before .before .before .before .before .before .before .before .before .before .before .before .before .before .find-from .ensures) (c .before .before .before .before .before .before .before .before .before .before .before .before .before .before .before .if1 .taken) _ (c .before .before .before .before .before .before .before .before .before .before .before .entry-cells .ensures) (c .before .before .before .before .before .before .before .before .before .before .if2 .left) _ _ _ _ _ (c .before .before .before .before .before .before .before .before .before .before .before .before .before .cell-at .ensures) (c .before .before .before .before .before .map-to-columntype .ensures) (c .before .before .before .with-key .ensures) (c .before .before .before .before .before .before .before .before .move-cells .ensures .cells) (c .before .before .put-cell .ensures .cells)
+returns-2 c = present-put _ _ _ _ _ _ _ (c .before .before .before .before .before .before .before .before .before .before .before .before .before .before .before .before .before .before .before .before .pre .0) _ (c .before .before .before .before .before .before .before .before .before .before .before .before .before .before .before .before .before .before .class-key .ensures) _ (c .before .before .before .before .before .before .before .before .before .before .before .before .before .before .before .before .find-from .ensures) (c .before .before .before .before .before .before .before .before .before .before .before .before .before .before .before .if1 .taken) _ (c .before .before .before .before .before .before .before .before .before .before .before .count-from .ensures) (c .before .before .before .before .before .before .before .before .before .before .if2 .left) _ _ _ _ _ (c .before .before .before .before .before .before .before .before .before .before .before .before .before .cell-at .ensures) (c .before .before .before .before .before .map-to-columntype .ensures) (c .before .before .before .with-key .ensures) (c .before .before .before .before .before .before .before .before .move-cells .ensures .cells) (c .before .before .put-cell .ensures .cells)
 
 same-length-3 : tie.Need-same-length-3
 same-length-3 c = search needs
 
 returns-3 : tie.Need-returns-3
-returns-3 c = absent-full _ _ _ _ _ _ _ (c .before .before .before .before .before .before .pre .0) _ (c .before .before .before .class-key .ensures) _ (c .before .before .find-from .ensures) (c .before .if1 .left) (c .if3 .taken)
+returns-3 c = absent-full _ _ _ _ _ _ _ (c .before .before .before .before .before .before .pre .0) _ (c .before .before .before .before .class-key .ensures) _ (c .before .before .find-from .ensures) (c .before .if1 .left) (c .if3 .taken)
 
 single-requires : tie.Need-single-requires
 single-requires c κs = search needs
@@ -92,7 +92,7 @@ same-length-4 : tie.Need-same-length-4
 same-length-4 c = search needs
 
 returns-4 : tie.Need-returns-4
-returns-4 c = absent-put _ _ _ _ _ _ _ (c .before .before .before .before .before .before .before .before .before .before .before .before .pre .0) _ (c .before .before .before .before .before .before .before .before .before .class-key .ensures) _ (c .before .before .before .before .before .before .before .before .find-from .ensures) (c .before .before .before .before .before .before .before .if1 .left) _ _ _ (c .before .before .before .before .before .single .ensures) (c .before .before .before .with-key2 .ensures) (c .before .before .put-cell2 .ensures .cells) (c .before .before .before .before .before .before .if3 .left)
+returns-4 c = absent-put _ _ _ _ _ _ _ (c .before .before .before .before .before .before .before .before .before .before .before .before .pre .0) _ (c .before .before .before .before .before .before .before .before .before .before .class-key .ensures) _ (c .before .before .before .before .before .before .before .before .find-from .ensures) (c .before .before .before .before .before .before .before .if1 .left) _ _ _ (c .before .before .before .before .before .single .ensures) (c .before .before .before .with-key2 .ensures) (c .before .before .put-cell2 .ensures .cells) (c .before .before .before .before .before .before .if3 .left)
 
 pub put-column-spec : {M : Type 1} → statement M
 put-column-spec =
@@ -101,7 +101,7 @@ put-column-spec =
     class-key-requires
     find-from-requires
     cell-at-requires
-    entry-cells-requires
+    count-from-requires
     add-if2
     same-length
     returns
