@@ -1,4 +1,4 @@
--- The search for a column among those behind a head, and whether they nest within their levels. Assumes nothing.
+-- The search for a column among those behind a head, and whether it nests within its levels. Assumes nothing.
 use mathlib.Core.Path.{_≡_, refl, sym, ap, _∙_}
 use mathlib.Core.Bool.{Bool, true, false}
 use mathlib.Core.Option.{Option, none, some, Option·map, Option·none-ne-some, Option·some-injective}
@@ -17,23 +17,24 @@ use Rattle.area.specs.Cells.{blank}
 use Rattle.area.specs.declared.Cell.{Cell}
 use Rattle.intmap.specs.Entries.{span, entries, total}
 use Rattle.intmap.specs.Find.{seek}
-use Rattle.intmap.specs.Map.{levels, IsMap}
+use Rattle.intmap.specs.Map.{levels}
 use Rattle.intmap.specs.Pack.{tagOf}
 use Rattle.intmap.specs.Pick.{pick}
-use Rattle.intmap.specs.Runs.{size, sizes, IsColumn}
+use Rattle.intmap.specs.Runs.{size, sizes, IsColumn, AreColumns}
 use Rattle.intmap.specs.Swap.{lookup}
 use Rattle.intmap.specs.declared.Found.{Found}
 use Rattle.intmap.specs.declared.Slot.the-variants as slot
-use Rattle.intmap.proofs.EntryLaws.{total-sizes}
+use Rattle.intmap.proofs.EntryLaws.{length-span, total-sizes}
 use Rattle.intmap.proofs.FindLaws.{found-within, found-whole}
-use Rattle.intmap.proofs.RunLaws.{size-pos, size-record}
+use Rattle.intmap.proofs.RunLaws.{size-pos, size-single, size-record}
 use Rattle.intmap.proofs.Swapped.{seek-some, seek-none}
 use Rattle.encoding.specs.Encode.{runColumn, columnRuns, runColumns}
+use Rattle.encoding.specs.Holds.{Stands}
 use Rattle.encoding.proofs.Lengths.{length-flatten, count-runs}
-use Rattle.encoding.proofs.Standing.{entries-stand, columns-whole}
+use Rattle.encoding.proofs.Standing.{entries-stand, column-whole, columns-whole}
 use Rattle.encoding.proofs.StateRuns.{get-column}
 use Rattle.column_arms.specs.Columns.{columnsIn, counted, ColumnsAt, IsColumnAt, FindsColumn}
-use Rattle.column_arms.proofs.WholeLaws.{counted-parts, counted-one, whole-size, counted-columns}
+use Rattle.column_arms.proofs.WholeLaws.{counted-parts, counted-one, whole-size, counted-column}
 
 -- ---- the columns that a cell says it has
 
@@ -79,101 +80,109 @@ unfolding columnEntries columnDepth SortedColumn
 good-columns end low d s = tt
 good-columns (entry k c xs) low d s = (s .0, (omega arith, s .2), good-columns xs (suc k) (omega arith) (s .3))
 
+-- the column of these that has a key, and the run of its that stands at q
+record StandsAt (cs : List Cell) (key q : ℕ) (o : Option ColumnType) : Type 0 where
+  column : ColumnType
+  answer : o ≡ some column
+  depth : columnDepth column ≤ 8
+  sorted : SortedColumn column
+  stands : Stands cs q (runColumn key column)
+
 module _ (cs : List Cell) (p : ℕ) (x : Columns) (at : ColumnsAt cs p x) where
-  behind-runs : (d : ℕ) → 8 ≤ d → entries cs d (getD cs p blank .payload) (p + 1) ≡ columnRuns x
-  behind-runs d le =
-      ap (λ n. entries cs d n (p + 1)) (at .number ∙ sym (count-runs x))
-      ∙ entries-stand d (columnRuns x) (columns-whole x d (omega (arith, at .depth))) cs (p + 1) (at .stands)
+  behind-runs : entries cs 8 (getD cs p blank .payload) (p + 1) ≡ columnRuns x
+  behind-runs =
+      ap (λ n. entries cs 8 n (p + 1)) (at .number ∙ sym (count-runs x))
+      ∙ entries-stand 8 (columnRuns x) (columns-whole x 8 (at .depth)) cs (p + 1) (at .stands)
 
   pub behind-size : tagOf (getD cs p blank) ≡ 2 → size cs levels p ≡ 1 + length (runColumns x)
   behind-size tag =
       sym (size-record cs 9 p (getD cs p blank) refl (omega arith) tag)
-      ∙ ap (λ k. 1 + k) (total-sizes cs 8 (getD cs p blank .payload) (p + 1) ∙ ap total (behind-runs 8 (omega arith)) ∙ sym (length-flatten (columnRuns x)))
+      ∙ ap (λ k. 1 + k) (total-sizes cs 8 (getD cs p blank .payload) (p + 1) ∙ ap total behind-runs ∙ sym (length-flatten (columnRuns x)))
 
-  -- they are as many as the head says
-  state-whole : tagOf (getD cs p blank) ≡ 2 → counted (span cs p (size cs levels p)) < size cs levels p
-  state-whole tag =
-      let n = behind-size tag in
-      omega (
-        arith,
-        n,
-        ap (λ k. counted (span cs p k)) n,
-        counted-parts cs 1 (length (runColumns x)) p,
-        counted-one cs p,
-        in-record (getD cs p blank) tag,
-        at .number,
-        ap counted (at .stands),
-        counted-columns x,
-      )
+  looked : (key : ℕ) → lookup key (entries cs 8 (getD cs p blank .payload) (p + 1)) ≡ Option·map (runColumn key) (get key (columnEntries x))
+  looked key = ap (lookup key) behind-runs ∙ get-column x 0 key (at .sorted)
 
-  looked : (key : ℕ) → lookup key (entries cs levels (getD cs p blank .payload) (p + 1)) ≡ Option·map (runColumn key) (get key (columnEntries x))
-  looked key = ap (lookup key) (behind-runs 9 (omega arith)) ∙ get-column x 0 key (at .sorted)
-
-  there : (key q : ℕ) → lookup key (entries cs levels (getD cs p blank .payload) (p + 1)) ≡ some (span cs q (size cs levels q)) → IsColumnAt cs key q (get key (columnEntries x))
+  there : (key q : ℕ) → lookup key (entries cs 8 (getD cs p blank .payload) (p + 1)) ≡ some (span cs q (size cs 8 q)) → StandsAt cs key q (get key (columnEntries x))
   there key q e = go (get key (columnEntries x)) (sym (looked key) ∙ e) (rising-get GoodColumn key 0 (columnEntries x) (good-columns x 0 (at .depth) (at .sorted)))
     where
-      go : (o : Option ColumnType) → Option·map (runColumn key) o ≡ some (span cs q (size cs levels q)) → OnSome (GoodColumn key) o → IsColumnAt cs key q o
+      go : (o : Option ColumnType) → Option·map (runColumn key) o ≡ some (span cs q (size cs 8 q)) → OnSome (GoodColumn key) o → StandsAt cs key q o
       go none f g = absurd (Option·none-ne-some _ f)
-      go (some c) f g = record { column = c; answer = refl; depth = g .0; sorted = g .1; run = sym (Option·some-injective _ _ f) }
+      go (some c) f g =
+          let run : runColumn key c ≡ span cs q (size cs 8 q) = Option·some-injective _ _ f in
+          record { column = c; answer = refl; depth = g .0; sorted = g .1; stands = ap (span cs q) (ap length run ∙ length-span cs q (size cs 8 q)) ∙ sym run }
 
-  nowhere : (key : ℕ) → lookup key (entries cs levels (getD cs p blank .payload) (p + 1)) ≡ none → get key (columnEntries x) ≡ none
+  nowhere : (key : ℕ) → lookup key (entries cs 8 (getD cs p blank .payload) (p + 1)) ≡ none → get key (columnEntries x) ≡ none
   nowhere key e = go (get key (columnEntries x)) (sym (looked key) ∙ e)
     where
       go : (o : Option ColumnType) → Option·map (runColumn key) o ≡ none → o ≡ none
       go none f = refl
       go (some c) f = absurd (Option·none-ne-some _ (sym f))
 
+-- however many levels are looked at, its run is as long
+module _ (cs : List Cell) (key q : ℕ) (o : Option ColumnType) (v : StandsAt cs key q o) where
+  long : (d : ℕ) → 8 ≤ d → size cs d q ≡ length (runColumn key (v .column))
+  long d le = column-whole (v .column) d key (omega (arith, v .depth)) cs q (v .stands)
+
+  is-there : IsColumnAt cs key q o
+  is-there = record { column = v .column; answer = v .answer; depth = v .depth; sorted = v .sorted; run = ap (span cs q) (long 9 (omega arith)) ∙ v .stands }
+
+  -- it has one cell more than the columns that its cells say they have
+  state-whole : counted (span cs q (size cs 8 q)) < size cs 8 q
+  state-whole = let n = long 8 (omega arith) in omega (arith, n, ap counted (ap (span cs q) n ∙ v .stands), counted-column (v .column) key)
+
 -- ---- the search
 
--- a run has a cell
-pub run-some : (cs : List Cell) (d p n : ℕ) → n ≡ size cs d p → 0 < n
-run-some cs d p n e = omega (arith, size-pos cs d p)
+-- a run has a cell, and lies within the area
+pub run-within : (cs : List Cell) (d p : ℕ) → IsColumn cs d p → (n : ℕ) → n ≡ size cs d p → (p + n ≤ length cs) × (length cs ≤ 1048576) × (0 < n)
+run-within cs d p is n e = (omega (arith, is .fits), is .small, omega (arith, size-pos cs d p))
 
-pub run-first : (cs : List Cell) (d p : ℕ) → IsColumn cs d p → p + 1 ≤ length cs
-run-first cs d p is = omega (arith, is .fits, size-pos cs d p)
+module _ (cs : List Cell) (p : ℕ) (is : IsColumn cs levels p) (tag : tagOf (getD cs p blank) ≡ 2) (c : Cell) (ce : c ≡ getD cs p blank) where
+  behind : 1 + sizes (size cs 8) (c .payload) (p + 1) ≡ size cs levels p
+  behind = size-record cs 9 p c ce (omega arith) (ap (λ (y : Cell). tagOf y) ce ∙ tag)
 
-module _ (cs : List Cell) (p : ℕ) (is : IsColumn cs levels p) (tag : tagOf (getD cs p blank) ≡ 2) (n : ℕ) (ne : n ≡ size cs levels p) (b : Bool) (be : b ≡ ltb (counted (span cs p n)) n) where
-  pub too-deep : (key : ℕ) → b ≡ false → FindsColumn cs p key (slot.Bad 9)
-  too-deep key e =
-      record {
-        says = λ x at.
-            absurd (omega (arith, state-whole cs p x at tag, ltb-false (counted (span cs p n)) n (sym be ∙ e), ne, ap (λ k. counted (span cs p k)) ne));
-        within = tt;
-      }
+  pub columns-behind : AreColumns cs 8 (c .payload) (p + 1)
+  columns-behind = record { fits = omega (arith, behind, is .fits); small = is .small }
 
-  module _ (e : b ≡ true) where
-    -- however many levels are looked at
-    pub levels-within : (d : ℕ) → size cs d p ≤ size cs levels p
-    levels-within d = omega (arith, whole-size cs d p n (ltb-true (counted (span cs p n)) n (sym be ∙ e)), ne)
+  module _ (key : ℕ) (w : Found) (we : w ≡ seek cs 8 key (c .payload) (p + 1)) where
+    sought : w ≡ seek cs 8 key (getD cs p blank .payload) (p + 1)
+    sought = we ∙ ap (λ (y : Cell). seek cs 8 key (y .payload) (p + 1)) ce
 
-    pub column-within : (d : ℕ) → IsColumn cs d p
-    column-within d = record { fits = omega (arith, levels-within d, is .fits); small = is .small }
+    pub column-none : w .present ≡ false → FindsColumn cs p key slot.Absent
+    column-none t =
+        record {
+          says = λ x at. nowhere cs p x at key (seek-none cs 8 key (getD cs p blank .payload) (p + 1) (ap (λ (v : Found). v .present) (sym sought) ∙ t));
+          within = tt;
+        }
 
-    module _ (c : Cell) (ce : c ≡ getD cs p blank) (all : ℕ) (ae : all ≡ size cs 10 p) where
-      tall : 1 + sizes (size cs levels) (c .payload) (p + 1) ≡ size cs 10 p
-      tall = size-record cs 10 p c ce (omega arith) (ap (λ (y : Cell). tagOf y) ce ∙ tag)
+    module _ (t : w .present ≡ true) where
+      within : (p < w .at) × (w .at + size cs 8 (w .at) ≤ p + size cs levels p)
+      within = (omega (arith, found-within cs 8 key (c .payload) (p + 1) w we .0), omega (arith, found-whole cs 8 key (c .payload) (p + 1) w we t, behind))
 
-      pub columns-map : IsMap cs (record { base = p + 1; len = c .payload; used = all - 1 })
-      columns-map = record { used = omega (arith, ae, tall); inside = omega (arith, ae, tall, levels-within 10, is .fits); small = is .small }
+      pub found-column : IsColumn cs 8 (w .at)
+      found-column = record { fits = omega (arith, within .1, is .fits); small = is .small }
 
-      module _ (key : ℕ) (w : Found) (we : w ≡ seek cs levels key (c .payload) (p + 1)) where
-        sought : w ≡ seek cs levels key (getD cs p blank .payload) (p + 1)
-        sought = we ∙ ap (λ (y : Cell). seek cs levels key (y .payload) (p + 1)) ce
+      stands : (x : Columns) → ColumnsAt cs p x → StandsAt cs key (w .at) (get key (columnEntries x))
+      stands x at =
+          there cs p x at key (w .at)
+          (seek-some cs 8 key (getD cs p blank .payload) (p + 1) (ap (λ (v : Found). v .present) (sym sought) ∙ t)
+          ∙ ap (λ (v : Found). some (span cs (v .at) (size cs 8 (v .at)))) (sym sought))
 
-        pub column-there : w .present ≡ true → FindsColumn cs p key (slot.At (w .at))
-        column-there t =
+      column-there : size cs levels (w .at) ≤ size cs 8 (w .at) → FindsColumn cs p key (slot.At (w .at))
+      column-there le = record { says = λ x at. is-there cs key (w .at) _ (stands x at); within = (within .0, omega (arith, within .1)) }
+
+      -- a cell alone
+      pub column-alone : (b : Cell) → b ≡ getD cs (w .at) blank → (tagOf b ≡ 2 → ⊥) → FindsColumn cs p key (slot.At (w .at))
+      column-alone b be other = column-there (omega (arith, size-single cs 9 (w .at) b be other, size-pos cs 8 (w .at)))
+
+      -- a run that is no longer, however many levels are looked at, or may be
+      module _ (n : ℕ) (ne : n ≡ size cs 8 (w .at)) (b : Bool) (be : b ≡ ltb (counted (span cs (w .at) n)) n) where
+        pub column-record : b ≡ true → FindsColumn cs p key (slot.At (w .at))
+        column-record e = column-there (omega (arith, whole-size cs 9 (w .at) n (ltb-true (counted (span cs (w .at) n)) n (sym be ∙ e)), ne))
+
+        pub too-deep : b ≡ false → FindsColumn cs p key (slot.Bad 9)
+        too-deep e =
             record {
               says = λ x at.
-                  there cs p x at key (w .at)
-                  (seek-some cs levels key (getD cs p blank .payload) (p + 1) (ap (λ (v : Found). v .present) (sym sought) ∙ t)
-                  ∙ ap (λ (v : Found). some (span cs (v .at) (size cs levels (v .at)))) (sym sought));
-              within =
-                  (omega (arith, found-within cs levels key (c .payload) (p + 1) w we .0), omega (arith, found-whole cs levels key (c .payload) (p + 1) w we t, tall, levels-within 10));
-            }
-
-        pub column-none : w .present ≡ false → FindsColumn cs p key slot.Absent
-        column-none t =
-            record {
-              says = λ x at. nowhere cs p x at key (seek-none cs levels key (getD cs p blank .payload) (p + 1) (ap (λ (v : Found). v .present) (sym sought) ∙ t));
+                  absurd (omega (arith, state-whole cs key (w .at) _ (stands x at), ltb-false (counted (span cs (w .at) n)) n (sym be ∙ e), ne, ap (λ k. counted (span cs (w .at) k)) ne));
               within = tt;
             }

@@ -1,4 +1,4 @@
--- A run behind the map stored in a register: that of an entry, with another head, and an empty record. Assumes nothing.
+-- A run stored in a register: behind the map that of an entry, with another head, and an empty record; and a cell alone. Assumes nothing.
 use mathlib.Core.Path.{_≡_, refl, sym, ap, ap₂, subst, _∙_}
 use mathlib.Core.Bool.{Bool, true, false}
 use mathlib.Core.List.{List, [], _∷_, flatten}
@@ -10,7 +10,7 @@ use lib.Seq.{getD-set-same, getD-set-other}
 use borrow.Author.Tests.{lt-leb, eqb-true, eqb-false}
 use Rattle.model.specs.Walk.{Tried}
 use Rattle.model.specs.IntMap.{insert}
-use Rattle.model.specs.State.{ColumnType, Record, end, RegDataType, Column, MemoryState}
+use Rattle.model.specs.State.{ColumnType, Single, Record, end, RegDataType, Column, MemoryState}
 use Rattle.model.specs.Cells.{columnCells, registerCells, cells, columnDepth, registerDepth}
 use Rattle.model.specs.Access.{_>>=_, judgeDepth, cellsIf, judgeCells, withRegisters, storeRegister}
 use Rattle.model.specs.Good.{SortedColumn}
@@ -25,7 +25,7 @@ use Rattle.intmap.specs.Map.{levels, runsAt, HasRoom, Frame}
 use Rattle.intmap.specs.Pack.{head, tagOf, withNullable}
 use Rattle.intmap.specs.Runs.{size, Agree}
 use Rattle.intmap.specs.Signed.{intOf}
-use Rattle.intmap.specs.Store.{storedOf, Stores, RunAbove}
+use Rattle.intmap.specs.Store.{storeRuns, storedOf, Stores, RunAbove}
 use Rattle.intmap.specs.declared.Index.{Index}
 use Rattle.intmap.specs.declared.Index.the-variants as index-is
 use Rattle.intmap.specs.declared.IntMap.{IntMap}
@@ -33,11 +33,11 @@ use Rattle.intmap.specs.declared.Stored.{Stored}
 use Rattle.intmap.specs.declared.Stored.the-variants as stored
 use Rattle.intmap.proofs.EntryLaws.{length-span, span-same}
 use Rattle.intmap.proofs.MapLaws.{placed-room}
-use Rattle.intmap.proofs.RunLaws.{size-pos}
+use Rattle.intmap.proofs.RunLaws.{size-pos, size-single}
 use Rattle.encoding.specs.Encode.{count, runColumn, runRegister}
 use Rattle.encoding.specs.Holds.{Stands}
 use Rattle.encoding.proofs.Held.{held-elsewhere}
-use Rattle.encoding.proofs.HeldAfter.{Carried}
+use Rattle.encoding.proofs.HeldAfter.{Carried, held-register}
 use Rattle.encoding.proofs.HeldFrom.{held-register-from}
 use Rattle.encoding.proofs.Standing.{column-whole}
 use Rattle.state.specs.Leads.{Current, HoldsMap, Tells, Leaves, Leads}
@@ -180,6 +180,35 @@ module _ (limit : ℕ) (cs : List Cell) (a : IntMap) (at n : ℕ) (current : Cur
           leaves = stored-leaves put ds j r st;
           frame = stored-frame put ds j r st;
         }
+
+-- ---- a cell alone
+
+module _ (limit : ℕ) (cs : List Cell) (a : IntMap) (at : ℕ) (c : Cell) (tag : tagOf c ≡ tagOf (getD cs at blank)) (other : tagOf c ≡ 2 → ⊥) where
+  alone : c ∷ span cs (at + 1) (size cs levels at - 1) ≡ c ∷ []
+  unfolding span
+  alone =
+      let none : size cs levels at - 1 ≡ 0 = omega (arith, size-single cs levels at (getD cs at blank) refl (λ e. other (tag ∙ e))) in
+      ap (λ n. c ∷ span cs (at + 1) n) none
+
+  -- it is no record
+  no-record : (key : ℕ) (v : ColumnType) → c ∷ [] ≡ runColumn key v → 0 ≡ columnDepth v
+  unfolding runColumn columnDepth
+  no-record key (Single d n) e = refl
+  no-record key (Record x) e = absurd (other (let f : c ≡ cell (head 2 0 0 key) (count x) = cc in omega (arith, ap (λ (y : Cell). y .head) f)))
+
+  pub stores-alone : (ds : List Cell) (j : ℕ) (r : Stored) → Stores cs ds limit a 0 j 0 (c ∷ []) r → StoresRun limit cs ds a at c j r
+  unfolding runRegister registerDepth
+  stores-alone ds j r st =
+      record {
+        says = λ bound m h key v deep sorted is.
+            (let run = sym alone ∙ is in
+            tells limit bound ds a r (storeRegister limit (intOf j) (Column v) m)
+            (subst (λ u. Carried limit bound u (storeRegister limit (intOf j) (Column v) m))
+            (sym (st .answer ∙ ap₂ (λ d l. storeRuns limit 0 (intOf j) d l (runsAt cs a)) (no-record key v run) run))
+            (held-register h (intOf j) key (Column v) (λ _. sorted) tt)) (left cs ds limit a j 0 _ r st));
+        leaves = left cs ds limit a j 0 _ r st;
+        frame = frame-within cs ds (a .base) limit (a .base) (limit + limit) (omega arith) (omega arith) (st .frame);
+      }
 
 -- ---- an empty record
 

@@ -97,10 +97,10 @@ counted-append (c ∷ a) b = omega (arith, counted-append a b)
 mutual
   unfolding runColumn counted flatten
 
-  counted-column : (c : ColumnType) (key : ℕ) → counted (runColumn key c) + 1 ≡ length (runColumn key c)
+  pub counted-column : (c : ColumnType) (key : ℕ) → counted (runColumn key c) + 1 ≡ length (runColumn key c)
   counted-column (Single d n) key = let c = single (datatypeCode d) (nullableCode n) key in omega (arith, ap (λ t. pick {A = ℕ} t 0 0) (ne-eqb (tagOf c) 2 (omega arith)))
   counted-column (Record x) key = let c = cell (head 2 0 0 key) (count x) in omega (arith, counted-columns x, ap (λ t. pick t (count x) 0) (eq-eqb (tagOf c) 2 (omega arith)))
 
-  pub counted-columns : (x : Columns) → counted (runColumns x) + count x ≡ length (runColumns x)
+  counted-columns : (x : Columns) → counted (runColumns x) + count x ≡ length (runColumns x)
   counted-columns end = refl
   counted-columns (entry k c xs) = omega (arith, counted-append (runColumn k c) (runColumns xs), length-append (runColumn k c) (runColumns xs), counted-column c k, counted-columns xs)

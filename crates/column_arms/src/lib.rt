@@ -54,36 +54,39 @@ fn is_whole(area: &[u8], at: usize, n: usize) -> bool
     true
 }
 
-// Looks for a key among the columns behind the head at `at`, which are a map of their own. A head's run is counted in LEVELS levels, so its
-// columns in one fewer. In a state none goes deeper, and in other cells one that does is refused.
+// Looks for a key among the columns behind the head at `at`. The head's run is counted in LEVELS levels, so its columns in one fewer. In a state
+// none goes deeper, and in other cells a record that may is refused.
 fn find_column(area: &[u8], at: usize, key: u64) -> Slot
     requires { ⌜ IsColumn (cells (now area)) levels at × (tagOf (getD (cells (now area)) at blank) ≡ 2) ⌝ }
     ensures { λ r. ⌜ FindsColumn (cells (now (area .entry))) at key r ⌝ }
 {
-    let n = intmap::count(area, at, intmap::LEVELS);
-    if !is_whole(area, at, n) {
-        return Slot::Bad(9);
-    }
-    let c = area::cell_at(area, at);
-    let all = intmap::count(area, at, intmap::LEVELS + 1);
-    let columns = IntMap {
-        base: at + 1,
-        len: c.payload,
-        used: all - 1,
-    };
-    let found = columns.find(area, key);
+    let head = area::cell_at(area, at);
+    let found = intmap::find_from(area, at + 1, head.payload, key, intmap::LEVELS - 1);
+    let q = found.at;
     let there = found.present;
-    if there {
-        return Slot::At(found.at);
+    if !there {
+        return Slot::Absent;
     }
-    Slot::Absent
+    let c = area::cell_at(area, q);
+    if intmap::tag_of(c) != intmap::RECORD {
+        return Slot::At(q);
+    }
+    let n = intmap::count(area, q, intmap::LEVELS - 1);
+    if is_whole(area, q, n) {
+        return Slot::At(q);
+    }
+    Slot::Bad(9)
 }
 
-// Stores the run at `at` of the map in register j, with c for its head. A store may move that run, so it goes to the room behind the map first.
+// Stores the run at `at` of the map in register j, with c for its head. A cell alone is stored as it is. A store may move a longer run, so that
+// goes to the room behind the map first.
 fn store_from(map: IntMap, area: &mut [u8], at: usize, c: Cell, j: u64, limit: usize) -> Stored
     requires { ⌜ Current limit (cells (now area)) map × (map .base ≤ at) × (at + size (cells (now area)) levels at ≤ map .base + map .used) × (tagOf c ≡ tagOf (getD (cells (now area)) at blank)) × (c .payload ≡ getD (cells (now area)) at blank .payload) ⌝ }
     ensures { λ r. ⌜ StoresRun limit (cells (now (area .entry))) (cells (now (area .exit))) map at c j r ⌝ }
 {
+    if intmap::tag_of(c) != intmap::RECORD {
+        return map.store_cell(area, state::REGISTERS, j, c, limit);
+    }
     cursor_arms::run_behind(map, area, at, state::UNKNOWN, limit);
     let to = map.base + limit;
     area::put_cell(area, to, c);

@@ -1,62 +1,72 @@
--- `column_arms::find_column` looks whether the columns nest within their levels, and searches them as a map. Assumes nothing.
-use native.Mathlib.Omega.{arith}
-use borrow.Author.Tests.{not-true, not-false}
-use Rattle.column_arms.proofs.ColumnLaws.{run-some, run-first, too-deep, column-within, columns-map, column-there, column-none}
+-- `column_arms::find_column` searches the columns, and looks whether the one that it finds nests within its levels. Assumes nothing.
+use mathlib.Core.Path.{_∙_}
 use borrow.Author.Needs.{needs}
+use borrow.Author.Tests.{not-true, not-false}
+use Rattle.intmap.proofs.RunLaws.{first-inside}
+use Rattle.column_arms.proofs.ColumnLaws.{run-within, columns-behind, found-column, column-none, column-alone, column-record, too-deep}
 use Rattle.column_arms.proofs.find_column.Statement.{statement}
 use Rattle.column_arms.proofs.find_column.Tie as tie
-use Rattle.column_arms.proofs.find_column.Reads as reads
-use Rattle.column_arms.proofs.find_column.Lts as lts
-use Rattle.area.proofs.cell_at.Reads as cell-at-reads
-use Rattle.column_arms.proofs.is_whole.Reads as is-whole-reads
-use Rattle.intmap.proofs.IntMap.find.Reads as find-reads
-use Rattle.intmap.proofs.count.Reads as count-reads
-
-count-requires : tie.Need-count-requires
-count-requires c κs = search needs
-
-is-whole-requires : tie.Need-is-whole-requires
-is-whole-requires c κs = (omega (arith, c .before .before .pre .0 .fits, c .count .ensures), c .before .before .pre .0 .small, run-some _ _ _ _ (c .count .ensures))
-
-returns : tie.Need-returns
-returns c = too-deep _ _ (c .before .before .before .before .pre .0) (c .before .before .before .before .pre .1) _ (c .before .before .count .ensures) _ (c .before .is-whole .ensures) _ (not-true _ (c .if1 .taken))
 
 cell-at-requires : tie.Need-cell-at-requires
-cell-at-requires c κs = record { within = run-first _ _ _ (c .before .before .before .before .pre .0); small = c .before .before .before .before .pre .0 .small }
+cell-at-requires c κs = first-inside _ _ _ (c .before .pre .0)
 
-add-count : tie.Need-add-count
-add-count c = search needs
+add-find-from : tie.Need-add-find-from
+add-find-from c = search needs
 
-count-requires-2 : tie.Need-count-requires-2
-count-requires-2 c κs = column-within _ _ (c .before .before .before .before .before .pre .0) (c .before .before .before .before .before .pre .1) _ (c .before .before .before .count .ensures) _ (c .before .before .is-whole .ensures) (not-false _ (c .before .if1 .left)) 10
+sub-find-from : tie.Need-sub-find-from
+sub-find-from c = search needs
 
-add-t12 : tie.Need-add-t12
-add-t12 c = search needs
+find-from-requires : tie.Need-find-from-requires
+find-from-requires c κs = columns-behind _ _ (c .before .before .pre .0) (c .before .before .pre .1) _ (c .cell-at .ensures)
 
-sub-t13 : tie.Need-sub-t13
-sub-t13 c = run-some _ _ _ _ (c .count2 .ensures)
+returns : tie.Need-returns
+returns c = let s = c .before in
+    column-none _ _ (s .before .before .before .pre .0) (s .before .before .before .pre .1) _ (s .before .cell-at .ensures) _ _ (s .find-from .ensures) (not-true _ (c .if1 .taken))
 
-find-requires : tie.Need-find-requires
-find-requires c κs = columns-map _ _ (c .before .before .before .before .before .before .pre .0) (c .before .before .before .before .before .before .pre .1) _ (c .before .before .before .before .count .ensures) _ (c .before .before .before .is-whole .ensures) (not-false _ (c .before .before .if1 .left)) _ (c .before .cell-at .ensures) _ (c .count2 .ensures)
+cell-at-requires-2 : tie.Need-cell-at-requires-2
+cell-at-requires-2 c κs = let s = c .before in
+    first-inside _ _ _ (found-column _ _ (s .before .before .before .pre .0) (s .before .before .before .pre .1) _ (s .before .cell-at .ensures) _ _ (s .find-from .ensures) (not-false _ (c .if1 .left)))
+
+tag-of-requires : tie.Need-tag-of-requires
+tag-of-requires c κs = search needs
 
 returns-2 : tie.Need-returns-2
-returns-2 c = column-there _ _ (c .before .before .before .before .before .before .before .before .pre .0) (c .before .before .before .before .before .before .before .before .pre .1) _ (c .before .before .before .before .before .before .count .ensures) _ (c .before .before .before .before .before .is-whole .ensures) (not-false _ (c .before .before .before .before .if1 .left)) _ (c .before .before .before .cell-at .ensures) _ (c .before .before .count2 .ensures) _ _ (c .before .find .ensures) (c .if2 .taken)
+returns-2 c = let s = c .before .before .before .before in
+    column-alone _ _ (s .before .before .before .pre .0) (s .before .before .before .pre .1) _ (s .before .cell-at .ensures) _ _ (s .find-from .ensures) (not-false _ (c .before .before .before .if1 .left)) _ (c .before .before .cell-at2 .ensures) (λ e. c .if2 .taken (c .before .tag-of .ensures ∙ e))
+
+sub-count : tie.Need-sub-count
+sub-count c = search needs
+
+count-requires : tie.Need-count-requires
+count-requires c κs = let s = c .before .before .before .before in
+    found-column _ _ (s .before .before .before .pre .0) (s .before .before .before .pre .1) _ (s .before .cell-at .ensures) _ _ (s .find-from .ensures) (not-false _ (c .before .before .before .if1 .left))
+
+is-whole-requires : tie.Need-is-whole-requires
+is-whole-requires c κs = let s = c .before .before .before .before .before in
+    run-within _ _ _ (found-column _ _ (s .before .before .before .pre .0) (s .before .before .before .pre .1) _ (s .before .cell-at .ensures) _ _ (s .find-from .ensures) (not-false _ (c .before .before .before .before .if1 .left))) _ (c .count .ensures)
 
 returns-3 : tie.Need-returns-3
-returns-3 c = column-none _ _ (c .before .before .before .before .before .before .before .before .pre .0) (c .before .before .before .before .before .before .before .before .pre .1) _ (c .before .before .before .before .before .before .count .ensures) _ (c .before .before .before .before .before .is-whole .ensures) (not-false _ (c .before .before .before .before .if1 .left)) _ (c .before .before .before .cell-at .ensures) _ (c .before .before .count2 .ensures) _ _ (c .before .find .ensures) (c .if2 .left)
+returns-3 c = let s = c .before .before .before .before .before .before .before in
+    column-record _ _ (s .before .before .before .pre .0) (s .before .before .before .pre .1) _ (s .before .cell-at .ensures) _ _ (s .find-from .ensures) (not-false _ (c .before .before .before .before .before .before .if1 .left)) _ (c .before .before .count .ensures) _ (c .before .is-whole .ensures) (c .if3 .taken)
+
+returns-4 : tie.Need-returns-4
+returns-4 c = let s = c .before .before .before .before .before .before .before in
+    too-deep _ _ (s .before .before .before .pre .0) (s .before .before .before .pre .1) _ (s .before .cell-at .ensures) _ _ (s .find-from .ensures) (not-false _ (c .before .before .before .before .before .before .if1 .left)) _ (c .before .before .count .ensures) _ (c .before .is-whole .ensures) (c .if3 .left)
 
 pub find-column-spec : {M : Type 1} → statement M
 find-column-spec =
     tie.close
     (tie.spec
+    cell-at-requires
+    add-find-from
+    sub-find-from
+    find-from-requires
+    returns
+    cell-at-requires-2
+    tag-of-requires
+    returns-2
+    sub-count
     count-requires
     is-whole-requires
-    returns
-    cell-at-requires
-    add-count
-    count-requires-2
-    add-t12
-    sub-t13
-    find-requires
-    returns-2
-    returns-3)
+    returns-3
+    returns-4)
