@@ -41,7 +41,7 @@ fn null_columns(area: &mut [u8], from: usize, n: u64)
     let mut left = n;
     while 0 < left {
         let c = area::cell_at(area, p);
-        let size = intmap::count(area, p, DEPTH);
+        let size = intmap::count_from(area, p, c, DEPTH);
         area::put_cell(area, p, as_nullable(c));
         p += size;
         left -= 1;

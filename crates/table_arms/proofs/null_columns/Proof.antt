@@ -12,12 +12,6 @@ use Rattle.table_arms.proofs.NullLaws.{null-turn, null-room, null-done}
 use borrow.Author.Needs.{needs}
 use Rattle.table_arms.proofs.null_columns.Statement.{statement}
 use Rattle.table_arms.proofs.null_columns.Tie as tie
-use Rattle.table_arms.proofs.null_columns.Reads as reads
-use Rattle.table_arms.proofs.null_columns.Lts as lts
-use Rattle.area.proofs.cell_at.Reads as cell-at-reads
-use Rattle.area.proofs.put_cell.Reads as put-cell-reads
-use Rattle.intmap.proofs.count.Reads as count-reads
-use Rattle.table_arms.proofs.as_nullable.Reads as as-nullable-reads
 
 abbrev Inv-loop : tie.InvT-loop
 Inv-loop area₀ from n p₀ left₀ area p left = (length area ≡ length area₀)
@@ -37,8 +31,8 @@ cell-at-requires : tie.Need-cell-at-requires Inv-loop μ-loop
 cell-at-requires c κs = let l = c .before .before .loop in omega (arith, l .inv .1, l .inv .3, sizes-step (size (cells (l .area)) 8) (l .left) (l .p) (c .before .loop-test .taken), size-pos (cells (l .area)) 8 (l .p), c .before .before .before .before .pre .small)
 
 -- src/lib.rt:40:13
-count-requires : tie.Need-count-requires Inv-loop μ-loop
-count-requires c κs = let l = c .before .before .before .before .loop in record { fits = omega (arith, l .inv .1, l .inv .3, sizes-step (size (cells (l .area)) 8) (l .left) (l .p) (c .before .before .before .loop-test .taken)); small = omega (arith, l .inv .1, c .before .before .before .before .before .before .pre .small) }
+count-from-requires : tie.Need-count-from-requires Inv-loop μ-loop
+count-from-requires c κs = let l = c .before .before .before .before .loop in (record { fits = omega (arith, l .inv .1, l .inv .3, sizes-step (size (cells (l .area)) 8) (l .left) (l .p) (c .before .before .before .loop-test .taken)); small = omega (arith, l .inv .1, c .before .before .before .before .before .before .pre .small) }, c .before .cell-at .ensures)
 
 -- src/lib.rt:41:33
 as-nullable-requires : tie.Need-as-nullable-requires Inv-loop μ-loop
@@ -50,7 +44,7 @@ put-cell-requires c κs = let l = c .before .before .before .before .before .bef
 
 -- src/lib.rt:42:9
 add-p : tie.Need-add-p Inv-loop μ-loop
-add-p c = let l = c .before .before .before .before .before .before .before .before .before .before .loop in omega (arith, l .inv .3, sizes-step (size (cells (l .area)) 8) (l .left) (l .p) (c .before .before .before .before .before .before .before .before .before .loop-test .taken), c .before .before .before .before .before .count .ensures, c .before .before .before .before .before .before .before .before .before .before .before .before .pre .small)
+add-p c = let l = c .before .before .before .before .before .before .before .before .before .before .loop in omega (arith, l .inv .3, sizes-step (size (cells (l .area)) 8) (l .left) (l .p) (c .before .before .before .before .before .before .before .before .before .loop-test .taken), c .before .before .before .before .before .count-from .ensures, c .before .before .before .before .before .before .before .before .before .before .before .before .pre .small)
 
 -- src/lib.rt:43:9
 sub-left : tie.Need-sub-left Inv-loop μ-loop
@@ -65,8 +59,8 @@ loop-again : tie.Need-loop-again Inv-loop μ-loop
 loop-again c = let l = c .before .before .before .before .before .before .before .before .before .before .loop in (
   c .before .before .put-cell .kept .0 ∙ l .inv .0,
   c .before .before .put-cell .ensures .same ∙ l .inv .1,
-  null-turn _ _ _ _ _ _ _ (c .before .before .before .before .before .before .before .before .before .loop-test .taken) (c .before .before .before .before .before .before .before .cell-at .ensures) (c .before .before .before .before .before .count .ensures) (c .before .before .before .as-nullable .ensures) (c .before .before .put-cell .ensures .cells) _ (l .inv .2),
-  null-room _ _ _ _ _ _ _ (c .before .before .before .before .before .before .before .before .before .loop-test .taken) (c .before .before .before .before .before .before .before .cell-at .ensures) (c .before .before .before .before .before .count .ensures) (c .before .before .before .as-nullable .ensures) (c .before .before .put-cell .ensures .cells) _ (l .inv .3),
+  null-turn _ _ _ _ _ _ _ (c .before .before .before .before .before .before .before .before .before .loop-test .taken) (c .before .before .before .before .before .before .before .cell-at .ensures) (c .before .before .before .before .before .count-from .ensures) (c .before .before .before .as-nullable .ensures) (c .before .before .put-cell .ensures .cells) _ (l .inv .2),
+  null-room _ _ _ _ _ _ _ (c .before .before .before .before .before .before .before .before .before .loop-test .taken) (c .before .before .before .before .before .before .before .cell-at .ensures) (c .before .before .before .before .before .count-from .ensures) (c .before .before .before .as-nullable .ensures) (c .before .before .put-cell .ensures .cells) _ (l .inv .3),
 )
 
 -- src/lib.rt:32:1
@@ -85,7 +79,7 @@ null-columns-spec =
     μ-loop
     loop-holds
     cell-at-requires
-    count-requires
+    count-from-requires
     as-nullable-requires
     put-cell-requires
     add-p
