@@ -1,2 +1,5 @@
+pub mod Adds
+pub mod Counts
+pub mod Lends
 pub mod Local
 pub mod SumLaws
