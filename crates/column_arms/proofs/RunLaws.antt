@@ -46,6 +46,7 @@ use Rattle.cursor_arms.specs.Behind.{RunBehind}
 use Rattle.cursor_arms.proofs.DupLaws.{frame-same}
 use Rattle.cursor_arms.proofs.StandsLaws.{opened}
 use Rattle.cursor_arms.proofs.TableLaws.{size-alike}
+use Rattle.state.specs.Own.{StoresCell}
 use Rattle.column_arms.specs.Columns.{StoresRun}
 
 -- ---- a cell written behind the map
@@ -196,17 +197,18 @@ module _ (limit : ℕ) (cs : List Cell) (a : IntMap) (at : ℕ) (c : Cell) (tag 
   no-record key (Single d n) e = refl
   no-record key (Record x) e = absurd (other (let f : c ≡ cell (head 2 0 0 key) (count x) = cc in omega (arith, ap (λ (y : Cell). y .head) f)))
 
-  pub stores-alone : (ds : List Cell) (j : ℕ) (r : Stored) → Stores cs ds limit a 0 j 0 (c ∷ []) r → StoresRun limit cs ds a at c j r
+  pub stores-alone : (ds : List Cell) (j : ℕ) (r : Stored) → StoresCell limit cs ds a 0 j c r → StoresRun limit cs ds a at c j r
   unfolding runRegister registerDepth
   stores-alone ds j r st =
       record {
         says = λ bound m h key v deep sorted is.
             (let run = sym alone ∙ is in
+            let stores = st .says bound m h in
             tells limit bound ds a r (storeRegister limit (intOf j) (Column v) m)
             (subst (λ u. Carried limit bound u (storeRegister limit (intOf j) (Column v) m))
-            (sym (st .answer ∙ ap₂ (λ d l. storeRuns limit 0 (intOf j) d l (runsAt cs a)) (no-record key v run) run))
-            (held-register h (intOf j) key (Column v) (λ _. sorted) tt)) (left cs ds limit a j 0 _ r st));
-        leaves = left cs ds limit a j 0 _ r st;
+            (sym (stores .answer ∙ ap₂ (λ d l. storeRuns limit 0 (intOf j) d l (runsAt cs a)) (no-record key v run) run))
+            (held-register h (intOf j) key (Column v) (λ _. sorted) tt)) (st .leaves));
+        leaves = st .leaves;
         frame = frame-within cs ds (a .base) limit (a .base) (limit + limit) (omega arith) (omega arith) (st .frame);
       }
 

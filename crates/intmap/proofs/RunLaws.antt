@@ -1,5 +1,5 @@
 -- The laws of columns as runs: how many cells each kind takes, what a loop over columns goes by, and when two compare the same. Assumes nothing.
-use mathlib.Core.Path.{_≡_, refl, ap, ap₂}
+use mathlib.Core.Path.{_≡_, refl, sym, ap, ap₂, _∙_}
 use mathlib.Core.List.{List}
 use mathlib.Core.Bool.{Bool, true, false, _&&_, false≢true}
 use Prim.Native.Nat.{ℕ, zero, suc, _+_, _-_, _<_, _≤_}
@@ -25,6 +25,12 @@ pub size-record : (cs : List Cell) (d at : ℕ) (x : Cell) → x ≡ getD cs at 
 unfolding size whole
 size-record cs zero at x e f h = absurd (omega arith)
 size-record cs (suc d) at x e f h = let p : suc d - 1 ≡ d = omega arith in rw (← e, eq-eqb (tagOf x) 2 h, p)
+
+-- a record with no columns
+pub size-empty : (cs : List Cell) (d at : ℕ) (x : Cell) → x ≡ getD cs at blank → tagOf x ≡ 2 → x .payload ≡ 0 → 1 ≡ size cs d at
+unfolding sizes size
+size-empty cs zero at x e h z = refl
+size-empty cs (suc d) at x e h z = ap (λ n. 1 + sizes (size cs (suc d - 1)) n (at + 1)) (sym z) ∙ size-record cs (suc d) at x e (omega arith) h
 
 -- a loop over columns: k cells are behind it, and n columns are ahead
 pub sizes-end : (f : ℕ → ℕ) (n at k s : ℕ) → n ≤ 0 → k + sizes f n (at + k) ≡ s → k ≡ s

@@ -123,6 +123,9 @@ pub fn count_from(area: &[u8], at: usize, c: Cell, depth: usize) -> usize
     if tag != RECORD {
         return 1;
     }
+    if c.payload == 0 {
+        return 1;
+    }
     count(area, at, depth)
 }
 

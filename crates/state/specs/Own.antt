@@ -33,7 +33,7 @@ pub record HasKey (cs : List Cell) (a : IntMap) (key p : ℕ) : Type 0 where
   pub is : keyOf (getD cs p blank) ≡ key
 
 abbrev pub Hints : List Cell → IntMap → ℕ → Slot → Type 0
-Hints cs a key (slot.Bad n) = Unit {0}
+Hints cs a key (slot.Bad n) = ⊥
 Hints cs a key slot.Absent = Unit {0}
 Hints cs a key (slot.At p) = HasKey cs a key p
 
@@ -45,7 +45,7 @@ pub record Own (cs : List Cell) (a : IntMap) (class i p : ℕ) : Type 0 where
   pub plain : tagOf (getD cs p blank) ≡ 2 → ⊥
 
 abbrev pub Owns : List Cell → IntMap → ℕ → ℕ → Slot → Type 0
-Owns cs a class i (slot.Bad n) = Unit {0}
+Owns cs a class i (slot.Bad n) = ⊥
 Owns cs a class i slot.Absent = Unit {0}
 Owns cs a class i (slot.At p) = Own cs a class i p
 

@@ -10,7 +10,7 @@ tag-of-requires : tie.Need-tag-of-requires
 tag-of-requires c κs = search needs
 
 store-cell-requires : tie.Need-store-cell-requires
-store-cell-requires c κs = (c .before .before .before .before .pre .0 .room, omega arith, λ e. c .before .if1 .taken (c .before .before .tag-of .ensures ∙ e))
+store-cell-requires c κs = (c .before .before .before .before .pre .0, omega arith, λ e. c .before .if1 .taken (c .before .before .tag-of .ensures ∙ e))
 
 same-length : tie.Need-same-length
 same-length c = search needs
