@@ -13,8 +13,8 @@ use Rattle.area.specs.Moves.{moved}
 use Rattle.area.specs.declared.Cell.{Cell}
 use Rattle.area.proofs.MoveLaws.{moved-below, length-moved}
 use Rattle.intmap.specs.Pack.{tagOf}
-use Rattle.intmap.specs.Runs.{sizes, whole, size, Agree, Copied}
-use Rattle.intmap.proofs.RunLaws.{size-pos, size-record}
+use Rattle.intmap.specs.Runs.{sizes, whole, size, Agree, Copyable, Copied}
+use Rattle.intmap.proofs.RunLaws.{size-pos, size-single, size-record, sizes-room, sizes-turn}
 
 pub agree-part : (cs ds : List Cell) (p q n k m : ℕ) → k + m ≤ n → Agree cs p ds q n → Agree cs (p + k) ds (q + k) m
 agree-part cs ds p q n k m le a j lt =
@@ -79,12 +79,6 @@ pub one-moved : (cs ds : List Cell) (f t s : ℕ) (c : Cell) → c ≡ getD cs f
 unfolding moved
 one-moved cs ds f t s c r w e = w ∙ rw (← e, r) (simp add-zero)
 
--- a turn of the loop that copies columns
-pub copy-turn : (cs now after : List Cell) (d f t k r : ℕ) → now ≡ moved cs f t k → f + k + size cs d (f + k) ≤ t → r ≡ size now d (f + k) → after ≡ moved now (f + k) (t + k) (size now d (f + k)) → (r ≡ size cs d (f + k)) × (after ≡ moved cs f t (k + r))
-copy-turn cs now after d f t k r e le c w =
-    let s : r ≡ size cs d (f + k) = c ∙ size-below cs now f t k e d (f + k) le in
-    (s, w ∙ rw (← c, e) (moved-on cs f t k r (omega arith)))
-
 -- a record's cell, and then its columns
 pub record-moved : (cs ds es : List Cell) (d f t r : ℕ) (x : Cell) → x ≡ getD cs f blank → ds ≡ set cs t x → 0 < d → tagOf x ≡ 2 → f + size cs d f ≤ t → r ≡ sizes (size ds (d - 1)) (x .payload) (f + 1) → es ≡ moved ds (f + 1) (t + 1) (sizes (size ds (d - 1)) (x .payload) (f + 1)) → (1 + r ≡ size cs d f) × (es ≡ moved cs f t (size cs d f))
 record-moved cs ds es d f t r x p w deep tag le c m =
@@ -97,3 +91,35 @@ record-moved cs ds es d f t r x p w deep tag le c m =
 -- a copy of as many cells as were counted
 pub copied : {cs ds : List Cell} {from to n r : ℕ} → r ≡ n → ds ≡ moved cs from to n → Copied cs ds from to n r
 copied {cs} {ds} {from} {to} {n} e w = record { count = e; cells = w; long = ap length w ∙ length-moved cs from to n }
+
+-- the loop that copies n columns, when k cells are copied: the columns left have the rest
+pub record Copying (cs now : List Cell) (d f t n left k : ℕ) : Type 0 where
+  pub able : Copyable cs f t (sizes (size cs d) n f)
+  pub done : now ≡ moved cs f t k
+  pub rest : k + sizes (size cs d) left (f + k) ≡ sizes (size cs d) n f
+
+-- a turn of it: the next column can be copied, and a copy of it, or of its cell where it is alone, leads to the next turn
+module _ {cs now : List Cell} {d f t n left k : ℕ} (turn : Copying cs now d f t n left k) (more : 0 < left) where
+  fits : k + size cs d (f + k) ≤ sizes (size cs d) n f
+  fits = sizes-room (size cs d) left f k (sizes (size cs d) n f) more (turn .rest)
+
+  as-was : size now d (f + k) ≡ size cs d (f + k)
+  as-was = size-below cs now f t k (turn .done) d (f + k) (omega (arith, turn .able .apart, fits))
+
+  pub next-able : Copyable now (f + k) (t + k) (size now d (f + k))
+  next-able =
+      let long : length now ≡ length cs = ap length (turn .done) ∙ length-moved cs f t k in
+      record { apart = omega (arith, turn .able .apart, fits, as-was); room = omega (arith, turn .able .room, fits, as-was); small = omega (arith, turn .able .small) }
+
+  pub next-copied : {after : List Cell} {r : ℕ} → Copied now after (f + k) (t + k) (size now d (f + k)) r → Copying cs after d f t n (left - 1) (k + r)
+  next-copied {after} {r} new =
+      record {
+        able = turn .able;
+        done = new .cells ∙ rw (← new .count, turn .done) (moved-on cs f t k r (omega (arith, turn .able .apart, fits, as-was, new .count)));
+        rest = sizes-turn (size cs d) left f k r (sizes (size cs d) n f) more (new .count ∙ as-was) (turn .rest);
+      }
+
+  pub next-single : {after : List Cell} (c : Cell) → c ≡ getD now (f + k) blank → (tagOf c ≡ 2 → ⊥) → after ≡ set now (t + k) c → Copying cs after d f t n (left - 1) (k + 1)
+  next-single {after} c r alone w =
+      let one = size-single now d (f + k) c r alone in
+      next-copied (copied one (one-moved now after (f + k) (t + k) (size now d (f + k)) c r w one))

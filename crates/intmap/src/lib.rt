@@ -194,7 +194,13 @@ pub fn copy_runs(area: &mut [u8], from: usize, to: usize, n: u64, depth: usize) 
     let mut left = n;
     let mut k: usize = 0;
     while 0 < left {
-        k += copy_run(area, from + k, to + k, depth);
+        let c = area::cell_at(area, from + k);
+        if c.head % 256 == RECORD {
+            k += copy_run(area, from + k, to + k, depth);
+        } else {
+            area::put_cell(area, to + k, c);
+            k += 1;
+        }
         left -= 1;
     }
     k

@@ -1,6 +1,7 @@
 -- `copy_run` and `copy_runs` call each other. The invariant of the latter's loop: k cells are copied, and the columns left have the rest. The
 -- measure is twice the depth, and one more for `copy_runs`; the loop's is the number of columns left. Assumes nothing.
 use mathlib.Core.Path.{_≡_, refl, ap, _∙_}
+use mathlib.Core.Logic.{inl, inr}
 use Prim.Native.Nat.{_+_, _-_, ℕ, _<_}
 use native.Mathlib.Omega.{arith}
 use native.Mathlib.Nat.{add-zero, zero-add}
@@ -9,13 +10,11 @@ use borrow.Fn.Kinds.{In}
 use borrow.Fn.PlainCycle.{Measures, is, falls, and}
 use Rattle.area.specs.Cells.{cells}
 use Rattle.area.specs.Moves.{moved}
-use Rattle.area.proofs.CellLaws.{cells-kept}
 use Rattle.area.proofs.MoveLaws.{moved-none}
 use Rattle.area.proofs.cell_at.Reads as cell-at-reads
 use Rattle.area.proofs.put_cell.Reads as put-cell-reads
-use Rattle.intmap.specs.Runs.{size, sizes}
-use Rattle.intmap.proofs.RunLaws.{size-none, size-single, size-record, size-pos, sizes-room, sizes-turn, sizes-end}
-use Rattle.intmap.proofs.SameCells.{record-moved, one-moved, sizes-below, size-below, copy-turn, copied}
+use Rattle.intmap.proofs.RunLaws.{size-none, size-single, size-record, size-pos, sizes-end}
+use Rattle.intmap.proofs.SameCells.{record-moved, one-moved, sizes-below, copied, Copying, next-able, next-copied, next-single}
 use Rattle.intmap.proofs.copy_run.Reads as copy-run
 use Rattle.intmap.proofs.copy_run.Kinds as copy-run-kinds
 use Rattle.intmap.proofs.+copy_run+copy_runs.Lts-copy_run as copy-run-lts
@@ -200,123 +199,175 @@ copy-run-returns-3 t c =
 
 abbrev copy-runs-Inv-loop : copy-runs-lts.InvT-loop
 copy-runs-Inv-loop area₀ from to n depth left₀ k₀ area left k =
-    (length area ≡ length area₀)
-    × (cells area ≡ moved (cells area₀) from to k)
-    × (k + sizes (size (cells area₀) depth) left (from + k) ≡ sizes (size (cells area₀) depth) n from)
+    (length area ≡ length area₀) × Copying (cells area₀) (cells area) depth from to n left k
 
 abbrev copy-runs-μ-loop : copy-runs-lts.MeasureT-loop
 copy-runs-μ-loop area₀ from to n depth left₀ k₀ area left k = left
 
-copy-runs-loop-holds :
-    (t : ℕ) →
-    copy-runs-lts.Need-loop-holds
-    (copy-run-below t, copy-run.Post)
-    (copy-runs-at t)
-    copy-runs.Post
-    copy-runs-Inv-loop
-    copy-runs-μ-loop
-copy-runs-loop-holds t c = (refl, moved-none _ _ _ _ refl, simp (add-zero, zero-add))
-
-copy-runs-add-copy-run : (t : ℕ) → copy-runs-lts.Need-add-copy-run (
+copy-runs-loop-holds : (t : ℕ) → copy-runs-lts.Need-loop-holds (
+  cell-at-reads.Asked,
+  cell-at-reads.Learnt,
   copy-run-below t,
   copy-run.Post,
+  put-cell-reads.Asked,
+  put-cell-reads.Learnt,
 ) (copy-runs-at t) copy-runs.Post copy-runs-Inv-loop copy-runs-μ-loop
-copy-runs-add-copy-run t c = let s = c .before .before .before .before in omega (arith, s .pre .1 .room, s .pre .1 .apart, s .pre .1 .small)
+copy-runs-loop-holds t c = (refl, record { able = c .before .pre .1; done = moved-none _ _ _ _ refl; rest = simp (add-zero, zero-add) })
 
-copy-runs-add-copy-run-2 : (t : ℕ) → copy-runs-lts.Need-add-copy-run-2 (
+copy-runs-add-cell-at : (t : ℕ) → copy-runs-lts.Need-add-cell-at (
+  cell-at-reads.Asked,
+  cell-at-reads.Learnt,
   copy-run-below t,
   copy-run.Post,
+  put-cell-reads.Asked,
+  put-cell-reads.Learnt,
 ) (copy-runs-at t) copy-runs.Post copy-runs-Inv-loop copy-runs-μ-loop
-copy-runs-add-copy-run-2 t c = let s = c .before .before .before .before in omega (arith, s .pre .1 .room, s .pre .1 .apart, s .pre .1 .small)
+copy-runs-add-cell-at t c = omega (arith, next-able (c .before .before .loop .inv .1) (c .before .loop-test .taken))
 
-copy-runs-copy-run-requires : (t : ℕ) → copy-runs-lts.Need-copy-run-requires (
+copy-runs-cell-at-requires : (t : ℕ) → copy-runs-lts.Need-cell-at-requires (
+  cell-at-reads.Asked,
+  cell-at-reads.Learnt,
   copy-run-below t,
   copy-run.Post,
+  put-cell-reads.Asked,
+  put-cell-reads.Learnt,
 ) (copy-runs-at t) copy-runs.Post copy-runs-Inv-loop copy-runs-μ-loop
-copy-runs-copy-run-requires t c κs =
+copy-runs-cell-at-requires t c κs =
     let s = c .before .before .before .before in
     let l = c .before .before .loop in
-    let room = sizes-room (size (cells (s .args .area .now)) (s .args .depth)) (l .left) (s .args .from) (l .k) _ (c .before .loop-test .taken) (l .inv .2) in
-    let b = size-below (cells (s .args .area .now)) (cells (l .area)) (s .args .from) (s .args .to) (l .k) (l .inv .1) (s .args .depth) (s .args .from + l .k) (omega (arith, s .pre .1 .apart)) in
-    let kept = cells-kept (s .args .area .now) (l .area) (l .inv .0) in
-    (omega (arith, s .pre .0), record { apart = omega (arith, s .pre .1 .apart); room = omega (arith, s .pre .1 .room); small = omega (arith, s .pre .1 .small) })
+    omega (arith, next-able (l .inv .1) (c .before .loop-test .taken), size-pos (cells (l .area)) (s .args .depth) (s .args .from + l .k))
 
-copy-runs-add-k :
-    (t : ℕ) →
-    copy-runs-lts.Need-add-k
-    (copy-run-below t, copy-run.Post)
-    (copy-runs-at t)
-    copy-runs.Post
-    copy-runs-Inv-loop
-    copy-runs-μ-loop
-copy-runs-add-k t c =
-    let s = c .before .before .before .before .before .before .before in
-    let l = c .before .before .before .before .before .loop in
-    let w = c .before .before .copy-run in
-    let more = c .before .before .before .before .loop-test .taken in
-    let room = sizes-room (size (cells (s .args .area .now)) (s .args .depth)) (l .left) (s .args .from) (l .k) _ more (l .inv .2) in
-    let u = copy-turn (cells (s .args .area .now)) (cells (l .area)) (cells (w .last .0)) (s .args .depth) (s .args .from) (s .args .to) (l .k) (w .result) (l .inv .1) (omega (arith, s .pre .1 .apart)) (w .ensures .count) (w .ensures .cells) in
-    omega (arith, u .0, s .pre .1 .room, s .pre .1 .apart, s .pre .1 .small)
+copy-runs-add-copy-run : (t : ℕ) → copy-runs-lts.Need-add-copy-run (
+  cell-at-reads.Asked,
+  cell-at-reads.Learnt,
+  copy-run-below t,
+  copy-run.Post,
+  put-cell-reads.Asked,
+  put-cell-reads.Learnt,
+) (copy-runs-at t) copy-runs.Post copy-runs-Inv-loop copy-runs-μ-loop
+copy-runs-add-copy-run t c = omega (arith, next-able (c .before .before .before .before .before .before .loop .inv .1) (c .before .before .before .before .before .loop-test .taken))
 
-copy-runs-sub-left :
-    (t : ℕ) →
-    copy-runs-lts.Need-sub-left
-    (copy-run-below t, copy-run.Post)
-    (copy-runs-at t)
-    copy-runs.Post
-    copy-runs-Inv-loop
-    copy-runs-μ-loop
+copy-runs-add-copy-run-2 : (t : ℕ) → copy-runs-lts.Need-add-copy-run-2 (
+  cell-at-reads.Asked,
+  cell-at-reads.Learnt,
+  copy-run-below t,
+  copy-run.Post,
+  put-cell-reads.Asked,
+  put-cell-reads.Learnt,
+) (copy-runs-at t) copy-runs.Post copy-runs-Inv-loop copy-runs-μ-loop
+copy-runs-add-copy-run-2 t c = omega (arith, next-able (c .before .before .before .before .before .before .loop .inv .1) (c .before .before .before .before .before .loop-test .taken))
+
+copy-runs-copy-run-requires : (t : ℕ) → copy-runs-lts.Need-copy-run-requires (
+  cell-at-reads.Asked,
+  cell-at-reads.Learnt,
+  copy-run-below t,
+  copy-run.Post,
+  put-cell-reads.Asked,
+  put-cell-reads.Learnt,
+) (copy-runs-at t) copy-runs.Post copy-runs-Inv-loop copy-runs-μ-loop
+copy-runs-copy-run-requires t c κs = (omega (arith, c .before .before .before .before .before .before .before .before .pre .0), next-able (c .before .before .before .before .before .before .loop .inv .1) (c .before .before .before .before .before .loop-test .taken))
+
+copy-runs-add-k : (t : ℕ) → copy-runs-lts.Need-add-k (
+  cell-at-reads.Asked,
+  cell-at-reads.Learnt,
+  copy-run-below t,
+  copy-run.Post,
+  put-cell-reads.Asked,
+  put-cell-reads.Learnt,
+) (copy-runs-at t) copy-runs.Post copy-runs-Inv-loop copy-runs-μ-loop
+copy-runs-add-k t c = omega (arith, next-able (c .before .before .before .before .before .before .before .before .before .loop .inv .1) (c .before .before .before .before .before .before .before .before .loop-test .taken), c .before .before .copy-run .ensures .count)
+
+copy-runs-add-put-cell : (t : ℕ) → copy-runs-lts.Need-add-put-cell (
+  cell-at-reads.Asked,
+  cell-at-reads.Learnt,
+  copy-run-below t,
+  copy-run.Post,
+  put-cell-reads.Asked,
+  put-cell-reads.Learnt,
+) (copy-runs-at t) copy-runs.Post copy-runs-Inv-loop copy-runs-μ-loop
+copy-runs-add-put-cell t c = omega (arith, next-able (c .before .before .before .before .before .before .loop .inv .1) (c .before .before .before .before .before .loop-test .taken))
+
+copy-runs-put-cell-requires : (t : ℕ) → copy-runs-lts.Need-put-cell-requires (
+  cell-at-reads.Asked,
+  cell-at-reads.Learnt,
+  copy-run-below t,
+  copy-run.Post,
+  put-cell-reads.Asked,
+  put-cell-reads.Learnt,
+) (copy-runs-at t) copy-runs.Post copy-runs-Inv-loop copy-runs-μ-loop
+copy-runs-put-cell-requires t c κs =
+    let s = c .before .before .before .before .before .before .before .before in
+    let l = c .before .before .before .before .before .before .loop in
+    omega (arith, next-able (l .inv .1) (c .before .before .before .before .before .loop-test .taken), size-pos (cells (l .area)) (s .args .depth) (s .args .from + l .k))
+
+copy-runs-add-k-2 : (t : ℕ) → copy-runs-lts.Need-add-k-2 (
+  cell-at-reads.Asked,
+  cell-at-reads.Learnt,
+  copy-run-below t,
+  copy-run.Post,
+  put-cell-reads.Asked,
+  put-cell-reads.Learnt,
+) (copy-runs-at t) copy-runs.Post copy-runs-Inv-loop copy-runs-μ-loop
+copy-runs-add-k-2 t c = omega (arith, next-able (c .before .before .before .before .before .before .before .before .before .loop .inv .1) (c .before .before .before .before .before .before .before .before .loop-test .taken))
+
+copy-runs-sub-left : (t : ℕ) → copy-runs-lts.Need-sub-left (
+  cell-at-reads.Asked,
+  cell-at-reads.Learnt,
+  copy-run-below t,
+  copy-run.Post,
+  put-cell-reads.Asked,
+  put-cell-reads.Learnt,
+) (copy-runs-at t) copy-runs.Post copy-runs-Inv-loop copy-runs-μ-loop
 copy-runs-sub-left t c = omega arith
 
-copy-runs-loop-less :
-    (t : ℕ) →
-    copy-runs-lts.Need-loop-less
-    (copy-run-below t, copy-run.Post)
-    (copy-runs-at t)
-    copy-runs.Post
-    copy-runs-Inv-loop
-    copy-runs-μ-loop
+copy-runs-loop-less : (t : ℕ) → copy-runs-lts.Need-loop-less (
+  cell-at-reads.Asked,
+  cell-at-reads.Learnt,
+  copy-run-below t,
+  copy-run.Post,
+  put-cell-reads.Asked,
+  put-cell-reads.Learnt,
+) (copy-runs-at t) copy-runs.Post copy-runs-Inv-loop copy-runs-μ-loop
 copy-runs-loop-less t c = omega arith
 
-copy-runs-loop-again :
-    (t : ℕ) →
-    copy-runs-lts.Need-loop-again
-    (copy-run-below t, copy-run.Post)
-    (copy-runs-at t)
-    copy-runs.Post
-    copy-runs-Inv-loop
-    copy-runs-μ-loop
+copy-runs-loop-again : (t : ℕ) → copy-runs-lts.Need-loop-again (
+  cell-at-reads.Asked,
+  cell-at-reads.Learnt,
+  copy-run-below t,
+  copy-run.Post,
+  put-cell-reads.Asked,
+  put-cell-reads.Learnt,
+) (copy-runs-at t) copy-runs.Post copy-runs-Inv-loop copy-runs-μ-loop
 copy-runs-loop-again t c =
-    let s = c .before .before .before .before .before .before .before in
     let l = c .before .before .before .before .before .loop in
-    let w = c .before .before .copy-run in
     let more = c .before .before .before .before .loop-test .taken in
-    let room = sizes-room (size (cells (s .args .area .now)) (s .args .depth)) (l .left) (s .args .from) (l .k) _ more (l .inv .2) in
-    let u = copy-turn (cells (s .args .area .now)) (cells (l .area)) (cells (w .last .0)) (s .args .depth) (s .args .from) (s .args .to) (l .k) (w .result) (l .inv .1) (omega (arith, s .pre .1 .apart)) (w .ensures .count) (w .ensures .cells) in
-    (w .kept .0 ∙ l .inv .0, u .1, sizes-turn _ _ _ _ _ _ more (u .0) (l .inv .2))
+    elim (c .if1 .came) [
+      | inl x ↦ rw (x .5, x .6) (x .2 .kept .0 ∙ l .inv .0, next-copied (l .inv .1) more (x .2 .ensures))
+      | inr y ↦ rw (y .5, y .6) (y .2 .kept .0 ∙ l .inv .0, next-single (l .inv .1) more _ (c .before .before .cell-at .ensures) (y .0 .left) (y .2 .ensures .cells))
+    ]
 
-copy-runs-same-length :
-    (t : ℕ) →
-    copy-runs-lts.Need-same-length
-    (copy-run-below t, copy-run.Post)
-    (copy-runs-at t)
-    copy-runs.Post
-    copy-runs-Inv-loop
-    copy-runs-μ-loop
+copy-runs-same-length : (t : ℕ) → copy-runs-lts.Need-same-length (
+  cell-at-reads.Asked,
+  cell-at-reads.Learnt,
+  copy-run-below t,
+  copy-run.Post,
+  put-cell-reads.Asked,
+  put-cell-reads.Learnt,
+) (copy-runs-at t) copy-runs.Post copy-runs-Inv-loop copy-runs-μ-loop
 copy-runs-same-length t c = c .before .loop .inv .0
 
-copy-runs-returns :
-    (t : ℕ) →
-    copy-runs-lts.Need-returns
-    (copy-run-below t, copy-run.Post)
-    (copy-runs-at t)
-    copy-runs.Post
-    copy-runs-Inv-loop
-    copy-runs-μ-loop
+copy-runs-returns : (t : ℕ) → copy-runs-lts.Need-returns (
+  cell-at-reads.Asked,
+  cell-at-reads.Learnt,
+  copy-run-below t,
+  copy-run.Post,
+  put-cell-reads.Asked,
+  put-cell-reads.Learnt,
+) (copy-runs-at t) copy-runs.Post copy-runs-Inv-loop copy-runs-μ-loop
 copy-runs-returns t c =
     let l = c .before .loop in
-    let e = sizes-end _ _ _ _ _ (c .loop-test .left) (l .inv .2) in
-    copied e (l .inv .1 ∙ ap (moved _ _ _) e)
+    let e = sizes-end _ _ _ _ _ (c .loop-test .left) (l .inv .1 .rest) in
+    copied e (l .inv .1 .done ∙ ap (moved _ _ _) e)
 
 pub +copy-run+copy-runs-spec : {M : Type 1} → statement M
 +copy-run+copy-runs-spec = close μ-copy-run μ-copy-runs (λ t. copy-run-lts.spec (
@@ -342,17 +393,28 @@ pub +copy-run+copy-runs-spec : {M : Type 1} → statement M
     (copy-run-add-result t)
     (copy-run-same-length-3 t)
     (copy-run-returns-3 t))
-    λ t. copy-runs-lts.spec
-    (copy-run-below t, copy-run.Post)
+    λ t. copy-runs-lts.spec (
+      cell-at-reads.Asked,
+      cell-at-reads.Learnt,
+      copy-run-below t,
+      copy-run.Post,
+      put-cell-reads.Asked,
+      put-cell-reads.Learnt,
+    )
     (copy-runs-at t)
     copy-runs.Post
     copy-runs-Inv-loop
     copy-runs-μ-loop
     (copy-runs-loop-holds t)
+    (copy-runs-add-cell-at t)
+    (copy-runs-cell-at-requires t)
     (copy-runs-add-copy-run t)
     (copy-runs-add-copy-run-2 t)
     (copy-runs-copy-run-requires t)
     (copy-runs-add-k t)
+    (copy-runs-add-put-cell t)
+    (copy-runs-put-cell-requires t)
+    (copy-runs-add-k-2 t)
     (copy-runs-sub-left t)
     (copy-runs-loop-less t)
     (copy-runs-loop-again t)
