@@ -238,8 +238,7 @@ pub fn run_behind(map: IntMap, area: &mut [u8], at: usize, nullable: u64, limit:
     ensures { λ r. ⌜ RunBehind limit (cells (now (area .entry))) (cells (now (area .exit))) map at nullable r ⌝ }
 {
     let to = map.base + limit;
-    let n = intmap::count(area, at, intmap::LEVELS);
-    area::move_cells(area, at, to, n);
+    let n = intmap::copy_run(area, at, to, intmap::LEVELS);
     let c = intmap::with_nullable(area::cell_at(area, to), nullable);
     area::put_cell(area, to, c);
     n

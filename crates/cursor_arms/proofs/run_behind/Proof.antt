@@ -1,5 +1,5 @@
--- `cursor_arms::run_behind` moves the run, and changes its head. Assumes nothing.
-use Rattle.cursor_arms.proofs.BehindLaws.{behind-within, behind-small, run-behind}
+-- `cursor_arms::run_behind` copies the run, and changes its head. Assumes nothing.
+use Rattle.cursor_arms.proofs.BehindLaws.{behind-inside, run-behind}
 use native.Mathlib.Omega.{arith}
 use borrow.Author.Needs.{needs}
 use Rattle.cursor_arms.proofs.run_behind.Statement.{statement}
@@ -7,9 +7,8 @@ use Rattle.cursor_arms.proofs.run_behind.Tie as tie
 use Rattle.cursor_arms.proofs.run_behind.Reads as reads
 use Rattle.cursor_arms.proofs.run_behind.Lts as lts
 use Rattle.area.proofs.cell_at.Reads as cell-at-reads
-use Rattle.area.proofs.move_cells.Reads as move-cells-reads
 use Rattle.area.proofs.put_cell.Reads as put-cell-reads
-use Rattle.intmap.proofs.count.Reads as count-reads
+use Rattle.intmap.proofs.copy_run.Reads as copy-run-reads
 use Rattle.intmap.proofs.with_nullable.Reads as with-nullable-reads
 
 -- src/lib.rt:236:14
@@ -17,24 +16,20 @@ add-to : tie.Need-add-to
 add-to c = search needs
 
 -- src/lib.rt:237:9
-count-requires : tie.Need-count-requires
-count-requires c κs = search needs
+copy-run-requires : tie.Need-copy-run-requires
+copy-run-requires c κs = search needs
 
--- src/lib.rt:238:5
-move-cells-requires : tie.Need-move-cells-requires
-move-cells-requires c κs = search needs
-
--- src/lib.rt:239:35
+-- src/lib.rt:238:35
 cell-at-requires : tie.Need-cell-at-requires
-cell-at-requires c κs = record { within = omega (arith, behind-within _ _ _ _ _ (c .before .before .before .before .before .before .before .before .before .pre .0) (c .before .before .before .before .before .before .before .before .before .pre .1) (c .before .before .before .before .before .before .before .before .before .pre .2) (c .before .before .before .before .before .count .ensures) _ (c .before .before .before .move-cells .ensures .cells)); small = behind-small _ _ _ _ _ (c .before .before .before .before .before .before .before .before .before .pre .0) (c .before .before .before .before .before .before .before .before .before .pre .1) (c .before .before .before .before .before .before .before .before .before .pre .2) (c .before .before .before .before .before .count .ensures) _ (c .before .before .before .move-cells .ensures .cells) }
+cell-at-requires c κs = let pre = c .before .before .before .before .before .before .before .pre in omega (arith, behind-inside (pre .0) (pre .1) (pre .2) (c .before .before .before .copy-run .ensures))
 
--- src/lib.rt:239:9
+-- src/lib.rt:238:9
 with-nullable-requires : tie.Need-with-nullable-requires
 with-nullable-requires c κs = search needs
 
--- src/lib.rt:240:5
+-- src/lib.rt:239:5
 put-cell-requires : tie.Need-put-cell-requires
-put-cell-requires c κs = record { within = omega (arith, behind-within _ _ _ _ _ (c .before .before .before .before .before .before .before .before .before .before .before .before .pre .0) (c .before .before .before .before .before .before .before .before .before .before .before .before .pre .1) (c .before .before .before .before .before .before .before .before .before .before .before .before .pre .2) (c .before .before .before .before .before .before .before .before .count .ensures) _ (c .before .before .before .before .before .before .move-cells .ensures .cells)); small = behind-small _ _ _ _ _ (c .before .before .before .before .before .before .before .before .before .before .before .before .pre .0) (c .before .before .before .before .before .before .before .before .before .before .before .before .pre .1) (c .before .before .before .before .before .before .before .before .before .before .before .before .pre .2) (c .before .before .before .before .before .before .before .before .count .ensures) _ (c .before .before .before .before .before .before .move-cells .ensures .cells) }
+put-cell-requires c κs = let pre = c .before .before .before .before .before .before .before .before .before .before .pre in omega (arith, behind-inside (pre .0) (pre .1) (pre .2) (c .before .before .before .before .before .before .copy-run .ensures))
 
 -- src/lib.rt:232:1
 same-length : tie.Need-same-length
@@ -42,15 +37,16 @@ same-length c = search needs
 
 -- src/lib.rt:232:1
 returns : tie.Need-returns
-returns c = run-behind _ _ _ _ _ (c .before .before .before .before .before .before .before .before .before .before .before .before .before .before .before .pre .0) (c .before .before .before .before .before .before .before .before .before .before .before .before .before .before .before .pre .1) (c .before .before .before .before .before .before .before .before .before .before .before .before .before .before .before .pre .2) (c .before .before .before .before .before .before .before .before .before .before .before .count .ensures) _ (c .before .before .before .before .before .before .before .before .before .move-cells .ensures .cells) _ _ _ _ (c .before .before .before .before .before .cell-at .ensures) (c .before .before .before .before .with-nullable .ensures) (c .before .before .put-cell .ensures .cells)
+returns c =
+    let pre = c .before .before .before .before .before .before .before .before .before .before .before .before .before .pre in
+    run-behind (pre .0) (pre .1) (pre .2) (c .before .before .before .before .before .before .before .before .before .copy-run .ensures) _ _ _ _ (c .before .before .before .before .before .cell-at .ensures) (c .before .before .before .before .with-nullable .ensures) (c .before .before .put-cell .ensures .cells)
 
 pub run-behind-spec : {M : Type 1} → statement M
 run-behind-spec =
     tie.close
     (tie.spec
     add-to
-    count-requires
-    move-cells-requires
+    copy-run-requires
     cell-at-requires
     with-nullable-requires
     put-cell-requires
