@@ -4,12 +4,6 @@ use native.Mathlib.Omega.{arith}
 use borrow.Author.Needs.{needs}
 use Rattle.cursor_arms.proofs.run_behind.Statement.{statement}
 use Rattle.cursor_arms.proofs.run_behind.Tie as tie
-use Rattle.cursor_arms.proofs.run_behind.Reads as reads
-use Rattle.cursor_arms.proofs.run_behind.Lts as lts
-use Rattle.area.proofs.cell_at.Reads as cell-at-reads
-use Rattle.area.proofs.put_cell.Reads as put-cell-reads
-use Rattle.intmap.proofs.copy_run.Reads as copy-run-reads
-use Rattle.intmap.proofs.with_nullable.Reads as with-nullable-reads
 
 -- src/lib.rt:236:14
 add-to : tie.Need-add-to
