@@ -1,8 +1,9 @@
--- The laws of runs under the keys 0, 1, 2, ...: what each turn of the two loops leaves, and what stands there at the end. Assumes nothing.
+-- The laws of runs under other keys: n times a cell under the keys 0, 1, 2, ..., with what each turn of the loop that writes them leaves, and a run
+-- whose key is changed. Assumes nothing.
 use mathlib.Core.Path.{_≡_, refl, sym, ap, ap₂, _∙_}
 use mathlib.Core.List.{List, [], _∷_, map}
 use mathlib.Core.Bool.{Bool, true, false}
-use Prim.Native.Nat.{ℕ, zero, suc, _+_, _-_, _<_, _≤_}
+use Prim.Native.Nat.{ℕ, zero, suc, _+_, _<_}
 use native.Mathlib.Omega.{arith}
 use native.Mathlib.Decide.{ℕ-discrete}
 use lib.ListN.{length, getD, set, length-set}
@@ -11,13 +12,13 @@ use lib.Dec.{eqb}
 use Rattle.area.specs.Cells.{blank}
 use Rattle.area.specs.declared.Cell.{Cell}
 use Rattle.intmap.specs.Pack.{tagOf, withKey}
-use Rattle.intmap.specs.Runs.{size, sizes, whole, Agree}
+use Rattle.intmap.specs.Runs.{size, whole}
 use Rattle.intmap.specs.Entries.{Runs, span, entries, keyRun, total}
 use Rattle.intmap.specs.Map.{Frame}
-use Rattle.intmap.specs.Change.{elems, rekey, rekeyed, FromElem, FromDense}
-use Rattle.intmap.proofs.RunLaws.{size-pos, size-single, sizes-step}
+use Rattle.intmap.specs.Change.{elems, rekey, rekeyed, FromElem}
+use Rattle.intmap.proofs.RunLaws.{size-single}
 use Rattle.intmap.proofs.SameCells.{size-same, sizes-same}
-use Rattle.intmap.proofs.EntryLaws.{span-same, entries-same, total-sizes}
+use Rattle.intmap.proofs.EntryLaws.{span-same}
 use Rattle.intmap.proofs.PackLaws.{keyed-tag, keyed-key}
 
 -- ---- n times a cell
@@ -81,12 +82,7 @@ module _ (ds : List Cell) (c : Cell) (plain : tagOf c ≡ 2 → ⊥) (d : ℕ) w
       let one : 1 ≡ size ds d p = size-single ds d p (withKey k c) (sym (h .0)) (λ t. plain (sym (keyed-tag k c) ∙ t)) in
       rw (← one) (ap₂ (λ (x : Cell) (l : Runs). (x ∷ []) ∷ l) (h .0) (elem-entries n (p + 1) (suc k) (h .1)))
 
--- ---- columns under other keys
-
--- cs with the n columns from p on under the keys from k on
-unfoldable pub renumber : List Cell → ℕ → ℕ → ℕ → ℕ → List Cell
-renumber cs d k zero p = cs
-renumber cs d k (suc n) p = renumber (set cs p (withKey k (getD cs p blank))) d (suc k) n (p + size cs d p)
+-- ---- runs under other keys
 
 -- a column whose head has the same tag and the same number of columns is as long
 module _ (cs ds : List Cell) (p : ℕ) (f : (j : ℕ) → p < j → getD ds j blank ≡ getD cs j blank) where
@@ -108,16 +104,6 @@ module _ (cs : List Cell) (d k p : ℕ) where
   pub with-other : (j : ℕ) → (j ≡ p → ⊥) → getD with j blank ≡ getD cs j blank
   with-other j ne = getD-set-other cs p j (withKey k (getD cs p blank)) blank ne
 
-  -- what comes after it is as it was
-  with-after : (n : ℕ) → Agree cs (p + size cs d p) with (p + size cs d p) n
-  with-after n j lt = with-other (p + size cs d p + j) (omega (arith, size-pos cs d p))
-
-  with-sizes : (n : ℕ) → sizes (size with d) n (p + size cs d p) ≡ sizes (size cs d) n (p + size cs d p)
-  with-sizes n = sizes-same (size cs d) (size with d) cs with (size-same cs with d) n (p + size cs d p) (p + size cs d p) (with-after _)
-
-  with-entries : (n : ℕ) → entries with d n (p + size cs d p) ≡ entries cs d n (p + size cs d p)
-  with-entries n = entries-same cs with d n (p + size cs d p) (p + size cs d p) (with-after _)
-
   module _ (fits : p < length cs) where
     with-here : getD with p blank ≡ withKey k (getD cs p blank)
     with-here = getD-set-same cs p (withKey k (getD cs p blank)) blank fits
@@ -129,69 +115,6 @@ module _ (cs : List Cell) (d k p : ℕ) where
     unfolding span
     with-span zero lt = absurd (omega arith)
     with-span (suc n) lt = ap₂ (λ (c : Cell) (l : List Cell). c ∷ l) with-here (span-same cs with n (p + 1) (p + 1) (λ j h. with-other (p + 1 + j) (omega arith)))
-
--- all of them
-module _ (d : ℕ) where
-  renumber-long : (cs : List Cell) (k n p : ℕ) → length (renumber cs d k n p) ≡ length cs
-  unfolding renumber
-  renumber-long cs k zero p = refl
-  renumber-long cs k (suc n) p = renumber-long (with cs d k p) (suc k) n (p + size cs d p) ∙ length-set cs p (withKey k (getD cs p blank))
-
-  renumber-below : (cs : List Cell) (k n p j : ℕ) → j < p → getD (renumber cs d k n p) j blank ≡ getD cs j blank
-  unfolding renumber
-  renumber-below cs k zero p j lt = refl
-  renumber-below cs k (suc n) p j lt = renumber-below (with cs d k p) (suc k) n (p + size cs d p) j (omega arith) ∙ with-other cs d k p j (omega arith)
-
-  renumber-above : (cs : List Cell) (k n p j : ℕ) → p + sizes (size cs d) n p ≤ j → getD (renumber cs d k n p) j blank ≡ getD cs j blank
-  unfolding renumber sizes
-  renumber-above cs k zero p j le = refl
-  renumber-above cs k (suc n) p j le =
-      renumber-above (with cs d k p) (suc k) n (p + size cs d p) j (omega (arith, with-sizes cs d k p n)) ∙ with-other cs d k p j (omega (arith, size-pos cs d p))
-
-  renumber-entries : (cs : List Cell) (k n p : ℕ) → p + sizes (size cs d) n p ≤ length cs → entries (renumber cs d k n p) d n p ≡ rekeyed k (entries cs d n p)
-  unfolding renumber sizes entries rekeyed
-  renumber-entries cs k zero p le = refl
-  renumber-entries cs k (suc n) p le =
-      let s = size cs d p in
-      let ds = with cs d k p in
-      let es = renumber ds d (suc k) n (p + s) in
-      let fits : p < length cs = omega (arith, size-pos cs d p) in
-      let same : size ds d p ≡ s = with-size cs d k p fits in
-      let a : Agree ds p es p s = λ j lt. renumber-below ds (suc k) n (p + s) (p + j) (omega arith) in
-      let long : size es d p ≡ s = size-same ds es d p p (λ j lt. a j (omega arith)) ∙ same in
-      rw long
-      (ap₂ (λ (r : List Cell) (l : Runs). r ∷ l)
-      (span-same ds es s p p a ∙ with-span cs d k p fits s (size-pos cs d p))
-      (renumber-entries ds (suc k) n (p + s) (omega (arith, with-sizes cs d k p n, length-set cs p (withKey k (getD cs p blank)))) ∙ ap (rekeyed (suc k)) (with-entries cs d k p n)))
-
--- a turn of the loop
-module _ (now after : List Cell) (d k left p r : ℕ) (c x : Cell) (lt : 0 < left) (ce : c ≡ getD now p blank) (re : r ≡ size now d p) (xe : x ≡ withKey k c) (w : after ≡ set now p x) where
-  after-is : after ≡ with now d k p
-  after-is = w ∙ ap (set now p) (xe ∙ ap (withKey k) ce)
-
-  pub renumber-turn : (all : List Cell) → renumber now d k left p ≡ all → renumber after d (k + 1) (left - 1) (p + r) ≡ all
-  unfolding renumber
-  renumber-turn all e = ap₂ (λ (l : List Cell) (q : ℕ). renumber l d (k + 1) (left - 1) (p + q)) after-is re ∙ one left lt ∙ e
-    where
-      one : (n : ℕ) → 0 < n → renumber (with now d k p) d (k + 1) (n - 1) (p + size now d p) ≡ renumber now d k n p
-      one zero lt = absurd (omega arith)
-      one (suc n) lt = let y : k + 1 ≡ suc k = omega arith in let z : suc n - 1 ≡ n = omega arith in rw (y, z)
-
-  pub renumber-room : (most : ℕ) → p + sizes (size now d) left p ≤ most → p + r + sizes (size after d) (left - 1) (p + r) ≤ most
-  renumber-room most le = rw (after-is, re) (omega (arith, with-sizes now d k p (left - 1), sizes-step (size now d) left p lt))
-
-pub renumber-done : (cs ds : List Cell) (d n at left p k : ℕ) → at + sizes (size cs d) n at ≤ length cs → left ≤ 0 → renumber ds d k left p ≡ renumber cs d 0 n at → FromDense cs ds d n at
-unfolding renumber
-renumber-done cs ds d n at zero p k fits le e =
-    record {
-      runs = ap (λ (l : List Cell). entries l d n at) e ∙ renumber-entries d cs 0 n at fits;
-      frame = record {
-        long = ap length e ∙ renumber-long d cs 0 n at;
-        below = λ j lt. ap (λ (l : List Cell). getD l j blank) e ∙ renumber-below d cs 0 n at j lt;
-        above = λ j h. ap (λ (l : List Cell). getD l j blank) e ∙ renumber-above d cs 0 n at j h;
-      };
-    }
-renumber-done cs ds d n at (suc left) p k fits le e = absurd (omega arith)
 
 -- runs under other keys have as many cells
 pub rekey-long : (k : ℕ) (r : List Cell) → length (rekey k r) ≡ length r
@@ -207,6 +130,3 @@ pub total-rekeyed : (k : ℕ) (rs : Runs) → total (rekeyed k rs) ≡ total rs
 unfolding total rekeyed
 total-rekeyed k [] = refl
 total-rekeyed k (r ∷ rs) = ap₂ (λ (x y : ℕ). x + y) (rekey-long k r) (total-rekeyed (suc k) rs)
-
-pub dense-sizes : (cs ds : List Cell) (d n at : ℕ) → FromDense cs ds d n at → sizes (size ds d) n at ≡ sizes (size cs d) n at
-dense-sizes cs ds d n at f = total-sizes ds d n at ∙ ap total (f .runs) ∙ total-rekeyed 0 (entries cs d n at) ∙ sym (total-sizes cs d n at)

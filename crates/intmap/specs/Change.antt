@@ -1,13 +1,11 @@
--- Runs under the keys 0, 1, 2, ...: n equal cells (`from_elem` of intmap.rs), and runs that stand one after the other (`from_dense_record`).
--- Assumes nothing.
+-- Runs under the keys 0, 1, 2, ...: n equal cells (`from_elem` of intmap.rs), and any runs (the columns of a record that is made). Assumes nothing.
 use mathlib.Core.Path.{_≡_}
 use mathlib.Core.List.{List, [], _∷_}
 use Prim.Native.Nat.{ℕ, zero, suc, _+_, _≤_}
 use lib.ListN.{length}
 use Rattle.area.specs.declared.Cell.{Cell}
 use Rattle.intmap.specs.Pack.{withKey}
-use Rattle.intmap.specs.Runs.{size, sizes}
-use Rattle.intmap.specs.Entries.{Runs, span, entries}
+use Rattle.intmap.specs.Entries.{Runs, span}
 use Rattle.intmap.specs.Map.{Frame}
 
 -- n times a cell, under the keys from k on
@@ -37,8 +35,3 @@ pub record Writable (cs : List Cell) (at n : ℕ) : Type 0 where
 pub record FromElem (cs ds : List Cell) (at : ℕ) (c : Cell) (n : ℕ) : Type 0 where
   pub cells : span ds at n ≡ elems c 0 n
   pub frame : Frame cs ds at n
-
--- the n columns from `at` on have these keys
-pub record FromDense (cs ds : List Cell) (d n at : ℕ) : Type 0 where
-  pub runs : entries ds d n at ≡ rekeyed 0 (entries cs d n at)
-  pub frame : Frame cs ds at (sizes (size cs d) n at)

@@ -11,7 +11,7 @@ ghost use Rattle.intmap.specs.Find.{seek};
 ghost use Rattle.intmap.specs.Map.{levels, empty, IsMap, HasRoom, Compares, CopiedMap};
 ghost use Rattle.intmap.specs.Store.{RoomMade, Opens, Inserts, RunAbove, Removes, asStored, Stores, RemovesAt};
 ghost use Rattle.intmap.specs.Get.{Judges, Gets};
-ghost use Rattle.intmap.specs.Change.{rekey, Writable, FromElem, FromDense};
+ghost use Rattle.intmap.specs.Change.{rekey, Writable, FromElem};
 ghost use Rattle.intmap.specs.Entries.{span};
 ghost use mathlib.Core.List.{[], _∷_};
 
@@ -259,24 +259,6 @@ pub fn from_elem(area: &mut [u8], at: usize, c: Cell, n: usize)
     while k < n {
         area::put_cell(area, at + k, with_key(c, k as u64));
         k += 1;
-    }
-}
-
-// Gives the n columns that stand one after the other from `at` on the keys 0 to n - 1.
-pub fn from_dense_record(area: &mut [u8], at: usize, n: u64, depth: usize)
-    requires { ⌜ AreColumns (cells (now area)) depth n at ⌝ }
-    ensures { λ _. ⌜ FromDense (cells (now (area .entry))) (cells (now (area .exit))) depth n at ⌝ }
-{
-    let mut p = at;
-    let mut key = 0;
-    let mut left = n;
-    while 0 < left {
-        let c = area::cell_at(area, p);
-        let m = count(area, p, depth);
-        area::put_cell(area, p, with_key(c, key));
-        p += m;
-        key += 1;
-        left -= 1;
     }
 }
 
