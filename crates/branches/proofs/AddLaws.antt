@@ -1,5 +1,5 @@
 -- What `push` says: of a known state that it is dropped, of another that it is kept, where there is space. The new state lies at the top, a
--- free link on the way of its hash leads to it, and all others are as they were. Assumes nothing.
+-- free link on the way of its hashes leads to it, and all others are as they were. Assumes nothing.
 use mathlib.Core.Path.{_≡_, refl, sym, ap, ap₂, subst, _∙_}
 use mathlib.Core.Logic.{_⊎_, inl, inr}
 use mathlib.Core.Bool.{Bool, true, false}
@@ -23,8 +23,8 @@ use Rattle.encoding.proofs.Held.{held-used}
 use Rattle.state.specs.Steps.{HoldsState}
 use Rattle.state.specs.declared.MemoryState.{MemoryState}
 use Rattle.branches.specs.Header.{half, sizesWord, hashAt, sizesAt, child, usedAt, nextAt, stateAt}
-use Rattle.branches.specs.Hash.{hashOf}
-use Rattle.branches.specs.Entries.{Kept, states, Counted, countCells, IsKept, Blocks, here, OnPath, Later, Links, Waiting, Remembers}
+use Rattle.branches.specs.Hash.{hashFrom, hashOf}
+use Rattle.branches.specs.Entries.{Kept, states, Counted, countCells, IsKept, Blocks, Stands, nextBits, here, OnWay, Later, Links, Waiting, Remembers}
 use Rattle.branches.specs.Lists.{unitsFor, Pushes}
 use Rattle.branches.specs.Search.{Known, Ends, Searches}
 use Rattle.branches.specs.Changes.{Pushable, Savable, Saves, Linkable, Linked, Connects}
@@ -32,10 +32,10 @@ use Rattle.branches.specs.declared.BranchList.{BranchList}
 use Rattle.branches.specs.declared.Pushed.the-variants as pushed
 use Rattle.branches.specs.declared.Place.the-variants as place
 use Rattle.branches.proofs.HeaderLaws.{child-same, child-alike, child-none, len-part, used-part, next-part, state-parts}
-use Rattle.branches.proofs.HashLaws.{hash-equal}
+use Rattle.branches.proofs.HashLaws.{hashes-equal}
 use Rattle.branches.proofs.BlockLaws.{endAt, Apart, blocks-low, blocks-span, blocks-apart, blocks-same, waiting-same, waiting-low}
-use Rattle.branches.proofs.PathLaws.{Adds, path-kept, on-kept, path-more}
-use Rattle.branches.proofs.RememberLaws.{Bytes, counted-kept, SameBlock, kept-same}
+use Rattle.branches.proofs.PathLaws.{Adds, path-kept, path-more}
+use Rattle.branches.proofs.RememberLaws.{Bytes, counted-kept, SameBlock, kept-same, way-same}
 use Rattle.branches.proofs.SaveLaws.{map-few}
 use Rattle.branches.proofs.SearchLaws.{at-equal, equal-at, known-true, known-false}
 
@@ -89,6 +89,10 @@ module _ (limit n counts : ℕ) (xs : List ℕ) (b : BranchList) (s : MemoryStat
 among-cons : (P : Kept → Type 0) (k₀ : Kept) (ks : List Kept) → P k₀ → ((k : Kept) → k ∈ ks → P k) → (k : Kept) → k ∈ (k₀ ∷ ks) → P k
 among-cons P k₀ ks p f k (inl e) = subst P e p
 among-cons P k₀ ks p f k (inr e) = f k e
+
+-- one of them is one of more
+stands-more : {k₀ : Kept} {ks : List Kept} {p : ℕ} → Stands ks p → Stands (k₀ ∷ ks) p
+stands-more a = record { kept = a .kept; among = inr (a .among); at = a .at }
 
 -- a cell of the one at p, but its second, is not the second cell of the one at q
 misses : (cs : List Cell) (n p q i : ℕ) → Apart cs n p q → (i ≡ p) ⊎ ((p + 2 ≤ i) × (i < endAt cs n p)) → i ≡ q + 1 → ⊥
@@ -163,12 +167,15 @@ module _
       holds-new : HoldsState limit bound (cells ys) (record { row = s .row; map = placed (b .top + 2) (s .map) }) m
       holds-new = record { row = held .row; map = record { runs = runs-new ∙ held .map .runs; takes = map-new .used; good = held .map .good; small = held .map .small } }
 
+      hashes-new : hashFrom (cells xs) s ≡ hashFrom (cells ys) (stateAt (cells ys) (b .top))
+      hashes-new = hashes-equal (cells xs) (cells ys) s (record { row = s .row; map = placed (b .top + 2) (s .map) }) (ok .offers .map) map-new refl (sym runs-new) ∙ ap (hashFrom (cells ys)) (sym state-new)
+
       kept-new : IsKept limit bound n ys (newest b m past)
       kept-new =
           record {
             map = subst (λ (x : MemoryState). IsMap (cells ys) (x .map)) (sym state-new) map-new;
             holds = subst (λ (x : MemoryState). HoldsState limit bound (cells ys) x m) (sym state-new) holds-new;
-            hash = hash-new ∙ is ∙ hash-equal (cells xs) (cells ys) s (record { row = s .row; map = placed (b .top + 2) (s .map) }) (ok .offers .map) map-new refl (sym runs-new) ∙ ap (hashOf (cells ys)) (sym state-new);
+            hash = hash-new ∙ is ∙ ap (λ (f : ℕ → ℕ). f 0) hashes-new;
             counts = subst (λ (u : ℕ). Counted ys n (b .top + 2 + u) past) (sym used-new)
                 (counted-kept us ys n (b .top + 2 + s .map .used) past less few (links .bytes) (omega (arith, long-us, r .small)) (omega (arith, long-us))
                 (λ j lt. above (b .top + 2 + s .map .used + j) (omega arith))
@@ -178,17 +185,17 @@ module _
       -- all others are as they were, but that a link may lead to the new one
       module _
           (old : (k : Kept) → k ∈ ks → SameBlock (cells xs) (cells ys) n (k .at))
-          (adds : Adds (cells xs) (cells ys) (b .first) (b .top))
+          (adds : Adds (cells xs) (cells ys) ks)
           (leads : (k : Kept) → k ∈ ks → (q : ℕ) → (child (cells ys) (k .at) q ≡ child (cells xs) (k .at) q) ⊎ (child (cells ys) (k .at) q ≡ b .top))
-          (path : OnPath (cells ys) (b .first) (endOf n b s) (b .first) (hashOf (cells xs) s) (b .top))
+          (way : OnWay (cells ys) (newest b m past ∷ ks) (b .first) (hashFrom (cells xs) s) (b .top))
         where
           lies : (k : Kept) → k ∈ ks → (b .first ≤ k .at) × (endAt (cells xs) n (k .at) ≤ b .top)
           lies = blocks-span (cells xs) n (b .first) (b .top) ks (r .blocks)
 
           links-old : (p : ℕ) → p < b .top → (q : ℕ) → (child (cells ys) p q ≡ child (cells xs) p q) ⊎ (child (cells ys) p q ≡ b .top) → (child (cells xs) p q ≡ 0) ⊎ Later ks p (child (cells xs) p q) → (child (cells ys) p q ≡ 0) ⊎ Later (newest b m past ∷ ks) p (child (cells ys) p q)
           links-old p lt q (inl e) (inl z) = inl (e ∙ z)
-          links-old p lt q (inl e) (inr l) = inr (record { kept = l .kept; among = inr (l .among); at = l .at ∙ sym e; after = omega (arith, l .after) })
-          links-old p lt q (inr e) z = inr (record { kept = newest b m past; among = inl refl; at = sym e; after = omega arith })
+          links-old p lt q (inl e) (inr l) = inr (subst (Later (newest b m past ∷ ks) p) (sym e) (record { stands = stands-more (l .stands); after = l .after }))
+          links-old p lt q (inr e) z = inr (record { stands = record { kept = newest b m past; among = inl refl; at = sym e }; after = omega arith })
 
           pub assembled : Remembers limit bound n ys (grown n b s) (newest b m past ∷ ks) (newest b m past ∷ ws)
           assembled =
@@ -196,10 +203,9 @@ module _
                 blocks = (omega (arith, used-new), blocks-same (cells xs) (cells ys) n (b .first) (b .top) ks (λ k e. ap (λ (x : ℕ). x / 65536 % 65536) (old k e .sizes)) (r .blocks));
                 kept = among-cons (IsKept limit bound n ys) _ ks kept-new (λ k e. kept-same limit bound n xs ys small few (links .bytes ∙ saves .bytes) (r .small) k (omega (arith, lies k e .1, r .inside)) (old k e) (r .kept k e));
                 paths =
-                    among-cons (λ (k : Kept). OnPath (cells ys) (b .first) (endOf n b s) (b .first) (hashAt (cells ys) (k .at)) (k .at)) _ ks
-                    (subst (λ (x : ℕ). OnPath (cells ys) (b .first) (endOf n b s) (b .first) x (b .top)) (sym (hash-new ∙ is)) path)
-                    (λ k e. subst (λ (x : ℕ). OnPath (cells ys) (b .first) (endOf n b s) (b .first) x (k .at)) (ap (λ (c : Cell). c .head) (sym (old k e .head)))
-                    (on-kept (cells xs) (cells ys) (b .first) (b .top) (endOf n b s) (omega arith) adds (r .paths k e)));
+                    among-cons (λ (k : Kept). OnWay (cells ys) (newest b m past ∷ ks) (b .first) (hashFrom (cells ys) (stateAt (cells ys) (k .at))) (k .at)) _ ks
+                    (subst (λ (f : ℕ → ℕ). OnWay (cells ys) (newest b m past ∷ ks) (b .first) f (b .top)) hashes-new way)
+                    (λ k e. way-same (cells xs) (cells ys) n (b .first) ks (newest b m past ∷ ks) (k .at) (λ q a. stands-more a) adds (old k e) (r .paths k e));
                 links =
                     among-cons (λ (k : Kept). Links (cells ys) (newest b m past ∷ ks) (k .at)) _ ks
                     (λ q. inl (child-none (cells ys) (b .top) q (ap (λ (c : Cell). c .head) (above (b .top + 1) (omega arith) ∙ saves .second))))
@@ -224,14 +230,14 @@ module _
         assembled
         (λ j le. ap (λ (l : List Cell). getD l j blank) same)
         (λ k a. absurd (subst (λ (l : List Kept). k ∈ l) e a))
-        (λ p q f t ne. absurd (omega arith))
+        (λ p q a ne. absurd (subst (λ (l : List Kept). a .kept ∈ l) e (a .among)))
         (λ k a q. absurd (subst (λ (l : List Kept). k ∈ l) e a))
-        (subst (λ (x : ℕ). OnPath (cells ys) (b .first) (endOf n b s) (b .first) (hashOf (cells xs) s) x) (sym root) (record { left = hashOf (cells xs) s; path = here }))
+        (subst (OnWay (cells ys) (newest b m past ∷ ks) (b .first) (hashFrom (cells xs) s)) (sym root) (record { left = hashOf (cells xs) s; path = here }))
 
-    -- the way of its hash ended at a free link
-    module _ (ends : Ends (cells xs) b ks (hashOf (cells xs) s) at bits) where
+    -- the way of its hashes ended at a free link
+    module _ (ends : Ends (cells xs) b ks (hashFrom (cells xs) s) at bits) where
       place-lies : (b .first ≤ at) × (endAt (cells xs) n at ≤ b .top)
-      place-lies = subst (λ (p : ℕ). (b .first ≤ p) × (endAt (cells xs) n p ≤ b .top)) (ends .reaches .at) (blocks-span (cells xs) n (b .first) (b .top) ks (r .blocks) (ends .reaches .kept) (ends .reaches .among))
+      place-lies = subst (λ (p : ℕ). (b .first ≤ p) × (endAt (cells xs) n p ≤ b .top)) (ends .reaches .stands .at) (blocks-span (cells xs) n (b .first) (b .top) ks (r .blocks) (ends .reaches .stands .kept) (ends .reaches .stands .among))
 
       linked : Linked (cells us) (cells ys) at bits (b .top)
       linked = links .linked (λ z. omega (arith, place-lies .0, r .positive))
@@ -250,7 +256,7 @@ module _
       old-block : (k : Kept) → k ∈ ks → SameBlock (cells xs) (cells ys) n (k .at)
       old-block k e =
           let lies = blocks-span (cells xs) n (b .first) (b .top) ks (r .blocks) k e in
-          let apart : Apart (cells xs) n (k .at) at = subst (Apart (cells xs) n (k .at)) (ends .reaches .at) (blocks-apart (cells xs) n (b .first) (b .top) ks (r .blocks) k (ends .reaches .kept) e (ends .reaches .among)) in
+          let apart : Apart (cells xs) n (k .at) at = subst (Apart (cells xs) n (k .at)) (ends .reaches .stands .at) (blocks-apart (cells xs) n (b .first) (b .top) ks (r .blocks) k (ends .reaches .stands .kept) e (ends .reaches .stands .among)) in
           record {
             head = low (k .at) (omega (arith, lies .1)) (misses (cells xs) n (k .at) at (k .at) apart (inl refl));
             sizes = sizes-old (k .at) (omega (arith, lies .1)) (ℕ-discrete (k .at) at);
@@ -268,8 +274,12 @@ module _
           inl (ap (λ (x : ℕ). child (cells ys) x q) e ∙ linked .other q d ∙ child-same (cells xs) (cells us) at q second-then ∙ ap (λ (x : ℕ). child (cells xs) x q) (sym e))
       leads-at p q le (no d) f = inl (child-same (cells xs) (cells ys) p q (low (p + 1) (omega arith) (λ z. d (omega arith))))
 
-      adds-link : Adds (cells xs) (cells ys) (b .first) (b .top)
-      adds-link p q f t ne = elim (leads-at p q t (ℕ-discrete p at) (ℕ-discrete (q % 2) (bits % 2))) [ inl e ↦ e | inr z ↦ absurd (ne (z .0)) ]
+      adds-link : Adds (cells xs) (cells ys) ks
+      adds-link p q a ne =
+          let lies = subst (λ (x : ℕ). endAt (cells xs) n x ≤ b .top) (a .at) (blocks-span (cells xs) n (b .first) (b .top) ks (r .blocks) (a .kept) (a .among) .1) in (
+            subst (λ (x : ℕ). hashAt (cells ys) x ≡ hashAt (cells xs) x) (a .at) (ap (λ (c : Cell). c .head) (old-block (a .kept) (a .among) .head)),
+            elim (leads-at p q (omega (arith, lies)) (ℕ-discrete p at) (ℕ-discrete (q % 2) (bits % 2))) [ inl e ↦ e | inr z ↦ absurd (ne (z .0)) ],
+          )
 
       leads-old : (k : Kept) → k ∈ ks → (q : ℕ) → (child (cells ys) (k .at) q ≡ child (cells xs) (k .at) q) ⊎ (child (cells ys) (k .at) q ≡ b .top)
       leads-old k e q =
@@ -278,15 +288,15 @@ module _
             | inr z ↦ inr (z .1)
           ]
 
-      path-new : OnPath (cells ys) (b .first) (endOf n b s) (b .first) (hashOf (cells xs) s) (b .top)
-      path-new =
+      way-new : OnWay (cells ys) (newest b m past ∷ ks) (b .first) (hashFrom (cells xs) s) (b .top)
+      way-new =
           let to = linked .alike bits refl in
-          let way = path-kept (cells xs) (cells ys) (b .first) (b .top) (endOf n b s) (omega arith) adds-link (ends .reaches .path) in
-          let more = path-more (cells ys) (b .first) (endOf n b s) way (place-lies .0) (omega (arith, place-lies .1)) (λ z. omega (arith, to, place-lies .1)) in
-          subst (λ (x : ℕ). OnPath (cells ys) (b .first) (endOf n b s) (b .first) (hashOf (cells xs) s) x) to (record { left = bits / 2; path = more })
+          let way = path-kept (cells xs) (cells ys) ks (newest b m past ∷ ks) (hashFrom (cells xs) s) (λ q a. stands-more a) adds-link (ends .reaches .path) in
+          let more = path-more (cells ys) (newest b m past ∷ ks) (hashFrom (cells xs) s) way (stands-more (ends .reaches .stands)) (λ z. omega (arith, to, place-lies .1)) in
+          subst (OnWay (cells ys) (newest b m past ∷ ks) (b .first) (hashFrom (cells xs) s)) to (record { left = nextBits (cells ys) (hashFrom (cells xs) s) at bits; path = more })
 
       under : Remembers limit bound n ys (grown n b s) (newest b m past ∷ ks) (newest b m past ∷ ws)
-      under = assembled (λ j le. linked .elsewhere j (λ z. omega (arith, place-lies .1))) old-block adds-link leads-old path-new
+      under = assembled (λ j le. linked .elsewhere j (λ z. omega (arith, place-lies .1))) old-block adds-link leads-old way-new
 
     pub added : Searches xs b s (place.Free at bits) → Remembers limit bound n ys (grown n b s) (newest b m past ∷ ks) (newest b m past ∷ ws)
     added found = elim (found .says limit bound n ks ws r .place) [ inl z ↦ alone (z .0) (z .1) | inr e ↦ under e ]
@@ -323,8 +333,8 @@ module _ (limit n counts : ℕ) (xs : List ℕ) (b : BranchList) (s : MemoryStat
         let r = q .remembers in
         elim (found .says limit (q .bound) n (q .all) (q .wait) r .place) [
           | inl z ↦ record { high = omega (arith, z .0); low = λ ne. absurd (ne (z .0)); free = λ ne. absurd (ne (z .0)) }
-          | inr e ↦ let lies = blocks-span (cells xs) n (b .first) (b .top) (q .all) (r .blocks) (e .reaches .kept) (e .reaches .among) in
-              let at = e .reaches .at in
+          | inr e ↦ let lies = blocks-span (cells xs) n (b .first) (b .top) (q .all) (r .blocks) (e .reaches .stands .kept) (e .reaches .stands .among) in
+              let at = e .reaches .stands .at in
               record {
                 high = omega (arith, lies .1);
                 low = λ ne. omega (arith, lies .0);

@@ -7,7 +7,7 @@ use native.Mathlib.Omega.{arith}
 use Rattle.model.specs.Walk.{_∈_}
 use Rattle.area.specs.declared.Cell.{Cell}
 use Rattle.branches.specs.Header.{usedAt, nextAt}
-use Rattle.branches.specs.Entries.{Kept, countCells, Blocks, Waiting}
+use Rattle.branches.specs.Entries.{Kept, countCells, Blocks, Stands, Waiting}
 
 -- where the one at p ends
 abbrev pub endAt : List Cell → ℕ → ℕ → ℕ
@@ -16,11 +16,6 @@ endAt cs n p = p + 2 + usedAt cs p + countCells n
 -- one place, or one before the other
 abbrev pub Apart : List Cell → ℕ → ℕ → ℕ → Type 0
 Apart cs n p q = (p ≡ q) ⊎ (endAt cs n p ≤ q) ⊎ (endAt cs n q ≤ p)
-
-pub record Root (ks : List Kept) (first : ℕ) : Type 0 where
-  pub kept : Kept
-  pub among : kept ∈ ks
-  pub at : kept .at ≡ first
 
 module _ (cs : List Cell) (n : ℕ) where
   pub blocks-low : (first top : ℕ) (ks : List Kept) → Blocks cs n first top ks → first ≤ top
@@ -39,7 +34,7 @@ module _ (cs : List Cell) (n : ℕ) where
   blocks-apart first top (i ∷ ks) b k j (inr e) (inl f) = inr (inl (subst (λ (x : Kept). endAt cs n (k .at) ≤ x .at) f (blocks-span first (i .at) ks (b .1) k e .1)))
   blocks-apart first top (i ∷ ks) b k j (inr e) (inr f) = blocks-apart first (i .at) ks (b .1) k j e f
 
-  pub blocks-root : (first top : ℕ) (ks : List Kept) → first < top → Blocks cs n first top ks → Root ks first
+  pub blocks-root : (first top : ℕ) (ks : List Kept) → first < top → Blocks cs n first top ks → Stands ks first
   blocks-root first top [] lt b = absurd (omega arith)
   blocks-root first top (k ∷ []) lt b = record { kept = k; among = inl refl; at = b .1 }
   blocks-root first top (k ∷ (j ∷ ks)) lt b =

@@ -1,4 +1,5 @@
--- Laws of specs/Hash.antt: a turn of the loop that takes a hash, that its products fit a word, and that equal entries give equal hashes. Assumes nothing.
+-- Laws of specs/Hash.antt: a turn of the loop that takes a hash, that its products fit a word, and that a state's hashes are those of its row and cells.
+-- Assumes nothing.
 use mathlib.Core.Path.{_≡_, refl, sym, ap, ap₂, _∙_}
 use mathlib.Core.List.{List, flatten}
 use Prim.Native.Nat.{ℕ, zero, suc, _+_, _-_, _*_, _/_, _%_, _<_, _≤_}
@@ -13,7 +14,7 @@ use Rattle.intmap.specs.declared.IntMap.{IntMap}
 use Rattle.state.specs.declared.MemoryState.{MemoryState}
 use Rattle.encoding.proofs.Standing.{entries-flat}
 use Rattle.branches.specs.Header.{half}
-use Rattle.branches.specs.Hash.{mix, fold, mixCells, hashOf}
+use Rattle.branches.specs.Hash.{mix, fold, mixCells, hashFrom}
 
 -- no cells are left
 pub mixed-end : (cs : List Cell) (h at left : ℕ) → left ≤ 0 → h ≡ mixCells h (span cs at left)
@@ -42,9 +43,9 @@ product-fits s x e =
     let le : s % half * (s / half) ≤ 18446744065119617025 = mul-le-mul low high in
     omega arith
 
-pub hash-whole : (cs : List Cell) (s : MemoryState) (h : ℕ) → h ≡ mix 0 (s .row) → mixCells h (span cs (s .map .base) (s .map .used)) ≡ hashOf cs s
-unfolding hashOf
-hash-whole cs s h e = ap (λ x. mixCells x (span cs (s .map .base) (s .map .used))) e
+pub hash-whole : (cs : List Cell) (s : MemoryState) (start h : ℕ) → h ≡ mix start (s .row) → mixCells h (span cs (s .map .base) (s .map .used)) ≡ hashFrom cs s start
+unfolding hashFrom
+hash-whole cs s start h e = ap (λ x. mixCells x (span cs (s .map .base) (s .map .used))) e
 
 -- maps with equal entries have equal cells
 pub runs-span : (cs ds : List Cell) (a b : IntMap) → IsMap cs a → IsMap ds b → runsAt cs a ≡ runsAt ds b → span cs (a .base) (a .used) ≡ span ds (b .base) (b .used)
@@ -55,7 +56,7 @@ runs-span cs ds a b is on e =
     ∙ entries-flat ds levels (b .len) (b .base)
     ∙ ap (span ds (b .base)) (sym (on .used))
 
--- and equal hashes
-pub hash-equal : (cs ds : List Cell) (s t : MemoryState) → IsMap cs (s .map) → IsMap ds (t .map) → s .row ≡ t .row → runsAt cs (s .map) ≡ runsAt ds (t .map) → hashOf cs s ≡ hashOf ds t
-unfolding hashOf
-hash-equal cs ds s t is on r e = ap₂ (λ x l. mixCells (mix 0 x) l) r (runs-span cs ds (s .map) (t .map) is on e)
+-- and, with equal rows, equal hashes
+pub hashes-equal : (cs ds : List Cell) (s t : MemoryState) → IsMap cs (s .map) → IsMap ds (t .map) → s .row ≡ t .row → runsAt cs (s .map) ≡ runsAt ds (t .map) → hashFrom cs s ≡ hashFrom ds t
+unfolding hashFrom
+hashes-equal cs ds s t is on r e = ap₂ (λ x l start. mixCells (mix start x) l) r (runs-span cs ds (s .map) (t .map) is on e)

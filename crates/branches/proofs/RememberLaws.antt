@@ -21,13 +21,13 @@ use Rattle.encoding.specs.Holds.{largest}
 use Rattle.encoding.proofs.Held.{held-elsewhere, held-more}
 use Rattle.state.specs.Steps.{HoldsState}
 use Rattle.state.specs.declared.MemoryState.{MemoryState}
-use Rattle.branches.specs.Header.{half, sizesAt, usedAt, child, stateAt}
-use Rattle.branches.specs.Hash.{mix, mixCells, hashOf}
-use Rattle.branches.specs.Entries.{Kept, Counted, countCells, IsKept, OnPath, Later, Links, Remembers, none}
+use Rattle.branches.specs.Header.{half, rowAt, sizesAt, usedAt, child, stateAt}
+use Rattle.branches.specs.Hash.{mix, mixCells, hashFrom}
+use Rattle.branches.specs.Entries.{Kept, Counted, countCells, IsKept, Stands, OnWay, Later, Links, Remembers, none}
 use Rattle.branches.specs.declared.BranchList.{BranchList}
 use Rattle.branches.proofs.HeaderLaws.{child-same, state-same}
 use Rattle.branches.proofs.BlockLaws.{endAt, blocks-span, blocks-same, waiting-same}
-use Rattle.branches.proofs.PathLaws.{on-kept}
+use Rattle.branches.proofs.PathLaws.{Adds, on-kept}
 
 -- these are bytes
 abbrev pub Bytes : List ℕ → Type 0
@@ -48,9 +48,17 @@ pub record SameBlock (cs ds : List Cell) (n p : ℕ) : Type 0 where
   pub sizes : sizesAt ds p ≡ sizesAt cs p
   pub rest : Agree cs (p + 2) ds (p + 2) (usedAt cs p + countCells n)
 
-hash-moved : (cs ds : List Cell) (s : MemoryState) → Agree cs (s .map .base) ds (s .map .base) (s .map .used) → hashOf ds s ≡ hashOf cs s
-unfolding hashOf
-hash-moved cs ds s same = ap (mixCells (mix 0 (s .row))) (span-same cs ds (s .map .used) (s .map .base) (s .map .base) same)
+-- so are its hashes
+hashes-same : (cs ds : List Cell) (n p : ℕ) → SameBlock cs ds n p → hashFrom ds (stateAt ds p) ≡ hashFrom cs (stateAt cs p)
+unfolding hashFrom
+hashes-same cs ds n p same =
+    ap (hashFrom ds) (state-same cs ds p (same .head) (same .sizes))
+    ∙ ap (λ l start. mixCells (mix start (rowAt cs p)) l) (span-same cs ds (usedAt cs p) (p + 2) (p + 2) (λ j lt. same .rest j (omega arith)))
+
+-- it lies on its way as before, where links and states are only added
+pub way-same : (cs ds : List Cell) (n first : ℕ) (ks more : List Kept) (p : ℕ) → ((q : ℕ) → Stands ks q → Stands more q) → Adds cs ds ks → SameBlock cs ds n p → OnWay cs ks first (hashFrom cs (stateAt cs p)) p → OnWay ds more first (hashFrom ds (stateAt ds p)) p
+way-same cs ds n first ks more p all adds same way =
+    subst (λ (f : ℕ → ℕ). OnWay ds more first f p) (sym (hashes-same cs ds n p same)) (on-kept cs ds ks more (hashFrom cs (stateAt cs p)) all adds way)
 
 module _ (limit bound n : ℕ) (xs ys : List ℕ) (small : Bytes xs) (less : Bytes ys) (long : length ys ≡ length xs) (most : length (cells xs) ≤ 1048576) where
   pub kept-same : (k : Kept) → endAt (cells xs) n (k .at) ≤ length (cells xs) → SameBlock (cells xs) (cells ys) n (k .at) → IsKept limit bound n xs k → IsKept limit bound n ys k
@@ -68,7 +76,7 @@ module _ (limit bound n : ℕ) (xs ys : List ℕ) (small : Bytes xs) (less : Byt
       record {
         map = subst (λ (s : MemoryState). IsMap ds (s .map)) (sym e) map;
         holds = subst (λ (s : MemoryState). HoldsState limit bound ds s (k .mem)) (sym e) there;
-        hash = ap (λ (c : Cell). c .head) (same .head) ∙ is .hash ∙ sym (hash-moved cs ds (stateAt cs p) agree) ∙ ap (hashOf ds) (sym e);
+        hash = ap (λ (c : Cell). c .head) (same .head) ∙ is .hash ∙ ap (λ (f : ℕ → ℕ). f 0) (sym (hashes-same cs ds n p same));
         counts = subst (λ (u : ℕ). Counted ys n (p + 2 + u) (k .past)) (ap (λ (x : ℕ). x / 65536 % 65536) (sym (same .sizes)))
             (counted-kept xs ys n (p + 2 + usedAt cs p) (k .past) small less long most (omega arith) counts (is .counts));
       }
@@ -87,11 +95,11 @@ remembers-kept limit bound n xs ys b ks ws small less long same r =
     let block : (k : Kept) → k ∈ ks → SameBlock cs ds n (k .at) =
     λ k e. let t = lies k e in record { head = same (k .at) (t .0); sizes = ap (λ (c : Cell). c .payload) (same (k .at + 1) (omega (arith, t .0))); rest = λ j lt. same (k .at + 2 + j) (omega (arith, t .0)) } in
     let child : (p bits : ℕ) → b .first ≤ p → child ds p bits ≡ child cs p bits = λ p bits le. child-same cs ds p bits (same (p + 1) (omega arith)) in
+    let adds : Adds cs ds ks = λ p bits s ne. let at = s .at in let low : b .first ≤ p = omega (arith, lies (s .kept) (s .among) .0) in (ap (λ (c : Cell). c .head) (same p low), child p bits low) in
     record {
       blocks = blocks-same cs ds n (b .first) (b .top) ks (λ k e. ap (λ (x : ℕ). x / 65536 % 65536) (block k e .sizes)) (r .blocks);
       kept = λ k e. kept-same limit bound n xs ys small less long (r .small) k (omega (arith, lies k e .1, r .inside)) (block k e) (r .kept k e);
-      paths = λ k e. subst (λ (h : ℕ). OnPath ds (b .first) (b .top) (b .first) h (k .at)) (ap (λ (c : Cell). c .head) (sym (block k e .head)))
-          (on-kept cs ds (b .first) (b .top) (b .top) (omega arith) (λ p bits f t ne. child p bits f) (r .paths k e));
+      paths = λ k e. way-same cs ds n (b .first) ks ks (k .at) (λ q s. s) adds (block k e) (r .paths k e);
       links = λ k e. links-same cs ds ks (k .at) (λ bits. child (k .at) bits (lies k e .0)) (r .links k e);
       waiting = waiting-same cs ds (b .last) ws (λ k e. ap (λ (x : ℕ). x / half) (block k (r .among k e) .sizes)) (r .waiting);
       among = r .among;

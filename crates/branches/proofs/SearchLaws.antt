@@ -1,10 +1,10 @@
--- The search: a state equals a remembered one exactly where it is the state there, and each turn goes down the way of the hash, on which every
+-- The search: a state equals a remembered one exactly where it is the state there, and each turn goes down the way of its hashes, on which every
 -- place lies where the state is. Assumes nothing.
 use mathlib.Core.Path.{_≡_, refl, sym, ap, subst, _∙_}
 use mathlib.Core.Logic.{_⊎_, inl, inr}
 use mathlib.Core.Bool.{Bool, true, false, _||_, false≢true}
 use mathlib.Core.List.{List, [], _∷_}
-use Prim.Native.Nat.{ℕ, _+_, _/_, _<_, _≤_}
+use Prim.Native.Nat.{ℕ, _+_, _<_, _≤_}
 use native.Mathlib.Omega.{arith}
 use native.Mathlib.Decide.{decLt}
 use lib.ListN.{length, getD}
@@ -22,12 +22,12 @@ use Rattle.encoding.proofs.Held.{held-states}
 use Rattle.state.specs.Steps.{HoldsState}
 use Rattle.state.specs.declared.MemoryState.{MemoryState}
 use Rattle.branches.specs.Header.{rowAt, child, stateAt}
-use Rattle.branches.specs.Hash.{hashOf}
-use Rattle.branches.specs.Entries.{Kept, states, IsKept, here, OnPath, Later, Remembers}
+use Rattle.branches.specs.Hash.{hashFrom, hashOf}
+use Rattle.branches.specs.Entries.{Kept, states, IsKept, nextBits, here, OnPath, OnWay, Later, Remembers}
 use Rattle.branches.specs.Search.{HasMap, IsAt, Tests, Reaches, Known, Searches, SomeRemembering}
 use Rattle.branches.specs.declared.BranchList.{BranchList}
 use Rattle.branches.specs.declared.Place.the-variants as place
-use Rattle.branches.proofs.HashLaws.{hash-equal}
+use Rattle.branches.proofs.HashLaws.{hashes-equal}
 use Rattle.branches.proofs.BlockLaws.{blocks-span, blocks-root, blocks-none}
 use Rattle.branches.proofs.PathLaws.{path-more, on-next}
 
@@ -44,7 +44,7 @@ module _ (limit bound n : ℕ) (xs : List ℕ) (s : MemoryState) (m : Defined) (
       let e : k .mem ≡ m = state-decides .sound (k .mem) m h in
       let row : rowAt cs (k .at) ≡ s .row = int-injective _ _ (is .holds .row ∙ ap (λ (x : Defined). x .programI) e ∙ sym (held .row)) in
       let runs : runsAt cs (s .map) ≡ runsAt cs (stateAt cs (k .at) .map) = held .map .runs ∙ ap runsOf (sym e) ∙ sym (is .holds .map .runs) in
-      record { hash = is .hash ∙ hash-equal cs cs (stateAt cs (k .at)) s (is .map) map row (sym runs); row = row; runs = runs }
+      record { hash = is .hash ∙ ap (λ (f : ℕ → ℕ). f 0) (hashes-equal cs cs (stateAt cs (k .at)) s (is .map) map row (sym runs)); row = row; runs = runs }
 
 or-true : (x y : Bool) → y ≡ true → x || y ≡ true
 or-true true y e = refl
@@ -70,8 +70,8 @@ known-false m (j ∷ ks) h = go (eqState (j .mem) m) refl (known-false m ks (λ 
 
 -- the way has led to p, and every place where the state is lies on the way from there
 pub record Descends (cs : List Cell) (b : BranchList) (ks : List Kept) (s : MemoryState) (p bits : ℕ) : Type 0 where
-  pub reaches : Reaches cs b ks (hashOf cs s) p bits
-  pub left : (k : Kept) → k ∈ ks → IsAt cs s (k .at) → OnPath cs (b .first) (b .top) p bits (k .at)
+  pub reaches : Reaches cs b ks (hashFrom cs s) p bits
+  pub left : (k : Kept) → k ∈ ks → IsAt cs s (k .at) → OnPath cs ks (hashFrom cs s) p bits (k .at)
 
 -- of all that are remembered between two places
 pub record Searching (xs : List ℕ) (first top : ℕ) (s : MemoryState) (p bits : ℕ) : Type 0 where
@@ -94,17 +94,16 @@ not-there : (cs : List Cell) (s : MemoryState) (p : ℕ) (r : Bool) → Tests cs
 not-there cs s p r t e w = false≢true (sym e ∙ t .complete w)
 
 module _ (xs : List ℕ) (first top : ℕ) (s : MemoryState) where
-  pub search-first : (h : ℕ) → h ≡ hashOf (cells xs) s → first < top → Searching xs first top s first h
-  search-first h e lt =
+  pub search-first : (h : ℕ) → IsMap (cells xs) (s .map) → h ≡ hashOf (cells xs) s → first < top → Searching xs first top s first h
+  search-first h map e lt =
       record {
         says = λ limit bound n b ks ws f t r.
             let cs : List Cell = cells xs in
-            let root = blocks-root cs n (b .first) (b .top) ks (omega arith) (r .blocks) in
             subst (λ (q : ℕ). Descends cs b ks s q h) f
             (subst (λ (q : ℕ). Descends cs b ks s (b .first) q) (sym e)
             (record {
-              reaches = record { kept = root .kept; among = root .among; at = root .at; path = here };
-              left = λ k m w. subst (λ (q : ℕ). OnPath cs (b .first) (b .top) (b .first) q (k .at)) (w .hash) (r .paths k m);
+              reaches = record { stands = blocks-root cs n (b .first) (b .top) ks (omega arith) (r .blocks); path = here };
+              left = λ k m w. subst (λ (g : ℕ → ℕ). OnWay cs ks (b .first) g (k .at)) (hashes-equal cs cs (stateAt cs (k .at)) s (r .kept k m .map) map (w .row) (sym (w .runs))) (r .paths k m);
             }));
       }
 
@@ -112,7 +111,7 @@ module _ (xs : List ℕ) (first top : ℕ) (s : MemoryState) where
     pub search-lies : (b : BranchList) → b .first ≡ first → b .top ≡ top → SomeRemembering xs b → Lies xs first top p
     search-lies b f t some =
         let r = some .remembering .remembers in
-        let d = so .says (some .limit) (some .remembering .bound) (some .rows) b (some .remembering .all) (some .remembering .wait) f t r .reaches in
+        let d = so .says (some .limit) (some .remembering .bound) (some .rows) b (some .remembering .all) (some .remembering .wait) f t r .reaches .stands in
         let lies = blocks-span (cells xs) (some .rows) (b .first) (b .top) (some .remembering .all) (r .blocks) (d .kept) (d .among) in
         let map : IsMap (cells xs) (stateAt (cells xs) p .map) = subst (λ (q : ℕ). IsMap (cells xs) (stateAt (cells xs) q .map)) (d .at) (r .kept (d .kept) (d .among) .map) in
         let at = d .at in
@@ -127,7 +126,7 @@ module _ (xs : List ℕ) (first top : ℕ) (s : MemoryState) where
       -- the link of the place leads to a later one
       pub link-later : Later ks p (child (cells xs) p bits)
       link-later =
-          let d = so .says limit bound n b ks ws f t r .reaches in
+          let d = so .says limit bound n b ks ws f t r .reaches .stands in
           later ks p (child (cells xs) p bits) ne
           (subst (λ (q : ℕ). (child (cells xs) q bits ≡ 0) ⊎ Later ks q (child (cells xs) q bits)) (d .at) (r .links (d .kept) (d .among) bits))
 
@@ -136,27 +135,19 @@ module _ (xs : List ℕ) (first top : ℕ) (s : MemoryState) where
         omega (arith, link-later (some .limit) (some .remembering .bound) (some .rows) b (some .remembering .all) (some .remembering .wait) f t (some .remembering .remembers) (λ z. ne (e ∙ z)) .after)
 
     module _ (test : Bool) (tests : Tests (cells xs) s p test) where
-      pub search-next : test ≡ false → (next : ℕ) → next ≡ child (cells xs) p bits → (next ≡ 0 → ⊥) → Searching xs first top s next (bits / 2)
-      search-next not next e ne =
+      pub search-next : test ≡ false → (next more : ℕ) → next ≡ child (cells xs) p bits → (next ≡ 0 → ⊥) → more ≡ nextBits (cells xs) (hashFrom (cells xs) s) p bits → Searching xs first top s next more
+      search-next not next more e ne g =
           record {
             says = λ limit bound n b ks ws f t r.
                 let cs : List Cell = cells xs in
                 let d = so .says limit bound n b ks ws f t r in
                 let some : (child cs p bits ≡ 0 → ⊥) = λ z. ne (e ∙ z) in
-                let l = link-later limit bound n b ks ws f t r some in
-                let lies = blocks-span cs n (b .first) (b .top) ks (r .blocks) (d .reaches .kept) (d .reaches .among) in
-                let at = d .reaches .at in
-                subst (λ (q : ℕ). Descends cs b ks s q (bits / 2)) (sym e)
+                subst (λ (q : ℕ). Descends cs b ks s next q) (sym g)
+                (subst (λ (q : ℕ). Descends cs b ks s q (nextBits cs (hashFrom cs s) p bits)) (sym e)
                 (record {
-                  reaches =
-                      record {
-                        kept = l .kept;
-                        among = l .among;
-                        at = l .at;
-                        path = path-more cs (b .first) (b .top) (d .reaches .path) (omega (arith, lies .0)) (omega (arith, lies .1)) some;
-                      };
-                  left = λ k m w. on-next cs (b .first) (b .top) (d .left k m w) (λ q. not-there cs s p test tests not (subst (IsAt cs s) (sym q) w)) .1;
-                });
+                  reaches = record { stands = link-later limit bound n b ks ws f t r some .stands; path = path-more cs ks (hashFrom cs s) (d .reaches .path) (d .reaches .stands) some };
+                  left = λ k m w. on-next cs ks (hashFrom cs s) (d .left k m w) (λ q. not-there cs s p test tests not (subst (IsAt cs s) (sym q) w)) .1;
+                }));
           }
 
       module _ (b : BranchList) (f : b .first ≡ first) (t : b .top ≡ top) where
@@ -164,7 +155,7 @@ module _ (xs : List ℕ) (first top : ℕ) (s : MemoryState) where
         search-known is =
             record {
               says = λ limit bound n ks ws r.
-                  let d = so .says limit bound n b ks ws f t r .reaches in
+                  let d = so .says limit bound n b ks ws f t r .reaches .stands in
                   record { kept = d .kept; among = d .among; there = subst (IsAt (cells xs) s) (sym (d .at)) (tests .sound is) };
             }
 
@@ -175,7 +166,7 @@ module _ (xs : List ℕ) (first top : ℕ) (s : MemoryState) where
                   let cs : List Cell = cells xs in
                   let d = so .says limit bound n b ks ws f t r in
                   record {
-                    none = λ k m w. on-next cs (b .first) (b .top) (d .left k m w) (λ q. not-there cs s p test tests not (subst (IsAt cs s) (sym q) w)) .0 (sym free);
+                    none = λ k m w. on-next cs ks (hashFrom cs s) (d .left k m w) (λ q. not-there cs s p test tests not (subst (IsAt cs s) (sym q) w)) .0 (sym free);
                     place = inr (record { reaches = d .reaches; free = sym free });
                   };
             }

@@ -1,10 +1,11 @@
 -- The remembered states in the area and those that wait: `BranchList` of explain.rs, `states` and `visited_branch_state`. They lie one behind the
--- other, the latest last; each lies on the path of its own hash in a search tree whose root is the first; those that wait are linked, the
+-- other, the latest last; each lies on the way of its own hashes in a search tree whose root is the first; those that wait are linked, the
 -- latest first. Assumes nothing.
 use mathlib.Core.Path.{_≡_}
 use mathlib.Core.Logic.{_⊎_}
 use mathlib.Core.List.{List, [], _∷_}
 use Prim.Native.Nat.{ℕ, _+_, _/_, _<_, _≤_}
+use lib.Dec.{eqb}
 use lib.ListN.{length}
 use Rattle.model.specs.Walk.{_∈_, count, Lineage}
 use Rattle.model.specs.State.{MemoryState as Defined}
@@ -12,9 +13,10 @@ use Rattle.area.specs.Cells.{cells}
 use Rattle.area.specs.Counts.{count as countAt}
 use Rattle.area.specs.declared.Cell.{Cell}
 use Rattle.intmap.specs.Map.{IsMap}
+use Rattle.intmap.specs.Pick.{pick}
 use Rattle.state.specs.Steps.{HoldsState}
 use Rattle.branches.specs.Header.{hashAt, child, usedAt, nextAt, stateAt}
-use Rattle.branches.specs.Hash.{hashOf}
+use Rattle.branches.specs.Hash.{hashFrom, hashOf}
 use Rattle.branches.specs.declared.BranchList.{BranchList}
 
 -- the counts of n rows from a cell on are those of a lineage's past
@@ -52,20 +54,33 @@ abbrev pub Blocks : List Cell → ℕ → ℕ → ℕ → List Kept → Type 0
 Blocks cs n first top [] = top ≡ first
 Blocks cs n first top (k ∷ ks) = (k .at + 2 + usedAt cs (k .at) + countCells n ≡ top) × Blocks cs n first (k .at) ks
 
--- the search tree: the way from a place, by the bits of a hash, to another, with the bits that are left there
-pub data Path (cs : List Cell) (first top : ℕ) : ℕ → ℕ → ℕ → ℕ → Type 0 where
-  here : {p bits : ℕ} → Path cs first top p bits p bits
-  down : {p bits to left : ℕ} → first ≤ p → p + 2 ≤ top → (child cs p bits ≡ 0 → ⊥) → Path cs first top (child cs p bits) (bits / 2) to left → Path cs first top p bits to left
+-- one of them is at p
+pub record Stands (ks : List Kept) (p : ℕ) : Type 0 where
+  pub kept : Kept
+  pub among : kept ∈ ks
+  pub at : kept .at ≡ p
 
-pub record OnPath (cs : List Cell) (first top p bits to : ℕ) : Type 0 where
+-- the search tree: the bits that lead on from p for a state that is not there and has the hashes f: the next ones, but where the state at p has
+-- the same hash, those of the hash that starts from p. So states of one hash, which can be made on purpose, part again.
+unfoldable pub nextBits : List Cell → (ℕ → ℕ) → ℕ → ℕ → ℕ
+nextBits cs f p bits = pick (eqb (hashAt cs p) (f 0)) (f (p + 1)) (bits / 2)
+
+-- the way from a place, by such bits, to another, with the bits that are left there
+pub data Path (cs : List Cell) (ks : List Kept) (f : ℕ → ℕ) : ℕ → ℕ → ℕ → ℕ → Type 0 where
+  here : {p bits : ℕ} → Path cs ks f p bits p bits
+  down : {p bits to left : ℕ} → Stands ks p → (child cs p bits ≡ 0 → ⊥) → Path cs ks f (child cs p bits) (nextBits cs f p bits) to left → Path cs ks f p bits to left
+
+pub record OnPath (cs : List Cell) (ks : List Kept) (f : ℕ → ℕ) (p bits to : ℕ) : Type 0 where
   pub left : ℕ
-  pub path : Path cs first top p bits to left
+  pub path : Path cs ks f p bits to left
+
+-- the whole way, from the root on
+abbrev pub OnWay : List Cell → List Kept → ℕ → (ℕ → ℕ) → ℕ → Type 0
+OnWay cs ks first f to = OnPath cs ks f first (f 0) to
 
 -- a link leads nowhere or to a later one
 pub record Later (ks : List Kept) (p q : ℕ) : Type 0 where
-  pub kept : Kept
-  pub among : kept ∈ ks
-  pub at : kept .at ≡ q
+  pub stands : Stands ks q
   pub after : p < q
 
 abbrev pub Links : List Cell → List Kept → ℕ → Type 0
@@ -79,7 +94,7 @@ Waiting cs link (k ∷ ks) = (link ≡ k .at) × (nextAt cs (k .at) < k .at) × 
 pub record Remembers (limit bound n : ℕ) (xs : List ℕ) (b : BranchList) (ks ws : List Kept) : Type 0 where
   pub blocks : Blocks (cells xs) n (b .first) (b .top) ks
   pub kept : (k : Kept) → k ∈ ks → IsKept limit bound n xs k
-  pub paths : (k : Kept) → k ∈ ks → OnPath (cells xs) (b .first) (b .top) (b .first) (hashAt (cells xs) (k .at)) (k .at)
+  pub paths : (k : Kept) → k ∈ ks → OnWay (cells xs) ks (b .first) (hashFrom (cells xs) (stateAt (cells xs) (k .at))) (k .at)
   pub links : (k : Kept) → k ∈ ks → Links (cells xs) ks (k .at)
   pub waiting : Waiting (cells xs) (b .last) ws
   pub among : (k : Kept) → k ∈ ws → k ∈ ks

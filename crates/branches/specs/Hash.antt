@@ -1,6 +1,6 @@
--- A hash of a state: its row and the cells of its map, word after word, a cell's head by `fold` and the rest by `mix`, so that it is no sum of
--- words times powers. Nothing is claimed of it but that it is a function of row and cells: it only decides where a state is looked for.
--- Assumes nothing.
+-- The hashes of a state, one for each start: its row and the cells of its map, word after word, a cell's head by `fold` and the rest by `mix`,
+-- so that a hash is no sum of words times powers. Nothing is claimed of them but that they are functions of row and cells: they only decide
+-- where a state is looked for. Assumes nothing.
 use mathlib.Core.List.{List, [], _∷_}
 use Prim.Native.Nat.{ℕ, _+_, _*_, _/_, _%_}
 use Rattle.area.specs.declared.Cell.{Cell}
@@ -28,5 +28,9 @@ unfoldable pub mixCells : ℕ → List Cell → ℕ
 mixCells h [] = h
 mixCells h (c ∷ cs) = mixCells (mix (fold h (c .head)) (c .payload)) cs
 
-unfoldable pub hashOf : List Cell → MemoryState → ℕ
-hashOf cs s = mixCells (mix 0 (s .row)) (span cs (s .map .base) (s .map .used))
+unfoldable pub hashFrom : List Cell → MemoryState → ℕ → ℕ
+hashFrom cs s start = mixCells (mix start (s .row)) (span cs (s .map .base) (s .map .used))
+
+-- the one that a header has
+abbrev pub hashOf : List Cell → MemoryState → ℕ
+hashOf cs s = hashFrom cs s 0

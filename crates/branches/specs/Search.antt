@@ -1,4 +1,4 @@
--- Where a state is looked for among the remembered ones: from the root down by the bits of its hash, until it is met or a link leads nowhere.
+-- Where a state is looked for among the remembered ones: from the root down the way of its hashes, until it is met or a link leads nowhere.
 -- Assumes nothing.
 use mathlib.Core.Path.{_≡_}
 use mathlib.Core.Logic.{_⊎_}
@@ -12,8 +12,8 @@ use Rattle.area.specs.declared.Cell.{Cell}
 use Rattle.intmap.specs.Map.{runsAt, IsMap}
 use Rattle.state.specs.declared.MemoryState.{MemoryState}
 use Rattle.branches.specs.Header.{hashAt, rowAt, child, stateAt}
-use Rattle.branches.specs.Hash.{hashOf}
-use Rattle.branches.specs.Entries.{Kept, Path, Remembers, Remembering}
+use Rattle.branches.specs.Hash.{hashFrom, hashOf}
+use Rattle.branches.specs.Entries.{Kept, Stands, Path, Remembers, Remembering}
 use Rattle.branches.specs.declared.BranchList.{BranchList}
 use Rattle.branches.specs.declared.Place.{Place}
 use Rattle.branches.specs.declared.Place.the-variants as place
@@ -34,12 +34,10 @@ pub record Tests (cs : List Cell) (s : MemoryState) (p : ℕ) (r : Bool) : Type 
   pub sound : r ≡ true → IsAt cs s p
   pub complete : IsAt cs s p → r ≡ true
 
--- the way of a hash h leads to the one at p
-pub record Reaches (cs : List Cell) (b : BranchList) (ks : List Kept) (h p bits : ℕ) : Type 0 where
-  pub kept : Kept
-  pub among : kept ∈ ks
-  pub at : kept .at ≡ p
-  pub path : Path cs (b .first) (b .top) (b .first) h p bits
+-- the way of hashes f leads to the one at p
+pub record Reaches (cs : List Cell) (b : BranchList) (ks : List Kept) (f : ℕ → ℕ) (p bits : ℕ) : Type 0 where
+  pub stands : Stands ks p
+  pub path : Path cs ks f (b .first) (f 0) p bits
 
 -- one of them is s
 pub record Known (cs : List Cell) (ks : List Kept) (s : MemoryState) : Type 0 where
@@ -48,13 +46,13 @@ pub record Known (cs : List Cell) (ks : List Kept) (s : MemoryState) : Type 0 wh
   pub there : IsAt cs s (kept .at)
 
 -- none is, and the way ends here
-pub record Ends (cs : List Cell) (b : BranchList) (ks : List Kept) (h p bits : ℕ) : Type 0 where
-  pub reaches : Reaches cs b ks h p bits
+pub record Ends (cs : List Cell) (b : BranchList) (ks : List Kept) (f : ℕ → ℕ) (p bits : ℕ) : Type 0 where
+  pub reaches : Reaches cs b ks f p bits
   pub free : child cs p bits ≡ 0
 
 pub record Unknown (cs : List Cell) (b : BranchList) (ks : List Kept) (s : MemoryState) (p bits : ℕ) : Type 0 where
   pub none : (k : Kept) → k ∈ ks → IsAt cs s (k .at) → ⊥
-  pub place : ((p ≡ 0) × (ks ≡ [])) ⊎ Ends cs b ks (hashOf cs s) p bits
+  pub place : ((p ≡ 0) × (ks ≡ [])) ⊎ Ends cs b ks (hashFrom cs s) p bits
 
 abbrev pub TellsSearch : List Cell → BranchList → List Kept → MemoryState → Place → Type 0
 TellsSearch cs b ks s place.Known = Known cs ks s

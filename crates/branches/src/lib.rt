@@ -4,8 +4,8 @@ ghost use mathlib.Core.Path.{_≡_};
 ghost use Rattle.area.specs.Cells.{cells, Inside};
 ghost use Rattle.intmap.specs.Map.{IsMap};
 ghost use Rattle.branches.specs.Header.{child, rowAt, stateAt};
-ghost use Rattle.branches.specs.Hash.{mix, fold, hashOf};
-ghost use Rattle.branches.specs.Entries.{none};
+ghost use Rattle.branches.specs.Hash.{mix, fold, hashFrom, hashOf};
+ghost use Rattle.branches.specs.Entries.{nextBits, none};
 ghost use Rattle.branches.specs.Lists.{Pushes, Loads};
 ghost use Rattle.branches.specs.Search.{HasMap, Tests, Searches, SomeRemembering};
 ghost use Rattle.branches.specs.declared.Place.the-variants as place;
@@ -59,14 +59,14 @@ fn fold(h: u64, x: u64) -> u64
     std::num::wrapping_add_u64(s, s % HALF * (s / HALF))
 }
 
-// The hash of a state.
-fn hash(area: &[u8], s: MemoryState) -> u64
+// The hash of a state, by a start.
+fn hash(area: &[u8], s: MemoryState, start: u64) -> u64
     requires { ⌜ IsMap (cells (now area)) (s .map) ⌝ }
-    ensures { λ r. ⌜ r ≡ hashOf (cells (now (area .entry))) s ⌝ }
+    ensures { λ r. ⌜ r ≡ hashFrom (cells (now (area .entry))) s start ⌝ }
 {
     let mut at = s.map.base;
     let mut left = s.map.used;
-    let mut h = mix(0, s.row);
+    let mut h = mix(start, s.row);
     while 0 < left {
         let c = area::cell_at(area, at);
         h = mix(fold(h, c.head), c.payload);
@@ -132,6 +132,19 @@ fn is_at(area: &[u8], p: usize, s: MemoryState, h: u64) -> bool
     let there = state_at(area, p);
     let other = there.map;
     map.eq(area, other)
+}
+
+// The bits that lead on from p for s, which has this hash and is not there: the next ones, or, where the state at p has the same hash, those of
+// another.
+fn next_bits(area: &[u8], p: usize, s: MemoryState, h: u64, bits: u64) -> u64
+    requires { ⌜ Inside (now area) p 1 × IsMap (cells (now area)) (s .map) × (h ≡ hashOf (cells (now area)) s) ⌝ }
+    ensures { λ r. ⌜ r ≡ nextBits (cells (now (area .entry))) (hashFrom (cells (now (area .entry))) s) p bits ⌝ }
+{
+    let c = area::cell_at(area, p);
+    if c.head == h {
+        return hash(area, s, p as u64 + 1);
+    }
+    bits / 2
 }
 
 // Copies a state with its counts to p, under its hash, with `next` behind it among those that wait.
@@ -233,8 +246,8 @@ impl BranchList {
             if next == 0 {
                 return Place::Free(p, bits);
             }
+            bits = next_bits(area, p, s, h, bits);
             p = next;
-            bits = bits / 2;
         }
         Place::Free(0, h)
     }
@@ -282,7 +295,7 @@ impl BranchList {
         requires { ⌜ Pushable limit n counts (now area) self s ⌝ }
         ensures { λ r. ⌜ Pushes limit n counts (now (area .entry)) (now (area .exit)) self s r ⌝ }
     {
-        let h = hash(area, s);
+        let h = hash(area, s, 0);
         let found = self.search(area, s, h);
         match found {
             Place::Known => Pushed::Done(self),

@@ -13,10 +13,10 @@ use Rattle.branches.proofs.hash.Statement.{statement}
 use Rattle.branches.proofs.hash.Tie as tie
 
 abbrev Inv-loop : tie.InvT-loop
-Inv-loop area at₀ left₀ h₀ at left h = (mixCells h (span (cells area) at left) ≡ mixCells h₀ (span (cells area) at₀ left₀)) × (at + left ≤ length (cells area)) × (length (cells area) ≤ 1048576)
+Inv-loop area start at₀ left₀ h₀ at left h = (mixCells h (span (cells area) at left) ≡ mixCells h₀ (span (cells area) at₀ left₀)) × (at + left ≤ length (cells area)) × (length (cells area) ≤ 1048576)
 
 abbrev μ-loop : tie.MeasureT-loop
-μ-loop area at₀ left₀ h₀ at left h = left
+μ-loop area start at₀ left₀ h₀ at left h = left
 
 mix-requires : tie.Need-mix-requires Inv-loop μ-loop
 mix-requires c κs = search needs
@@ -46,7 +46,7 @@ loop-again : tie.Need-loop-again Inv-loop μ-loop
 loop-again c = (mixed-turn _ _ _ _ _ _ _ (c .before .before .before .loop-test .taken) (c .before .before .cell-at .ensures) (c .before .fold .ensures) (c .mix2 .ensures) ∙ c .before .before .before .before .loop .inv .0, omega arith, c .before .before .before .before .loop .inv .2)
 
 returns : tie.Need-returns Inv-loop μ-loop
-returns c = mixed-end _ _ _ _ (omega (arith, c .loop-test .left)) ∙ c .before .loop .inv .0 ∙ hash-whole _ _ _ (c .before .before .mix .ensures)
+returns c = mixed-end _ _ _ _ (omega (arith, c .loop-test .left)) ∙ c .before .loop .inv .0 ∙ hash-whole _ _ _ _ (c .before .before .mix .ensures)
 
 pub hash-spec : {M : Type 1} → statement M
 hash-spec =

@@ -1,4 +1,4 @@
--- `BranchList::search` goes down by a bit a turn. The invariant: the way of the hash has led to p, and every place where the state is lies on the
+-- `BranchList::search` goes down by a bit a turn. The invariant: the way of the state's hashes has led to p, and every place where the state is lies on the
 -- way from there. The measure is how far the top is, since links lead to later places. Assumes nothing.
 use mathlib.Core.Path.{refl, sym, _∙_}
 use Prim.Native.Nat.{_-_, _<_, _≤_}
@@ -14,7 +14,7 @@ abbrev μ-loop : tie.MeasureT-loop
 μ-loop area s h top p₀ bits₀ p bits = top - p
 
 loop-holds : tie.Need-loop-holds Inv-loop μ-loop
-loop-holds c = (omega arith, λ lt. search-first _ _ _ _ _ (c .before .pre .2) lt)
+loop-holds c = (omega arith, λ lt. search-first _ _ _ _ _ (c .before .pre .1) (c .before .pre .2) lt)
 
 is-at-requires : tie.Need-is-at-requires Inv-loop μ-loop
 is-at-requires c κs = let so = c .before .loop .inv .1 (omega arith) in
@@ -30,11 +30,15 @@ child-requires c κs = let lies = search-lies _ _ _ _ _ _ (c .before .before .be
 returns-2 : tie.Need-returns-2 Inv-loop μ-loop
 returns-2 c = search-free _ _ _ _ _ _ (c .before .before .before .before .before .loop .inv .1 (omega arith)) _ (c .before .before .before .is-at .ensures) (c .before .before .before .before .before .before .before .args .self) refl refl (c .before .before .if1 .left) (sym (c .if2 .taken) ∙ c .before .child .ensures)
 
+next-bits-requires : tie.Need-next-bits-requires Inv-loop μ-loop
+next-bits-requires c κs = let lies = search-lies _ _ _ _ _ _ (c .before .before .before .before .before .loop .inv .1 (omega arith)) (c .before .before .before .before .before .before .before .args .self) refl refl (c .before .before .before .before .before .before .before .pre .0) in
+    (record { within = omega (arith, lies .map .header); small = lies .small }, c .before .before .before .before .before .before .before .pre .1, c .before .before .before .before .before .before .before .pre .2)
+
 loop-less : tie.Need-loop-less Inv-loop μ-loop
-loop-less c = omega (arith, search-later (c .before .before .before .before .before .before .before .args .area .now) _ _ _ _ _ (c .before .before .before .before .before .loop .inv .1 (omega arith)) (c .before .before .before .before .before .before .before .args .self) refl refl (c .before .before .before .before .before .before .before .pre .0) _ (c .before .child .ensures) (c .if2 .left))
+loop-less c = omega (arith, search-later (c .before .before .before .before .before .before .before .before .args .area .now) _ _ _ _ _ (c .before .before .before .before .before .before .loop .inv .1 (omega arith)) (c .before .before .before .before .before .before .before .before .args .self) refl refl (c .before .before .before .before .before .before .before .before .pre .0) _ (c .before .before .child .ensures) (c .before .if2 .left))
 
 loop-again : tie.Need-loop-again Inv-loop μ-loop
-loop-again c = (omega (arith, search-later (c .before .before .before .before .before .before .before .args .area .now) _ _ _ _ _ (c .before .before .before .before .before .loop .inv .1 (omega arith)) (c .before .before .before .before .before .before .before .args .self) refl refl (c .before .before .before .before .before .before .before .pre .0) _ (c .before .child .ensures) (c .if2 .left)), λ lt. search-next _ _ _ _ _ _ (c .before .before .before .before .before .loop .inv .1 lt) _ (c .before .before .before .is-at .ensures) (c .before .before .if1 .left) _ (c .before .child .ensures) (c .if2 .left))
+loop-again c = (omega (arith, search-later (c .before .before .before .before .before .before .before .before .args .area .now) _ _ _ _ _ (c .before .before .before .before .before .before .loop .inv .1 (omega arith)) (c .before .before .before .before .before .before .before .before .args .self) refl refl (c .before .before .before .before .before .before .before .before .pre .0) _ (c .before .before .child .ensures) (c .before .if2 .left)), λ lt. search-next _ _ _ _ _ _ (c .before .before .before .before .before .before .loop .inv .1 lt) _ (c .before .before .before .before .is-at .ensures) (c .before .before .before .if1 .left) _ _ (c .before .before .child .ensures) (c .before .if2 .left) (c .next-bits .ensures))
 
 returns-3 : tie.Need-returns-3 Inv-loop μ-loop
 returns-3 c = search-end _ _ _ _ _ _ (c .before .before .before .pre .0) (omega arith) (c .before .loop .inv .1)
@@ -50,6 +54,7 @@ search-spec =
     returns
     child-requires
     returns-2
+    next-bits-requires
     loop-less
     loop-again
     returns-3)
