@@ -92,7 +92,7 @@ module _ (c l g r : ℕ) (bytes : List ℕ) {out : List ℕ} {h n : ℕ} (s : Si
 
 -- of the columns that the bytes stand for
 pub writes : (bytes : List ℕ) (width c l g r : ℕ) (entry exit : List ℕ) (w : Written) → width ≤ length bytes → Leaves (answerWith c l g r (map columnIn (take width bytes))) entry exit w → Writes bytes width c l g r entry exit w
-writes bytes width c l g r entry exit w fits leaves = record { says = λ columns has. subst (λ x. Leaves (answerWith c l g r x) entry exit w) (columns-back bytes width columns fits has) leaves }
+writes bytes width c l g r entry exit w fits leaves = record { whole = leaves; says = λ columns has. subst (λ x. Leaves (answerWith c l g r x) entry exit w) (columns-back bytes width columns fits has) leaves }
 
 pub part-small : (bytes : List ℕ) (width c l g r : ℕ) → width ≤ length bytes → Small width c l g r → Small (length (take width bytes)) c l g r
 part-small bytes width c l g r fits small = rw (length-take-le width bytes fits) small

@@ -61,6 +61,7 @@ calledOf exit (written.Length n) = record { number = 0; size = n; answer = exit 
 pub record Leaves (a : Answer) (entry exit : List ℕ) (r : Written) : Type 0 where
   pub is : calledOf exit r ≡ leave entry (printInto (length entry) a)
 
--- of the columns that the bytes stand for
+-- what the first `width` bytes say, whatever they are; so, where the bytes stand for columns, the answer of these columns
 pub record Writes (bytes : List ℕ) (width charged loopstops gasstops repeats : ℕ) (entry exit : List ℕ) (r : Written) : Type 0 where
+  pub whole : Leaves (answerWith charged loopstops gasstops repeats (map columnIn (take width bytes))) entry exit r
   pub says : (columns : List ResultColumn) → HasColumns bytes width columns → Leaves (answerWith charged loopstops gasstops repeats columns) entry exit r
