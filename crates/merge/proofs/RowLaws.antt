@@ -160,7 +160,7 @@ row-length row = length-map row resultColumn
 
 pub merged-row : (cs : List Cell) (a : IntMap) (i n : ℕ) (before after : List ℕ) (width r : ℕ) (w : Found) (key : ℕ)
     → key ≡ classKey 0 i → i + n ≤ 65536 → n ≤ length before → w ≡ seek cs levels key (a .len) (a .base) → after ≡ mergeRuns key n (entries cs levels (w .left) (w .at)) before → r ≡ max width n → Merges cs a i n before after width r
-merged-row cs a i n before after width r w key ke within fits found is wide = record { widest = wide; says = says }
+merged-row cs a i n before after width r w key ke within fits found is wide = record { widest = wide; whole = whole; says = says }
   where
     whole : after ≡ mergeRuns (classKey 0 i) n (entries cs levels (a .len) (a .base)) before
     whole =
