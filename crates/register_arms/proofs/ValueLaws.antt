@@ -18,7 +18,7 @@ use Rattle.encoding.specs.Decode.{datatypes, nullables}
 use Rattle.state.specs.Reads.{TellsRegister}
 use Rattle.state.specs.declared.Register.{Register}
 use Rattle.state.specs.declared.Register.the-variants as register
-use Rattle.register_arms.specs.Values.{datatypeOf, nullableOf, operandsNullable, IsDatatype, IsNullable, AreNullable, isAbsent}
+use Rattle.register_arms.specs.Values.{datatypeOf, nullableOf, operandsNullable, registerDatatype, registerNullable, IsDatatype, IsNullable, AreNullable, isAbsent}
 
 -- ---- codes
 
@@ -86,38 +86,32 @@ not-refused e = subst IsDone e tt
 read-value : {A : Type 0} {v w : A} → done v ≡ done w → v ≡ w
 read-value e = cc
 
-module _ (r : Register) where
-  pub bad-datatype : (k : ℕ) (d : DataType) → r ≡ register.Bad k → IsDatatype r d
-  bad-datatype k d e = subst (λ x. IsDatatype x d) (sym e) (record { says = λ bound cs a v t. absurd (not-refused t) })
+module _ (bound : ℕ) (cs : List Cell) (a : IntMap) where
+  datatype-read : (r : Register) (v : Option RegDataType) → TellsRegister bound cs a r (done v) → registerDatatype r ≡ datatypeOf v
+  datatype-read (register.Bad n) v t = absurd (not-refused t)
+  datatype-read register.Absent v t = sym (ap datatypeOf (read-value t))
+  datatype-read (register.Single k n) v t = sym (ap datatypeOf (read-value (t .answer)))
+  datatype-read (register.Record at) v t = sym (ap datatypeOf (read-value (t .answer)))
+  datatype-read (register.Int w) v t = sym (ap datatypeOf (read-value (t .answer)))
 
-  pub absent-datatype : r ≡ register.Absent → IsDatatype r Null
-  absent-datatype e = subst (λ x. IsDatatype x Null) (sym e) (record { says = λ bound cs a v t. sym (ap datatypeOf (read-value t)) })
+  nullable-read : (r : Register) (v : Option RegDataType) → TellsRegister bound cs a r (done v) → registerNullable r ≡ nullableOf v
+  nullable-read (register.Bad n) v t = absurd (not-refused t)
+  nullable-read register.Absent v t = sym (ap nullableOf (read-value t))
+  nullable-read (register.Single k n) v t = sym (ap nullableOf (read-value (t .answer)))
+  nullable-read (register.Record at) v t = sym (ap nullableOf (read-value (t .answer)))
+  nullable-read (register.Int w) v t = sym (ap nullableOf (read-value (t .answer)))
 
-  pub single-datatype : (k n : ℕ) (d : DataType) → r ≡ register.Single k n → d ≡ getD datatypes k Null → IsDatatype r d
-  single-datatype k n d e is =
-      subst (λ x. IsDatatype x d) (sym e) (record { says = λ bound cs a v t. is ∙ sym (ap datatypeOf (read-value (t .answer))) })
+-- by the variant that it was
+module _ (r q : Register) (e : r ≡ q) where
+  pub datatype-is : (d : DataType) → d ≡ registerDatatype q → IsDatatype r d
+  datatype-is d is =
+      let same : d ≡ registerDatatype r = is ∙ ap registerDatatype (sym e) in
+      record { is = same; says = λ bound cs a v t. same ∙ datatype-read bound cs a r v t }
 
-  pub record-datatype : (at : ℕ) → r ≡ register.Record at → IsDatatype r Null
-  record-datatype at e = subst (λ x. IsDatatype x Null) (sym e) (record { says = λ bound cs a v t. sym (ap datatypeOf (read-value (t .answer))) })
-
-  pub int-datatype : (w : ℕ) → r ≡ register.Int w → IsDatatype r Integer
-  int-datatype w e = subst (λ x. IsDatatype x Integer) (sym e) (record { says = λ bound cs a v t. sym (ap datatypeOf (read-value (t .answer))) })
-
-  pub bad-nullable : (k : ℕ) → r ≡ register.Bad k → IsNullable r 0
-  bad-nullable k e = subst (λ x. IsNullable x 0) (sym e) (record { says = λ bound cs a v t. absurd (not-refused t); below = omega arith })
-
-  pub absent-nullable : r ≡ register.Absent → IsNullable r 0
-  absent-nullable e = subst (λ x. IsNullable x 0) (sym e) (record { says = λ bound cs a v t. sym (ap nullableOf (read-value t)); below = omega arith })
-
-  pub single-nullable : (k n c : ℕ) → r ≡ register.Single k n → getD nullables c none ≡ getD nullables n none → c < 3 → IsNullable r c
-  single-nullable k n c e is small =
-      subst (λ x. IsNullable x c) (sym e) (record { says = λ bound cs a v t. is ∙ sym (ap nullableOf (read-value (t .answer))); below = small })
-
-  pub record-nullable : (at : ℕ) → r ≡ register.Record at → IsNullable r 0
-  record-nullable at e = subst (λ x. IsNullable x 0) (sym e) (record { says = λ bound cs a v t. sym (ap nullableOf (read-value (t .answer))); below = omega arith })
-
-  pub int-nullable : (w : ℕ) → r ≡ register.Int w → IsNullable r 1
-  int-nullable w e = subst (λ x. IsNullable x 1) (sym e) (record { says = λ bound cs a v t. sym (ap nullableOf (read-value (t .answer))); below = omega arith })
+  pub nullable-is : (n : ℕ) → getD nullables n none ≡ registerNullable q → n < 3 → IsNullable r n
+  nullable-is n is small =
+      let same : getD nullables n none ≡ registerNullable r = is ∙ ap registerNullable (sym e) in
+      record { is = same; says = λ bound cs a v t. same ∙ nullable-read bound cs a r v t; below = small }
 
 -- ---- absent, or not
 

@@ -6,12 +6,12 @@ use mathlib.Core.List.{List}
 use Prim.Native.Nat.{ℕ, _<_}
 use lib.ListN.{getD}
 use Rattle.type_info.specs.declared.DataType.{DataType}
-use Rattle.type_info.specs.declared.DataType.the-variants.{Null}
+use Rattle.type_info.specs.declared.DataType.the-variants.{Null, Integer}
 use Rattle.model.specs.Walk.{done}
 use Rattle.model.specs.State.{RegDataType, mapToDatatype, mapToNullable, eitherNullable}
 use Rattle.area.specs.declared.Cell.{Cell}
 use Rattle.intmap.specs.declared.IntMap.{IntMap}
-use Rattle.encoding.specs.Decode.{nullables}
+use Rattle.encoding.specs.Decode.{datatypes, nullables}
 use Rattle.state.specs.Reads.{TellsRegister}
 use Rattle.state.specs.declared.Register.{Register}
 use Rattle.state.specs.declared.Register.the-variants as register
@@ -31,10 +31,28 @@ operandsNullable none w = none
 operandsNullable (some v) none = none
 operandsNullable (some v) (some w) = eitherNullable (mapToNullable v) (mapToNullable w)
 
+-- of a register as it was read, and of one that could not be: Null, unknown
+abbrev pub registerDatatype : Register → DataType
+registerDatatype (register.Bad n) = Null
+registerDatatype register.Absent = Null
+registerDatatype (register.Single k n) = getD datatypes k Null
+registerDatatype (register.Record at) = Null
+registerDatatype (register.Int w) = Integer
+
+abbrev pub registerNullable : Register → Option Bool
+registerNullable (register.Bad n) = none
+registerNullable register.Absent = none
+registerNullable (register.Single k n) = getD nullables n none
+registerNullable (register.Record at) = none
+registerNullable (register.Int w) = some false
+
+-- so it is that of the value that was read
 pub record IsDatatype (r : Register) (d : DataType) : Type 0 where
+  pub is : d ≡ registerDatatype r
   pub says : (bound : ℕ) (cs : List Cell) (a : IntMap) (v : Option RegDataType) → TellsRegister bound cs a r (done v) → d ≡ datatypeOf v
 
 pub record IsNullable (r : Register) (n : ℕ) : Type 0 where
+  pub is : getD nullables n none ≡ registerNullable r
   pub says : (bound : ℕ) (cs : List Cell) (a : IntMap) (v : Option RegDataType) → TellsRegister bound cs a r (done v) → getD nullables n none ≡ nullableOf v
   pub below : n < 3
 

@@ -1,5 +1,6 @@
 -- `register_arms::map_to_datatype`: a case for each that a register may hold. Assumes nothing.
-use Rattle.register_arms.proofs.ValueLaws.{bad-datatype, absent-datatype, single-datatype, record-datatype, int-datatype}
+use mathlib.Core.Path.{refl}
+use Rattle.register_arms.proofs.ValueLaws.{datatype-is}
 use borrow.Author.Needs.{needs}
 use Rattle.register_arms.proofs.map_to_datatype.Statement.{statement}
 use Rattle.register_arms.proofs.map_to_datatype.Tie as tie
@@ -23,19 +24,19 @@ enum-told-4 : tie.Need-enum-told-4
 enum-told-4 c = search needs
 
 returns : tie.Need-returns
-returns c = bad-datatype _ _ _ (c .enum-told .given .1)
+returns c = datatype-is _ _ (c .enum-told .given .1) _ refl
 
 returns-2 : tie.Need-returns-2
-returns-2 c = absent-datatype _ (c .enum-told2 .given .1)
+returns-2 c = datatype-is _ _ (c .enum-told2 .given .1) _ refl
 
 returns-3 : tie.Need-returns-3
-returns-3 c = single-datatype _ _ _ _ (c .before .before .r .given .1) (c .datatype .ensures)
+returns-3 c = datatype-is _ _ (c .before .before .r .given .1) _ (c .datatype .ensures)
 
 returns-4 : tie.Need-returns-4
-returns-4 c = record-datatype _ _ (c .enum-told3 .given .1)
+returns-4 c = datatype-is _ _ (c .enum-told3 .given .1) _ refl
 
 returns-5 : tie.Need-returns-5
-returns-5 c = int-datatype _ _ (c .enum-told4 .given .1)
+returns-5 c = datatype-is _ _ (c .enum-told4 .given .1) _ refl
 
 pub map-to-datatype-spec : {M : Type 1} → statement M
 map-to-datatype-spec =

@@ -1,5 +1,7 @@
 -- `register_arms::map_to_nullable`: a case for each that a register may hold. Assumes nothing.
-use Rattle.register_arms.proofs.ValueLaws.{bad-nullable, absent-nullable, single-nullable, record-nullable, int-nullable}
+use mathlib.Core.Path.{refl}
+use native.Mathlib.Omega.{arith}
+use Rattle.register_arms.proofs.ValueLaws.{nullable-is}
 use borrow.Author.Needs.{needs}
 use Rattle.register_arms.proofs.map_to_nullable.Statement.{statement}
 use Rattle.register_arms.proofs.map_to_nullable.Tie as tie
@@ -23,19 +25,19 @@ enum-told-4 : tie.Need-enum-told-4
 enum-told-4 c = search needs
 
 returns : tie.Need-returns
-returns c = bad-nullable _ _ (c .enum-told .given .1)
+returns c = nullable-is _ _ (c .enum-told .given .1) _ refl (omega arith)
 
 returns-2 : tie.Need-returns-2
-returns-2 c = absent-nullable _ (c .enum-told2 .given .1)
+returns-2 c = nullable-is _ _ (c .enum-told2 .given .1) _ refl (omega arith)
 
 returns-3 : tie.Need-returns-3
-returns-3 c = single-nullable _ _ _ _ (c .before .before .r .given .1) (c .nullable-code .ensures .0) (c .nullable-code .ensures .1)
+returns-3 c = nullable-is _ _ (c .before .before .r .given .1) _ (c .nullable-code .ensures .0) (c .nullable-code .ensures .1)
 
 returns-4 : tie.Need-returns-4
-returns-4 c = record-nullable _ _ (c .enum-told3 .given .1)
+returns-4 c = nullable-is _ _ (c .enum-told3 .given .1) _ refl (omega arith)
 
 returns-5 : tie.Need-returns-5
-returns-5 c = int-nullable _ _ (c .enum-told4 .given .1)
+returns-5 c = nullable-is _ _ (c .enum-told4 .given .1) _ refl (omega arith)
 
 pub map-to-nullable-spec : {M : Type 1} → statement M
 map-to-nullable-spec =
