@@ -46,9 +46,10 @@ pub record InitTo (row p2 r : ℕ) : Type 0 where
   pub on : p2 ≡ offset → r ≡ row + 1
   pub there : (p2 ≡ offset → ⊥) → r ≡ p2
 
--- the row after one that a register told
+-- the row after one that a register told; the last word, which no known number is, stays as it is
 pub record RowAfter (w r : ℕ) : Type 0 where
   pub next : w < 18446744073709551615 → r ≡ w + 1
+  pub last : w ≡ 18446744073709551615 → r ≡ w
 
 -- a state at a row
 abbrev pub at : ℕ → IntMap → MemoryState
