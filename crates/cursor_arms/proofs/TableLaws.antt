@@ -166,6 +166,7 @@ module _ (cs : List Cell) (a : IntMap) (c : CursorDataType) (r : Slot) (finds : 
       record {
         holds = λ limit bound m h o told.
             subst (λ u. HoldsMap limit bound ds a (updateCursorTable g u m)) (sym (done-same (subst (λ y. TellsCursor bound y (done o)) e told .answer))) (changed .holds limit bound m h);
+        other = λ no. absurd (no row e);
         room = changed .room;
         frame = changed .frame;
       }
@@ -179,6 +180,7 @@ module _ (cs : List Cell) (a : IntMap) (c : CursorDataType) (r : Slot) (finds : 
     left-so same =
         record {
           holds = λ limit bound m h o told. subst (λ s. HoldsMap limit bound cs a s) (sym (same limit bound m h o told)) h;
+          other = λ no. refl;
           room = λ limit x. x;
           frame = frame-same cs (a .base) (a .used);
         }

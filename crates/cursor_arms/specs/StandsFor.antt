@@ -134,8 +134,9 @@ pub record TellsEmpty (cs : List Cell) (a : IntMap) (c : CursorDataType) (r : �
   pub says : (limit bound : ℕ) (m : MemoryState) → HoldsMap limit bound cs a m → (o : Option Cursor) → TellsCursor bound c (done o) → r ≡ nullableCode (emptinessOf o m)
   pub refused : (n : ℕ) → c ≡ cursor.Bad n → r ≡ 0
 
--- its table is changed by f where it stands, if it has one; the map takes the same cells
+-- its table is changed by f where it stands, if it has one; the map takes the same cells. What is no cursor on a table changes nothing
 pub record CursorTableChanged (f : TableDataType → TableDataType) (cs ds : List Cell) (a : IntMap) (c : CursorDataType) : Type 0 where
   pub holds : (limit bound : ℕ) (m : MemoryState) → HoldsMap limit bound cs a m → (o : Option Cursor) → TellsCursor bound c (done o) → HoldsMap limit bound ds a (updateCursorTable f o m)
+  pub other : ((row : ℕ) → c ≡ cursor.Normal row → ⊥) → ds ≡ cs
   pub room : (limit : ℕ) → HasRoom cs limit a → HasRoom ds limit a
   pub frame : Frame cs ds (a .base) (a .used)
