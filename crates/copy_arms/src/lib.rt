@@ -83,7 +83,7 @@ fn turns(w: u64) -> u64
     w - intmap::ZERO
 }
 
-// The first register from k on that the map has, or 65,536 if it has none.
+// The first register from k on that the map has, or 65,536 if it has none. The keys of registers are those from 65,536 on and below 131,072.
 fn next_register(map: IntMap, area: &[u8], k: u64) -> u64
     requires { ⌜ IsMap (cells (now area)) map × (k ≤ 65535) ⌝ }
     ensures { λ r. ⌜ Next (cells (now (area .entry))) map k r ⌝ }
