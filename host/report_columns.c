@@ -111,11 +111,12 @@ struct texts {
     size_t listing_len, catalogue_len;
 };
 
-// The call, with a larger area as long as a larger one may help.
+// The call, with a larger area as long as a larger one may help. Every call clears its whole area, so a listing of some twenty rows is lent little first.
 static uint64_t call_growing(const struct texts *t, uint8_t *answer, size_t answer_len) {
-    static const size_t areas[] = {65536, 1048576, COLUMN_KINDS_AREA_MOST};
+    static const size_t areas[] = {24576, 65536, 1048576, COLUMN_KINDS_AREA_MOST};
+    const size_t first = t->listing_len < 1024 ? 0 : 1;
     uint64_t result = 0;
-    for (size_t i = 0; i < sizeof areas / sizeof areas[0]; i++) {
+    for (size_t i = first; i < sizeof areas / sizeof areas[0]; i++) {
         uint8_t *area = need(areas[i]);
         result = column_kinds(t->listing, t->listing_len, t->catalogue, t->catalogue_len, area, areas[i], answer, answer_len);
         free(area);

@@ -6,16 +6,19 @@ use original::text;
 use std::time::{Duration, Instant};
 
 pub const AREAS: [usize; 3] = [65_536, 1_048_576, 16_777_216];
+/// A listing shorter than this is lent less first, as host/report_columns does.
+const SHORT: usize = 1_024;
+const LEAST: usize = 24_576;
 const ANSWER: usize = 131_072;
 const LEAST_RUNS: usize = 3;
 const MOST_RUNS: usize = 40;
 /// Of a run slower than this, in seconds, the first is taken.
 const SLOW: f64 = 2.0;
-/// Short runs are timed several at once, so that asking for the time adds little.
-const SHORT: f64 = 50e-6;
+/// Brief runs are timed several at once, so that asking for the time adds little.
+const BRIEF: f64 = 50e-6;
 
 /// Microseconds. The port's time is there for each area at which the case is answered; `grown` is that of the calls with one area after
-/// the other up to the first that answers.
+/// the other up to the first that answers, as host/report_columns lends them.
 pub struct Times {
     pub port: [Option<f64>; 3],
     pub grown: f64,
@@ -41,7 +44,7 @@ fn seconds(times: usize, run: &mut impl FnMut()) -> f64 {
 fn best(budget: Duration, mut run: impl FnMut()) -> f64 {
     let start = Instant::now();
     let mut least = seconds(1, &mut run);
-    let together = (SHORT / least).clamp(1.0, 50.0) as usize;
+    let together = (BRIEF / least).clamp(1.0, 50.0) as usize;
     for n in 1..MOST_RUNS {
         if least > SLOW || n >= LEAST_RUNS && start.elapsed() > budget {
             break;
@@ -90,11 +93,20 @@ impl Bench {
         (time, (gave.0 == 0).then_some(columns))
     }
 
+    /// The time with the areas in turn, where that of the three is known.
+    fn in_turn(&mut self, case: &Case, three: f64) -> f64 {
+        if case.listing.len() >= SHORT {
+            return three;
+        }
+        let (time, columns) = self.port(case, LEAST);
+        time + if columns.is_some() { 0.0 } else { three }
+    }
+
     /// Nothing where the port refuses the case at every area. Two sides that disagree are not timed.
     pub fn times(&mut self, case: &Case) -> Option<Times> {
         let port = AREAS.map(|area| self.port(case, area));
         let first = port.iter().position(|p| p.1.is_some())?;
-        let grown = port[..=first].iter().map(|p| p.0).sum();
+        let grown = self.in_turn(case, port[..=first].iter().map(|p| p.0).sum());
         let mut conn = read(case);
         let mut columns = None;
         let walk = best(self.budget, || columns = Some(walked(&mut conn)));
