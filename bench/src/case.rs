@@ -28,14 +28,7 @@ pub fn records(count: usize) -> Vec<u8> {
 
 /// How many listings a folder has, and at most `limit` of them, spread evenly over their names.
 pub fn folder(dir: &Path, limit: usize) -> io::Result<(usize, Vec<Case>)> {
-    let mut paths = Vec::new();
-    for entry in fs::read_dir(dir)? {
-        let path = entry?.path();
-        if path.extension().is_some_and(|e| e == "listing") {
-            paths.push(path);
-        }
-    }
-    paths.sort();
+    let paths = original::folder::listings(dir)?;
     let (all, kept) = (paths.len(), limit.min(paths.len()));
     let cases: io::Result<Vec<Case>> = (0..kept).map(|i| read(&paths[i * all / kept])).collect();
     Ok((all, cases?))

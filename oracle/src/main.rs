@@ -14,6 +14,7 @@ mod totals;
 use compare::{Buffers, Case, Compared};
 use generate::Listing;
 use operations::has_arm;
+use original::folder;
 use original::judge::{blank_word, silence, Counted, Verdict};
 use std::io::{self, Write};
 use std::path::{Path, PathBuf};
@@ -183,22 +184,10 @@ fn cases(options: &Options) -> io::Result<Totals> {
     Ok(totals)
 }
 
-fn found(dir: &Path) -> io::Result<Vec<PathBuf>> {
-    let mut paths = Vec::new();
-    for entry in fs::read_dir(dir)? {
-        let path = entry?.path();
-        if path.extension().is_some_and(|e| e == "listing") {
-            paths.push(path);
-        }
-    }
-    paths.sort();
-    Ok(paths)
-}
-
 fn listings(options: &Options) -> io::Result<Totals> {
     let mut all = Totals::default();
     for dir in &options.rest[1..] {
-        let paths = found(Path::new(dir))?;
+        let paths = folder::listings(Path::new(dir))?;
         let shares = spread(options, paths.len() as u64, |index, share, buffers| {
             let path = &paths[index as usize];
             let listing = fs::read(path).expect("a listing can be read");

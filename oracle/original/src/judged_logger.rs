@@ -1,35 +1,12 @@
 //! Stub of the original's `logger` that sees each dispatch, each offered branch and each end of a branch, and
 //! tells the judge.
+pub(crate) use crate::branch_result::{BranchParent, BranchResult, DebugDiff};
 use crate::connection::explain::peek::result_columns;
 use crate::connection::ProgramRow;
 use crate::judge;
 use std::any::Any;
 use std::fmt::Debug;
 use std::marker::PhantomData;
-
-#[derive(Debug)]
-pub(crate) enum BranchResult<R: Debug + 'static> {
-    Result(R),
-    #[allow(dead_code)]
-    Dedup(BranchParent),
-    Halt,
-    Error,
-    GasLimit,
-    LoopLimit,
-    Branched,
-}
-
-#[derive(Debug, Clone, Copy)]
-#[allow(dead_code)]
-pub(crate) struct BranchParent {
-    pub id: i64,
-    pub idx: i64,
-}
-
-#[allow(dead_code)]
-pub(crate) trait DebugDiff {
-    fn diff(&self, prev: &Self) -> String;
-}
 
 /// What is read of a state; src/peek.rs has it for the original's.
 pub(crate) trait StateView {

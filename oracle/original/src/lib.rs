@@ -1,8 +1,10 @@
 //! sqlx-sqlite's `explain`, unchanged, between stubs. Its text is not here: build.rs takes it from the folder
 //! ORACLE_SRC.
 
+mod branch_result;
 pub mod connection;
 pub mod error;
+pub mod folder;
 pub mod from_row;
 #[cfg(feature = "judged")]
 pub mod judge;

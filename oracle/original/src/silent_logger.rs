@@ -1,27 +1,7 @@
 //! Stub of the original's `logger` that does nothing, as the original's does when plans are not logged.
+pub(crate) use crate::branch_result::{BranchParent, BranchResult, DebugDiff};
 use std::fmt::Debug;
 use std::marker::PhantomData;
-
-#[derive(Debug)]
-pub(crate) enum BranchResult<R: Debug + 'static> {
-    Result(R),
-    Dedup(BranchParent),
-    Halt,
-    Error,
-    GasLimit,
-    LoopLimit,
-    Branched,
-}
-
-#[derive(Debug, Clone, Copy)]
-pub(crate) struct BranchParent {
-    pub id: i64,
-    pub idx: i64,
-}
-
-pub(crate) trait DebugDiff {
-    fn diff(&self, prev: &Self) -> String;
-}
 
 pub struct QueryPlanLogger<'q, R: 'static, S, P> {
     nothing: PhantomData<(&'q P, R, S)>,
