@@ -30,7 +30,7 @@ compare-more a b e = leb-false a b (ap isLe e)
 -- a key and the first entry of a map
 module _ {A : Type 0} (k : ℕ) (e : Entry A) (es : List (Entry A)) where
   module _ (h : e .key ≡ k) where
-    get-first : get k (e ∷ es) ≡ some (e .value)
+    pub get-first : get k (e ∷ es) ≡ some (e .value)
     unfolding get
     get-first = ap (λ b. getIf b (e .value) (get k es)) (eq-eqb (e .key) k h)
 
@@ -43,7 +43,7 @@ module _ {A : Type 0} (k : ℕ) (e : Entry A) (es : List (Entry A)) where
     update-first f = ap (λ b. e .key ⇒ updateIf b f (e .value) ∷ update k f es) (eq-eqb (e .key) k h)
 
   module _ (h : e .key ≡ k → ⊥) where
-    get-other : get k (e ∷ es) ≡ get k es
+    pub get-other : get k (e ∷ es) ≡ get k es
     unfolding get
     get-other = ap (λ b. getIf b (e .value) (get k es)) (ne-eqb (e .key) k h)
 
@@ -57,7 +57,7 @@ module _ {A : Type 0} (k : ℕ) (e : Entry A) (es : List (Entry A)) where
 
 module _ {A : Type 0} (P : ℕ → A → Type 0) (k : ℕ) where
   -- every key is above k
-  get-past : (low : ℕ) (es : List (Entry A)) → k < low → Rising P low es → get k es ≡ none
+  pub get-past : (low : ℕ) (es : List (Entry A)) → k < low → Rising P low es → get k es ≡ none
   unfolding get
   get-past low [] h s = refl
   get-past low (e ∷ es) h s = get-other k e es (omega (arith, s .0)) ∙ get-past (suc (e .key)) es (omega (arith, s .0)) (s .2)

@@ -1,15 +1,15 @@
 -- A state's registers merged by its runs are what the definition merges: column by column, for a good state. Assumes nothing.
 use mathlib.Core.Path.{_≡_, refl, sym, ap, ap₂, subst, _∙_}
-use mathlib.Core.Option.{Option, none, some}
+use mathlib.Core.Option.{Option, none}
 use mathlib.Core.List.{List, [], _∷_, _++_}
-use Prim.Native.Nat.{ℕ, zero, suc, _+_, _-_, _<_, _≤_, max}
+use Prim.Native.Nat.{ℕ, zero, suc, _+_, _<_, _≤_, max}
 use native.Mathlib.Omega.{arith}
 use lib.Dec.{ltb, eqb}
 use lib.IntN.{pos}
 use lib.ListN.{length, getD, length-map, List·getD-eq-default, List·getD-map}
-use borrow.Author.Tests.{le-leb, ltb-true, ltb-false, eqb-true, eqb-false, eq-eqb, ne-eqb}
+use borrow.Author.Tests.{le-leb, ltb-true, ltb-false, eqb-true, eqb-false}
 use Rattle.model.specs.Walk.{Tried, refused, done}
-use Rattle.model.specs.IntMap.{Entry, getIf, get, Rising}
+use Rattle.model.specs.IntMap.{Entry, get, Rising}
 use Rattle.model.specs.State.{ColumnType, RegDataType, MemoryState, default}
 use Rattle.model.specs.Access.{_>>=_, indexIf, index, readRegister, registerColumn, readColumns}
 use Rattle.model.specs.Results.{ResultColumn, resultColumn, resultColumns, merge}
@@ -24,6 +24,7 @@ use Rattle.intmap.specs.declared.Found.{Found}
 use Rattle.intmap.specs.declared.IntMap.{IntMap}
 use Rattle.intmap.proofs.SwapLaws.{From}
 use Rattle.encoding.specs.Encode.{runRegister, runMap, runsOf}
+use Rattle.encoding.proofs.MapRuns.{get-first, get-other, get-past}
 use Rattle.encoding.proofs.Packing.{register-key}
 use Rattle.encoding.proofs.StateRuns.{cursors-from}
 use Rattle.encoding.proofs.Accesses.{apart}
@@ -62,19 +63,6 @@ row-read (suc n) i m row h e = go (readColumns n (pos (suc i)) m) refl (sym (row
 
 abbrev registerByte : Option RegDataType → ℕ
 registerByte o = columnByte (resultColumn (registerColumn o))
-
-get-past : (P : ℕ → RegDataType → Type 0) (k low : ℕ) (es : List (Entry RegDataType)) → k < low → Rising P low es → get k es ≡ none
-unfolding get
-get-past P k low [] h s = refl
-get-past P k low (e ∷ es) h s = ap (λ b. getIf b (e .value) (get k es)) (ne-eqb (e .key) k (omega (arith, s .0))) ∙ get-past P k (suc (e .key)) es (omega (arith, s .0)) (s .2)
-
-get-other : (k : ℕ) (e : Entry RegDataType) (es : List (Entry RegDataType)) → (e .key ≡ k → ⊥) → get k (e ∷ es) ≡ get k es
-unfolding get
-get-other k e es h = ap (λ b. getIf b (e .value) (get k es)) (ne-eqb (e .key) k h)
-
-get-first : (k : ℕ) (e : Entry RegDataType) (es : List (Entry RegDataType)) → e .key ≡ k → get k (e ∷ es) ≡ some (e .value)
-unfolding get
-get-first k e es h = ap (λ b. getIf b (e .value) (get k es)) (eq-eqb (e .key) k h)
 
 -- an absent register says nothing
 absent-byte : (o : Option RegDataType) (x : ℕ) → o ≡ none → mergeByte (registerByte o) x ≡ x
