@@ -191,7 +191,9 @@ module _ (limit : ℕ) (cs : List Cell) (a : IntMap) (i : ℕ) (current : Curren
                   (let w = subst (λ z. Tells limit bound ds z (storeRegister limit (intOf j) (found-value p e bound m h .value) m)) r (told bound m h) in
                   record { state = w .state; same = moved-as bound m h ∙ ap (λ t. t >>= storeRegister limit (intOf i) (Column null)) (w .answer); holds = w .holds });
               base = stays .base;
-              current = record { room = stays .room; scratch = omega (arith, stays .base, stores .frame .long, current .scratch) };
+              current =
+                  (let w = subst (λ z. Tells limit (current .bound) ds z (storeRegister limit (intOf j) (found-value p e (current .bound) (current .state) (current .holds) .value) (current .state))) r (told (current .bound) (current .state) (current .holds)) in
+                  record { room = stays .room; scratch = omega (arith, stays .base, stores .frame .long, current .scratch); bound = current .bound; large = current .large; state = w .state; holds = w .holds });
               frame = stores .frame;
             }
 

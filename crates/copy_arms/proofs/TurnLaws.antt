@@ -18,7 +18,7 @@ use Rattle.intmap.specs.declared.IntMap.{IntMap}
 use Rattle.intmap.specs.declared.Stored.{Stored}
 use Rattle.intmap.specs.declared.Stored.the-variants as stored
 use Rattle.state.specs.Leads.{Current, Leads}
-use Rattle.state.proofs.LeadsLaws.{Reached, reached-first, reached-next, reached-as, reached-stop, reached-end, leads-then}
+use Rattle.state.proofs.LeadsLaws.{led-current, Reached, reached-first, reached-next, reached-as, reached-stop, reached-end, leads-then}
 use Rattle.state.proofs.StoreLeads.{leads-as}
 use Rattle.copy_arms.specs.Copies.{carryOne, carryMany}
 use Rattle.copy_arms.specs.Gaps.{Gap}
@@ -79,9 +79,6 @@ module _ (limit : ℕ) (moves : Bool) where
 no-turns : (limit : ℕ) (cs : List Cell) (a : IntMap) (moves : Bool) (i j : ℕ) → Current limit cs a → Leads limit cs cs a (stored.Done a) (carryMany limit moves 0 (intOf i) (intOf j))
 no-turns limit cs a moves i j current = reached-end (reached-first limit cs a (carryMany limit moves 0 (intOf i) (intOf j)) current) (carries-end limit moves 0 i j (omega arith))
 
-led-current : {limit : ℕ} {cs ds : List Cell} {a : IntMap} {f : MemoryState → Tried MemoryState} → Current limit cs a → Leads limit cs ds a (stored.Done a) f → Current limit ds a
-led-current current led = record { room = led .leaves .room; scratch = omega (arith, current .scratch, led .frame .long) }
-
 -- d of them are carried from cs to ds, and the next are to be looked for at p + d and q + d
 pub record Carrying (cs ds : List Cell) (a : IntMap) (moves : Bool) (p q k l d : ℕ) : Type 0 where
   pub map : IsMap ds a
@@ -111,7 +108,7 @@ carrying-on {cs} {ds} {es} {a} {moves} {p} {q} {k} {l} {d} c source target cell 
       leads = λ limit current.
           (let led = c .leads limit current in
           leads-as (stored.Done a) (carries-more limit moves d (offset + k) (offset + l) (offset + (k + d)) (offset + (l + d)) (omega arith) (omega arith))
-          (leads-then limit cs ds a (carryMany limit moves d (intOf (offset + k)) (intOf (offset + l))) (carryOne limit moves (intOf (offset + (k + d))) (intOf (offset + (l + d)))) current es a (stored.Done a) led (cell .leads limit (led-current current led))));
+          (leads-then limit cs ds a (carryMany limit moves d (intOf (offset + k)) (intOf (offset + l))) (carryOne limit moves (intOf (offset + (k + d))) (intOf (offset + (l + d)))) current es a (stored.Done a) led (cell .leads limit (led-current current a led))));
     }
 
 pub carrying-end : {cs ds : List Cell} {a : IntMap} {moves : Bool} {p q k l d : ℕ} (n : ℕ) → Carrying cs ds a moves p q k l d → d ≤ n → CarriesRun cs ds a moves (offset + k) (offset + l) n d

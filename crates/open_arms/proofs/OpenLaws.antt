@@ -49,8 +49,8 @@ use Rattle.rows.specs.Judged.{Judged}
 use Rattle.rows.specs.declared.Row.{Row}
 use Rattle.state.specs.Leads.{Current, Tells, Leaves, Leads}
 use Rattle.state.specs.Arms.{Standard, CursorArm}
-use Rattle.state.proofs.LeadsLaws.{Reached, frame-within, frame-then, reached-first, reached-next, reached-stop, reached-last}
-use Rattle.open_arms.specs.Tables.{OpensTable, emptyTable, PutsTable}
+use Rattle.state.proofs.LeadsLaws.{led-current, Reached, frame-within, frame-then, reached-first, reached-next, reached-stop, reached-last}
+use Rattle.open_arms.specs.Tables.{TableAt, IsTable, OpensTable, emptyTable, PutsTable}
 
 -- ---- a table from its run
 
@@ -66,17 +66,17 @@ module _ (limit : ℕ) (cs ds : List Cell) (a : IntMap) (row key from n : ℕ) (
   wide : Frame cs ds (a .base) (limit + limit)
   wide = frame-within cs ds (a .base) limit (a .base) (limit + limit) (omega arith) (omega arith) (ins .frame)
 
-  module _ (t : TableDataType) (k : ℕ) (deep : columnsDepth (t .cols) ≤ 8) (sorted : tableCells t ≤ limit → SortedColumns (t .cols) 0) (run : span cs from n ≡ runTable k t) where
-    answer : answerOf ds x ≡ storeAt limit (classKey 2 row) (columnsDepth (t .cols)) (runTable k t) (runsAt cs a)
+  module _ (t : TableDataType) (its : TableAt limit cs from n t) where
+    answer : answerOf ds x ≡ storeAt limit (classKey 2 row) (columnsDepth (t .cols)) (runTable (its .key) t) (runsAt cs a)
     answer =
         ins .answer
-        ∙ ap₂ (λ z r. judgeRuns limit (put (rekey z r) (runsAt cs a))) ke run
-        ∙ stored-at limit (classKey 2 row) (columnsDepth (t .cols)) (runTable k t) (runsAt cs a) deep
+        ∙ ap₂ (λ z r. judgeRuns limit (put (rekey z r) (runsAt cs a))) ke (its .run)
+        ∙ stored-at limit (classKey 2 row) (columnsDepth (t .cols)) (runTable (its .key) t) (runsAt cs a) (its .shallow)
 
     table-full : x ≡ insertion.Full → Leads limit cs ds a (stored.Refused 8) (storing t)
     table-full e =
         record {
-          says = λ bound m le h. held-table h row small k t sorted .refuses 8 (sym answer ∙ ap (answerOf ds) e);
+          says = λ bound m le h. held-table h row small (its .key) t (its .sorted) .refuses 8 (sym answer ∙ ap (answerOf ds) e);
           leaves = tt;
           frame = wide;
         }
@@ -85,7 +85,7 @@ module _ (limit : ℕ) (cs ds : List Cell) (a : IntMap) (row key from n : ℕ) (
     table-done b e =
         let next = subst (λ y. Inserts cs ds limit a (rekey key (span cs from n)) y) e ins in
         record {
-          says = λ bound m le h. held-table h row small k t sorted .next ds (b .base) (b .len) (b .used) (runsAt ds b) (sym answer ∙ ap (answerOf ds) e) refl (next .leaves .room .used);
+          says = λ bound m le h. held-table h row small (its .key) t (its .sorted) .next ds (b .base) (b .len) (b .used) (runsAt ds b) (sym answer ∙ ap (answerOf ds) e) refl (next .leaves .room .used);
           leaves = record { base = next .leaves .base; room = next .leaves .room };
           frame = wide;
         }
@@ -105,9 +105,9 @@ module _ (limit : ℕ) (cs ds : List Cell) (a : IntMap) (row key from n : ℕ) (
     pub open-full : x ≡ insertion.Full → OpensTable limit cs ds a row i from n (stored.Refused 8)
     open-full e =
         record {
-          says = λ l p t k deep sorted run bound m le h.
+          says = λ l p t its bound m le h.
               subst (Tells limit bound ds (stored.Refused 8)) (opened l p t m)
-              (reached-stop (both t) ds (storing t) cursor (λ m. refl) _ (table-full t k deep sorted run e) 8 refl .says bound m le h);
+              (reached-stop (both t) ds (storing t) cursor (λ m. refl) _ (table-full t its e) 8 refl .says bound m le h);
           leaves = tt;
           frame = wide;
         }
@@ -116,15 +116,15 @@ module _ (limit : ℕ) (cs ds : List Cell) (a : IntMap) (row key from n : ℕ) (
       next : Inserts cs ds limit a (rekey key (span cs from n)) (insertion.Done b)
       next = subst (λ y. Inserts cs ds limit a (rekey key (span cs from n)) y) e ins
 
-      pub next-current : Current limit ds b
-      next-current = record { room = next .leaves .room; scratch = omega (arith, next .leaves .base, ins .frame .long, current .scratch) }
+      pub next-current : IsTable limit cs from n → Current limit ds b
+      next-current is = led-current current b (table-done (is .table) (is .stands) b e)
 
       pub open-done : (es : List Cell) (r : Stored) → Leads limit ds es b r (storeCursor limit (intOf i) (Normal row)) → OpensTable limit cs es a row i from n r
       open-done es r led =
           record {
-            says = λ l p t k deep sorted run bound m le h.
+            says = λ l p t its bound m le h.
                 subst (Tells limit bound es r) (opened l p t m)
-                (reached-last (reached-next (both t) ds (storing t) cursor (λ m. refl) _ (table-done t k deep sorted run b e) b refl) es r led .says bound m le h);
+                (reached-last (reached-next (both t) ds (storing t) cursor (λ m. refl) _ (table-done t its b e) b refl) es r led .says bound m le h);
             leaves = stays r (led .leaves);
             frame = frame-then cs ds es (a .base) (limit + limit) wide (subst (λ p. Frame ds es p (limit + limit)) (next .leaves .base) (led .frame));
           }
@@ -152,6 +152,10 @@ module _ (limit : ℕ) (cs es : List Cell) (a : IntMap) (n : ℕ) (current : Cur
             placed-room cs es a (a .base) (record { used = current .room .used; inside = omega (arith, current .room .room, current .room .most); small = current .room .small }) behind-same (f .long) limit
             (current .room .most) (omega (arith, f .long, current .room .room));
         scratch = omega (arith, f .long, current .scratch);
+        bound = current .bound;
+        large = current .large;
+        state = current .state;
+        holds = held-elsewhere limit (current .bound) cs (a .base) (a .len) (a .used) (current .state) (current .holds) es (a .base) behind-same;
       }
 
 -- ---- an empty table's run
@@ -245,13 +249,19 @@ module _ (limit : ℕ) (cs : List Cell) (a : IntMap) (row : ℕ) (x : Row) where
           let whole = table-whole (emptyTable n) 0 (omega (arith, empty-depth n)) es (a .base + limit) (ap (span es (a .base + limit)) long ∙ puts .run) in
           record { whole = sym (whole ∙ long); above = omega arith; fits = omega (arith, puts .frame .long, current .scratch) }
 
+      its-table : TableAt limit es (a .base + limit) (1 + n) (emptyTable n)
+      its-table = record { key = 0; shallow = omega (arith, empty-depth n); sorted = λ _. empty-sorted n (omega arith); run = puts .run }
+
+      pub put-table : IsTable limit es (a .base + limit) (1 + n)
+      put-table = record { table = emptyTable n; stands = its-table }
+
       pub arm-opened : (ds : List Cell) (r : Stored) → OpensTable limit es ds a row (x .p1) (a .base + limit) (1 + n) r → CursorArm limit cs ds a row x opOpenEphemeral r
       arm-opened ds r o =
           record {
             leads = λ meaning l s j. record {
               says = λ bound m le y.
                   subst (Tells limit bound ds r) (sym (arm-opens meaning l s j m))
-                  (o .says l (sym (j .p1)) (emptyTable n) 0 (omega (arith, empty-depth n)) (λ _. empty-sorted n (omega arith)) (puts .run) bound m le (held-elsewhere limit bound cs (a .base) (a .len) (a .used) m y es (a .base) (behind-same limit cs es a (1 + n) current (puts .frame))));
+                  (o .says l (sym (j .p1)) (emptyTable n) its-table bound m le (held-elsewhere limit bound cs (a .base) (a .len) (a .used) m y es (a .base) (behind-same limit cs es a (1 + n) current (puts .frame))));
               leaves = o .leaves;
               frame =
                   frame-then cs es ds (a .base) (limit + limit) (frame-within cs es (a .base + limit) (1 + n) (a .base) (limit + limit) (omega arith) (omega arith) (puts .frame))

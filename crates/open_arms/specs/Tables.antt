@@ -19,9 +19,20 @@ use Rattle.intmap.specs.declared.Stored.{Stored}
 use Rattle.encoding.specs.Encode.{runTable}
 use Rattle.state.specs.Leads.{HoldsMap, Tells, Leaves, operands}
 
--- of every table whose run of n cells stands at `from`, the answer is what the definition's `openTable` gives
+-- a table's run of n cells stands at `from`
+pub record TableAt (limit : ℕ) (cs : List Cell) (from n : ℕ) (t : TableDataType) : Type 0 where
+  pub key : ℕ
+  pub shallow : columnsDepth (t .cols) ≤ 8
+  pub sorted : tableCells t ≤ limit → SortedColumns (t .cols) 0
+  pub run : span cs from n ≡ runTable key t
+
+pub record IsTable (limit : ℕ) (cs : List Cell) (from n : ℕ) : Type 0 where
+  pub table : TableDataType
+  pub stands : TableAt limit cs from n table
+
+-- of the table there, the answer is what the definition's `openTable` gives
 pub record OpensTable (limit : ℕ) (cs ds : List Cell) (a : IntMap) (row i from n : ℕ) (r : Stored) : Type 0 where
-  pub says : (x : Listed) → x .p1 ≡ intOf i → (t : TableDataType) (key : ℕ) → columnsDepth (t .cols) ≤ 8 → (tableCells t ≤ limit → SortedColumns (t .cols) 0) → span cs from n ≡ runTable key t → (bound : ℕ) (m : MemoryState) → operands ≤ bound → HoldsMap limit bound cs a m → Tells limit bound ds r (openTable limit row x t m)
+  pub says : (x : Listed) → x .p1 ≡ intOf i → (t : TableDataType) → TableAt limit cs from n t → (bound : ℕ) (m : MemoryState) → operands ≤ bound → HoldsMap limit bound cs a m → Tells limit bound ds r (openTable limit row x t m)
   pub leaves : Leaves limit ds a r
   pub frame : Frame cs ds (a .base) (limit + limit)
 

@@ -7,7 +7,7 @@ ghost use Rattle.intmap.specs.Store.{RunAbove};
 ghost use Rattle.rows.specs.Rows.{Fits};
 ghost use Rattle.state.specs.Leads.{Current};
 ghost use Rattle.state.specs.Arms.{CursorArm};
-ghost use Rattle.open_arms.specs.Tables.{OpensTable, PutsTable};
+ghost use Rattle.open_arms.specs.Tables.{IsTable, OpensTable, PutsTable};
 use area::Cell;
 use intmap::Insertion;
 use intmap::IntMap;
@@ -25,7 +25,7 @@ pub fn open_table(
     n: usize,
     limit: usize,
 ) -> Stored
-    requires { ⌜ Current limit (cells (now area)) map × (row ≤ 65535) × RunAbove (cells (now area)) limit map from n ⌝ }
+    requires { ⌜ Current limit (cells (now area)) map × (row ≤ 65535) × RunAbove (cells (now area)) limit map from n × IsTable limit (cells (now area)) from n ⌝ }
     ensures { λ r. ⌜ OpensTable limit (cells (now (area .entry))) (cells (now (area .exit))) map row i from n r ⌝ }
 {
     let key = intmap::class_key(cursor_arms::TABLES, row);

@@ -43,7 +43,7 @@ use Rattle.rows.specs.declared.Row.{Row}
 use Rattle.state.specs.Leads.{Current, Tells}
 use Rattle.state.specs.Arms.{Standard}
 use Rattle.state.proofs.LeadsLaws.{frame-within, frame-then}
-use Rattle.open_arms.specs.Tables.{OpensTable}
+use Rattle.open_arms.specs.Tables.{TableAt, IsTable, OpensTable}
 use Rattle.open_arms.proofs.OpenLaws.{open-large, frame-set, behind-same, behind-current}
 use Rattle.root_block.specs.Blocks.{HasBlocks, IsBlocks}
 use Rattle.read_arm.specs.Gathers.{atPage, atDatabase, Gathered, Gathers, ReadsTable}
@@ -158,13 +158,19 @@ module _ (limit : ℕ) (cs : List Cell) (a : IntMap) (t : List ℕ) (x : Row) wh
             let whole = table-whole its 0 (database-flat t x (w .records)) es (a .base + limit) (ap (span es (a .base + limit)) long ∙ its-run) in
             record { whole = sym (whole ∙ long); above = omega arith; fits = omega (arith, written .long, current .scratch, got .room .most) }
 
+        its-table : (records : List CatalogueRecord) → HasBlocks t records → TableAt limit es (a .base + limit) (1 + m .used) (table (atDatabase x records))
+        its-table records b = record { key = 0; shallow = database-flat t x records; sorted = λ _. database-sorted t x records b; run = run records b }
+
+        pub read-table : IsBlocks t → IsTable limit es (a .base + limit) (1 + m .used)
+        read-table w = record { table = table (atDatabase x (w .records)); stands = its-table (w .records) (w .has) }
+
         pub arm-opened : (row : ℕ) (fs : List Cell) (r : Stored) → OpensTable limit es fs a row (x .p1) (a .base + limit) (1 + m .used) r → ReadsTable limit cs fs a t row x r
         arm-opened row fs r o =
             record {
               leads = λ meaning records l s read columns j. record {
                 says = λ bound n le held.
                     subst (Tells limit bound fs r) (sym (arm-is limit x row meaning records l s columns j n))
-                    (o .says l (sym (j .p1)) (table (atDatabase x records)) 0 (database-flat t x records) (λ _. database-sorted t x records read) (run records read) bound n le
+                    (o .says l (sym (j .p1)) (table (atDatabase x records)) (its-table records read) bound n le
                     (held-elsewhere limit bound cs (a .base) (a .len) (a .used) n held es (a .base) (behind-same limit cs es a limit current written)));
                 leaves = o .leaves;
                 frame = frame-then cs es fs (a .base) (limit + limit) (frame-within cs es (a .base + limit) limit (a .base) (limit + limit) (omega arith) (omega arith) written) (o .frame);

@@ -23,6 +23,7 @@ use Rattle.rows.specs.Judged.{Judged}
 use Rattle.rows.specs.declared.Row.{Row}
 use Rattle.state.specs.Leads.{Current, Leads, HoldsMap, operands}
 use Rattle.state.specs.Arms.{Standard}
+use Rattle.state.proofs.LeadsLaws.{led-current}
 
 -- the state that is held now leads where the first did
 pub record Comes (limit bound : ℕ) (ds : List Cell) (b : IntMap) (from n i left : ℕ) (m : MemoryState) : Type 0 where
@@ -93,7 +94,7 @@ module _ (limit : ℕ) (cs ds : List Cell) (a b : IntMap) (from n i left : ℕ) 
     null-again d e =
         let told = subst (λ x. Leads limit ds es b x (storeRegister limit (intOf i) (Column null))) e step in
         record {
-          current = record { room = told .leaves .room; scratch = omega (arith, told .leaves .base, told .frame .long, rest .current .scratch) };
+          current = led-current (rest .current) d told;
           base = told .leaves .base ∙ rest .base;
           frame = join cs ds es (a .base) (b .base) (limit + limit) (rest .base) (rest .frame) (told .frame);
           total = omega (arith, rest .total);

@@ -13,7 +13,7 @@ use Rattle.intmap.specs.declared.IntMap.{IntMap}
 use Rattle.intmap.specs.declared.Stored.{Stored}
 use Rattle.intmap.specs.declared.Stored.the-variants as stored
 use Rattle.intmap.proofs.StoreLaws.{room-map, frame-same}
-use Rattle.state.specs.Leads.{Current, HoldsMap, Tells, Leaves, operands, Leads}
+use Rattle.state.specs.Leads.{Held, Current, HoldsMap, Tells, Leaves, operands, Leads}
 
 -- ---- frames
 
@@ -23,6 +23,24 @@ frame-within cs ds inner few base n low high f = record { long = f .long; below 
 pub frame-then : (cs ds es : List Cell) (base n : ℕ) → Frame cs ds base n → Frame ds es base n → Frame cs es base n
 frame-then cs ds es base n f g =
     record { long = g .long ∙ f .long; below = λ j lt. g .below j lt ∙ f .below j lt; above = λ j le. g .above j le ∙ f .above j le }
+
+-- ---- what is held then
+
+-- the state that an access leaves is held
+pub led-current : {limit : ℕ} {cs ds : List Cell} {a : IntMap} {f : MemoryState → Tried MemoryState} → Current limit cs a → (b : IntMap) → Leads limit cs ds a (stored.Done b) f → Current limit ds b
+led-current {limit} {cs} {ds} {a} current b led =
+    let next = led .says (current .bound) (current .state) (current .large) (current .holds) in
+    record {
+      room = led .leaves .room;
+      scratch = omega (arith, led .leaves .base, led .frame .long, current .scratch);
+      bound = current .bound;
+      large = current .large;
+      state = next .state;
+      holds = next .holds;
+    }
+
+pub current-held : {limit : ℕ} {cs : List Cell} {a : IntMap} → Current limit cs a → Held cs a
+current-held {limit} current = record { map = room-map (current .room); limit = limit; bound = current .bound; large = current .large; state = current .state; holds = current .holds }
 
 -- ---- where a loop is
 
@@ -72,7 +90,7 @@ module _ {limit : ℕ} {cs ds : List Cell} {a b : IntMap} {whole rest : MemorySt
               let v = l .says bound (w .state) le (w .holds) in
               record { state = v .state; same = w .same ∙ opens (w .state) ∙ ap (λ t. t >>= g) (v .answer); holds = v .holds });
           base = l .leaves .base ∙ r .base;
-          current = record { room = l .leaves .room; scratch = omega (arith, l .leaves .base, l .frame .long, r .current .scratch) };
+          current = led-current (r .current) c l;
           frame = framed es (l .frame);
         }
 

@@ -7,18 +7,36 @@ use lib.ListN.{length}
 use Rattle.model.specs.Walk.{Tried, refused}
 use Rattle.model.specs.State.{MemoryState}
 use Rattle.area.specs.declared.Cell.{Cell}
-use Rattle.intmap.specs.Map.{HasRoom, Frame}
+use Rattle.intmap.specs.Map.{IsMap, HasRoom, Frame}
 use Rattle.intmap.specs.declared.IntMap.{IntMap}
 use Rattle.intmap.specs.declared.Stored.{Stored}
 use Rattle.intmap.specs.declared.Stored.the-variants as stored
 use Rattle.encoding.specs.Holds.{Holds, HeldNext}
 
+abbrev pub HoldsMap : ℕ → ℕ → List Cell → IntMap → MemoryState → Type 0
+HoldsMap limit bound cs a m = Holds limit bound cs (a .base) (a .len) (a .used) m
+
+-- known numbers are at most `bound`, and operands are
+abbrev pub operands : ℕ
+operands = 2147483648
+
+-- what is asked of whoever reads a state: some state is held
+pub record Held (cs : List Cell) (a : IntMap) : Type 0 where
+  pub map : IsMap cs a
+  pub limit : ℕ
+  pub bound : ℕ
+  pub large : operands ≤ bound
+  pub state : MemoryState
+  pub holds : HoldsMap limit bound cs a state
+
+-- and of whoever changes it: within this limit, with the room
 pub record Current (limit : ℕ) (cs : List Cell) (a : IntMap) : Type 0 where
   pub room : HasRoom cs limit a
   pub scratch : a .base + limit + limit ≤ length cs
-
-abbrev pub HoldsMap : ℕ → ℕ → List Cell → IntMap → MemoryState → Type 0
-HoldsMap limit bound cs a m = Holds limit bound cs (a .base) (a .len) (a .used) m
+  pub bound : ℕ
+  pub large : operands ≤ bound
+  pub state : MemoryState
+  pub holds : HoldsMap limit bound cs a state
 
 -- the answer is the definition's answer t
 abbrev pub Tells : ℕ → ℕ → List Cell → Stored → Tried MemoryState → Type 0
@@ -33,10 +51,6 @@ pub record Stays (limit : ℕ) (ds : List Cell) (a b : IntMap) : Type 0 where
 abbrev pub Leaves : ℕ → List Cell → IntMap → Stored → Type 0
 Leaves limit ds a (stored.Refused n) = Unit {0}
 Leaves limit ds a (stored.Done b) = Stays limit ds a b
-
--- known numbers are at most `bound`, and operands are
-abbrev pub operands : ℕ
-operands = 2147483648
 
 -- of every state that the map holds, the answer is what f gives; nothing else in the area changes but the room and the one behind it
 pub record Leads (limit : ℕ) (cs ds : List Cell) (a : IntMap) (r : Stored) (f : MemoryState → Tried MemoryState) : Type 0 where

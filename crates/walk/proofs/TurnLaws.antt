@@ -214,7 +214,14 @@ module _ {p : Program} {g : Given} {blocks xs cols : List ℕ} {w : Walk} {s : M
     pub is-ready : (x : Row) → x ≡ rowIn (getD (cells ys) (rowsFrom p + k) blank) → Ready (p .limit) (cells ys) s x
     is-ready x e =
         record {
-          current = record { room = raised-room; scratch = omega (arith, r .current .base, fits-inside raised-list) };
+          current = record {
+            room = raised-room;
+            scratch = omega (arith, r .current .base, fits-inside raised-list);
+            bound = boundOf w;
+            large = omega arith;
+            state = r .lineage .mem;
+            holds = raised-state .map;
+          };
           fits = judged x e .fits;
           above = omega (arith, r .at);
           below = omega (arith, r .at, r .within, r .walk .list .few);

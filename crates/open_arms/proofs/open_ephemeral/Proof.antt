@@ -1,6 +1,6 @@
 -- `open_arms::open_ephemeral` judges the count and the cells, and opens the table that it wrote. Assumes nothing.
 use mathlib.Core.Path.{refl}
-use Rattle.open_arms.proofs.OpenLaws.{arm-negative, arm-many, put-current, put-above, arm-opened}
+use Rattle.open_arms.proofs.OpenLaws.{arm-negative, arm-many, put-current, put-above, put-table, arm-opened}
 use borrow.Author.Needs.{needs}
 use Rattle.open_arms.proofs.open_ephemeral.Statement.{statement}
 use Rattle.open_arms.proofs.open_ephemeral.Tie as tie
@@ -21,7 +21,7 @@ add-open-table : tie.Need-add-open-table
 add-open-table c = search needs
 
 open-table-requires : tie.Need-open-table-requires
-open-table-requires c κs = (put-current _ _ _ 0 (c .before .before .before .before .before .before .before .before .before .before .before .args .x) (c .before .before .before .before .before .before .before .before .if1 .left) _ refl _ (c .before .before .before .put-table .ensures) (c .before .before .before .before .before .before .before .before .before .before .before .pre .0) (c .before .before .before .before .before .before .if2 .left) (c .before .before .before .before .before .before .before .before .before .before .before .pre .2), c .before .before .before .before .before .before .before .before .before .before .before .pre .1, put-above _ _ _ 0 (c .before .before .before .before .before .before .before .before .before .before .before .args .x) (c .before .before .before .before .before .before .before .before .if1 .left) _ refl _ (c .before .before .before .put-table .ensures) (c .before .before .before .before .before .before .before .before .before .before .before .pre .0) (c .before .before .before .before .before .before .if2 .left) (c .before .before .before .before .before .before .before .before .before .before .before .pre .2))
+open-table-requires c κs = (put-current _ _ _ 0 (c .before .before .before .before .before .before .before .before .before .before .before .args .x) (c .before .before .before .before .before .before .before .before .if1 .left) _ refl _ (c .before .before .before .put-table .ensures) (c .before .before .before .before .before .before .before .before .before .before .before .pre .0) (c .before .before .before .before .before .before .if2 .left) (c .before .before .before .before .before .before .before .before .before .before .before .pre .2), c .before .before .before .before .before .before .before .before .before .before .before .pre .1, put-above _ _ _ 0 (c .before .before .before .before .before .before .before .before .before .before .before .args .x) (c .before .before .before .before .before .before .before .before .if1 .left) _ refl _ (c .before .before .before .put-table .ensures) (c .before .before .before .before .before .before .before .before .before .before .before .pre .0) (c .before .before .before .before .before .before .if2 .left) (c .before .before .before .before .before .before .before .before .before .before .before .pre .2), put-table _ _ _ 0 (c .before .before .before .before .before .before .before .before .before .before .before .args .x) (c .before .before .before .before .before .before .before .before .if1 .left) _ refl _ (c .before .before .before .put-table .ensures) (c .before .before .before .before .before .before .before .before .before .before .before .pre .0) (c .before .before .before .before .before .before .if2 .left) (c .before .before .before .before .before .before .before .before .before .before .before .pre .2))
 
 same-length : tie.Need-same-length
 same-length c = search needs

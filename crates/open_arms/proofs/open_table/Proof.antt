@@ -17,7 +17,7 @@ enum-known-x : tie.Need-enum-known-x
 enum-known-x c = search needs
 
 store-normal-requires : tie.Need-store-normal-requires
-store-normal-requires c κs = (next-current _ _ _ _ _ _ _ _ (c .before .before .before .before .before .before .before .before .before .before .pre .1) (c .before .before .before .before .before .before .before .before .class-key .ensures) _ (c .before .before .before .before .before .before .insert-run .ensures) (c .before .before .before .before .before .before .before .before .before .before .pre .0) 0 _ (c .before .before .x .given .1), c .before .before .before .before .before .before .before .before .before .before .pre .1)
+store-normal-requires c κs = (next-current _ _ _ _ _ _ _ _ (c .before .before .before .before .before .before .before .before .before .before .pre .1) (c .before .before .before .before .before .before .before .before .class-key .ensures) _ (c .before .before .before .before .before .before .insert-run .ensures) (c .before .before .before .before .before .before .before .before .before .before .pre .0) 0 _ (c .before .before .x .given .1) (c .before .before .before .before .before .before .before .before .before .before .pre .3), c .before .before .before .before .before .before .before .before .before .before .pre .1)
 
 same-length : tie.Need-same-length
 same-length c = search needs

@@ -1,6 +1,6 @@
 -- `read_arm::open_read` gathers the columns behind the place of the table's head, writes the head, and opens the table. Assumes nothing.
 use native.Mathlib.Omega.{arith}
-use Rattle.read_arm.proofs.TableLaws.{arm-none, arm-full, read-few, read-current, read-above, arm-opened}
+use Rattle.read_arm.proofs.TableLaws.{arm-none, arm-full, read-few, read-current, read-above, read-table, arm-opened}
 use borrow.Author.Needs.{needs}
 use Rattle.read_arm.proofs.open_read.Statement.{statement}
 use Rattle.read_arm.proofs.open_read.Tie as tie
@@ -36,7 +36,7 @@ add-open-table : tie.Need-add-open-table
 add-open-table c = omega (arith, read-few (c .before .before .before .before .before .before .before .before .before .before .before .before .before .before .before .before .before .before .args .limit) _ (c .before .before .before .before .before .before .before .before .before .before .before .before .before .before .before .before .before .before .args .map) _ (c .before .before .before .before .before .before .before .before .before .before .before .before .before .before .before .before .before .before .args .x) (c .before .before .before .before .before .before .before .before .before .before .before .before .before .before .before .if1 .left) _ _ (c .before .before .before .before .before .before .before .before .before .before .before .before .opened-columns .ensures) _ (c .before .before .before .before .before .before .before .before .y .given .1), c .before .before .before .before .before .before .before .before .before .before .before .before .before .before .before .before .before .before .pre .2)
 
 open-table-requires : tie.Need-open-table-requires
-open-table-requires c κs = (read-current _ _ (c .before .before .before .before .before .before .before .before .before .before .before .before .before .before .before .before .before .before .args .map) _ (c .before .before .before .before .before .before .before .before .before .before .before .before .before .before .before .before .before .before .args .x) (c .before .before .before .before .before .before .before .before .before .before .before .before .before .before .before .if1 .left) _ _ (c .before .before .before .before .before .before .before .before .before .before .before .before .opened-columns .ensures) _ (c .before .before .before .before .before .before .before .before .y .given .1) _ (c .before .before .before .before .before .before .pack .ensures) _ (c .before .before .before .before .put-cell .ensures .cells) (c .before .before .before .before .before .before .before .before .before .before .before .before .before .before .before .before .before .before .pre .0), c .before .before .before .before .before .before .before .before .before .before .before .before .before .before .before .before .before .before .pre .1, read-above _ _ (c .before .before .before .before .before .before .before .before .before .before .before .before .before .before .before .before .before .before .args .map) _ (c .before .before .before .before .before .before .before .before .before .before .before .before .before .before .before .before .before .before .args .x) (c .before .before .before .before .before .before .before .before .before .before .before .before .before .before .before .if1 .left) _ _ (c .before .before .before .before .before .before .before .before .before .before .before .before .opened-columns .ensures) _ (c .before .before .before .before .before .before .before .before .y .given .1) _ (c .before .before .before .before .before .before .pack .ensures) _ (c .before .before .before .before .put-cell .ensures .cells) (c .before .before .before .before .before .before .before .before .before .before .before .before .before .before .before .before .before .before .pre .0) (c .before .before .before .before .before .before .before .before .before .before .before .before .before .before .before .before .before .before .pre .4))
+open-table-requires c κs = (read-current _ _ (c .before .before .before .before .before .before .before .before .before .before .before .before .before .before .before .before .before .before .args .map) _ (c .before .before .before .before .before .before .before .before .before .before .before .before .before .before .before .before .before .before .args .x) (c .before .before .before .before .before .before .before .before .before .before .before .before .before .before .before .if1 .left) _ _ (c .before .before .before .before .before .before .before .before .before .before .before .before .opened-columns .ensures) _ (c .before .before .before .before .before .before .before .before .y .given .1) _ (c .before .before .before .before .before .before .pack .ensures) _ (c .before .before .before .before .put-cell .ensures .cells) (c .before .before .before .before .before .before .before .before .before .before .before .before .before .before .before .before .before .before .pre .0), c .before .before .before .before .before .before .before .before .before .before .before .before .before .before .before .before .before .before .pre .1, read-above _ _ (c .before .before .before .before .before .before .before .before .before .before .before .before .before .before .before .before .before .before .args .map) _ (c .before .before .before .before .before .before .before .before .before .before .before .before .before .before .before .before .before .before .args .x) (c .before .before .before .before .before .before .before .before .before .before .before .before .before .before .before .if1 .left) _ _ (c .before .before .before .before .before .before .before .before .before .before .before .before .opened-columns .ensures) _ (c .before .before .before .before .before .before .before .before .y .given .1) _ (c .before .before .before .before .before .before .pack .ensures) _ (c .before .before .before .before .put-cell .ensures .cells) (c .before .before .before .before .before .before .before .before .before .before .before .before .before .before .before .before .before .before .pre .0) (c .before .before .before .before .before .before .before .before .before .before .before .before .before .before .before .before .before .before .pre .4), read-table _ _ (c .before .before .before .before .before .before .before .before .before .before .before .before .before .before .before .before .before .before .args .map) _ (c .before .before .before .before .before .before .before .before .before .before .before .before .before .before .before .before .before .before .args .x) (c .before .before .before .before .before .before .before .before .before .before .before .before .before .before .before .if1 .left) _ _ (c .before .before .before .before .before .before .before .before .before .before .before .before .opened-columns .ensures) _ (c .before .before .before .before .before .before .before .before .y .given .1) _ (c .before .before .before .before .before .before .pack .ensures) _ (c .before .before .before .before .put-cell .ensures .cells) (c .before .before .before .before .before .before .before .before .before .before .before .before .before .before .before .before .before .before .pre .0) (c .before .before .before .before .before .before .before .before .before .before .before .before .before .before .before .before .before .before .pre .4))
 
 same-length : tie.Need-same-length
 same-length c = search needs
