@@ -22,10 +22,11 @@ use intmap::Slot;
 use intmap::Stored;
 use type_info::DataType;
 
-// A state: the next row, where 2^63 stands for row 0, and the map of its registers, cursors and tables.
+// A state: the map of its registers, cursors and tables, and the next row, where 2^63 stands for row 0. The map first: the machine reads it
+// back as it was written.
 pub struct MemoryState {
-    pub row: u64,
     pub map: IntMap,
+    pub row: u64,
 }
 
 // A way that a row offers.

@@ -21,7 +21,7 @@ use Rattle.branches.proofs.BlockLaws.{blocks-span}
 use Rattle.state.specs.declared.MemoryState.{MemoryState}
 use Rattle.walk.specs.Walks.{Given, HoldsWalk, HoldsRow, theFollowing, theTurn, theRun, HoldsNone, Few, Moved}
 use Rattle.explain.specs.Handles.{meaningOf}
-use Rattle.walk.specs.Loop.{Walking, Standing, Turns, ClosesCurrent, Running, Runs}
+use Rattle.walk.specs.Loop.{Walking, chargeOne, Standing, Turns, ClosesCurrent, Running, Runs}
 use Rattle.walk.specs.declared.Program.{Program}
 use Rattle.walk.specs.declared.Walk.{Walk}
 use Rattle.walk.specs.declared.Front.{Front}
@@ -237,3 +237,15 @@ module _ {p : Program} {blocks xs ys cols dols : List ℕ} {w v : Walk} {s m : M
 
           less-gas : (g : Given) {f d : Fronted Defined ResultRow} (b : HoldsRow p g blocks ys dols v m f) (c : HoldsRow p g blocks zs eols u n d) → c .notes .charged ≡ b .notes .charged + 1 → v .gas - 1 ≡ u .gas
           less-gas g b c e = omega (arith, b .walk .all, c .walk .all, b .walk .counts .charged, c .walk .counts .charged, e)
+
+  -- the state goes on, and the walk is charged
+  pub runs-stays : 0 < left → 0 < v .gas → (zs eols : List ℕ) (t : Turn) → Turns p blocks ys zs dols eols v m t → (n : MemoryState) → t ≡ turned.Stays n → (u : Walk) → u ≡ chargeOne v → RunsTo p blocks xs zs cols eols w s budget u n (left - 1)
+  runs-stays some-left gas zs eols t turns n e u f =
+      subst (λ y. RunsTo p blocks xs zs cols eols w s budget y n (left - 1)) (sym f)
+      (runs-next some-left gas zs eols (turned.Goes (front.OnRow (chargeOne v) n)) as-goes (front.OnRow (chargeOne v) n) refl (chargeOne v) n refl)
+    where
+      as-stays : Turns p blocks ys zs dols eols v m (turned.Stays n)
+      as-stays = subst (Turns p blocks ys zs dols eols v m) e turns
+
+      as-goes : Turns p blocks ys zs dols eols v m (turned.Goes (front.OnRow (chargeOne v) n))
+      as-goes = record { says = λ g f h. as-stays .says g f h; bytes = as-stays .bytes; columns = as-stays .columns }

@@ -9,7 +9,7 @@ use native.Mathlib.Omega.{arith}
 use lib.Dec.{ltb, eqb}
 use lib.ListN.{length, getD, getElem?}
 use borrow.Author.Tests.{lt-ltb, le-ltb, eqb-true, eq-eqb}
-use Rattle.model.specs.Walk.{count, times, oneIf, Lineage, Notes, addRow, charge, loopStop, noteHandled, Front as Fronted, onRow, takeUp, goes, handledBefore, handleIf, turn}
+use Rattle.model.specs.Walk.{count, times, oneIf, Lineage, Notes, addRow, charge, loopStop, noteHandled, Front as Fronted, onRow, takeUp, Turn as Turned, goes, handledBefore, handleIf, turn}
 use Rattle.model.specs.Row.{Row as Listed}
 use Rattle.model.specs.State.{MemoryState as Defined}
 use Rattle.model.specs.Results.{ResultRow}
@@ -38,19 +38,23 @@ use Rattle.branches.specs.Entries.{Counted}
 use Rattle.branches.specs.Lists.{Offers as Below-them}
 use Rattle.branches.proofs.RememberLaws.{Bytes, counted-kept}
 use Rattle.branches.proofs.BlockLaws.{blocks-low}
-use Rattle.walk.specs.Walks.{rowsFrom, countsFrom, firstFrom, Given, boundOf, HoldsList, Counts, HoldsWalk, HoldsRow, TellsTurn, theFollowing, theTurn}
+use Rattle.walk.specs.Walks.{rowsFrom, countsFrom, firstFrom, Given, boundOf, HoldsList, Counts, HoldsWalk, HoldsRow, inListing, TellsTurn, theFollowing, theTurn}
 use Rattle.root_block.specs.Blocks.{IsBlocks}
 use Rattle.explain.specs.Numbers.{IsRow}
 use Rattle.explain.specs.Handles.{meaningOf, TellsHandling, LeavesHandling, Handles}
-use Rattle.walk.specs.Loop.{Walking, Turning, MayOffer, MayFollow, StaysHere, Follows, TakesUp, chargeOne, stopLoop, Standing, Turns}
+use Rattle.walk.specs.Loop.{Walking, noteRepeated, alone, aloneBy, settled, Turning, MayOffer, MayFollow, StaysHere, Follows, TakesUp, chargeOne, stopLoop, Standing, Turns}
 use Rattle.explain.specs.declared.Handling.{Handling}
 use Rattle.explain.specs.declared.Handling.the-variants as handling
 use Rattle.walk.specs.declared.Program.{Program}
 use Rattle.walk.specs.declared.Walk.{Walk}
 use Rattle.walk.specs.declared.Front.{Front}
+use Rattle.walk.specs.declared.Front.the-variants as front
 use Rattle.walk.specs.declared.Turn.{Turn}
 use Rattle.walk.specs.declared.Turn.the-variants as turned
 use Rattle.walk.proofs.ListLaws.{Element, element-within, list-as, list-kept}
+use Rattle.walk.proofs.UpLaws.{goes-row}
+use Rattle.walk.proofs.FollowLaws.{ways-nowhere}
+use Rattle.walk.proofs.AllLaws.{all-ways}
 
 -- ---- the definition
 
@@ -326,6 +330,31 @@ module _ {p : Program} {g : Given} {blocks xs cols : List ℕ} {w : Walk} {s : M
 
 -- ---- the turn
 
+-- what follows is where the walk stands then
+settled-told : (p : Program) (g : Given) (blocks xs cols : List ℕ) (w : Walk) (t : Turn) (d : Turned Defined ResultRow) → TellsTurn p g blocks xs cols t d → TellsTurn p g blocks xs cols (settled w t) d
+settled-told p g blocks xs cols w (turned.Over k) d h = h
+settled-told p g blocks xs cols w (turned.Stays n) d h = absurd h
+settled-told p g blocks xs cols w (turned.Goes r) d h = h
+
+-- a state that goes on alone
+abbrev Off : Way → Type 0
+Off way.Nowhere = Unit {0}
+Off (way.To n) = ⊥
+
+no-way : (n : MemoryState) → way.Nowhere ≡ way.To n → ⊥
+no-way n e = subst Off e tt
+
+alone-ways : (h : Handling) (n : MemoryState) → alone h ≡ way.To n → h ≡ handling.Ways way.Nowhere (way.To n) false
+alone-ways (handling.Refused k) n e = absurd (no-way n e)
+alone-ways (handling.Ways b s q) n e = by b q e
+  where
+    by : (b : Way) (q : Bool) → aloneBy b q s ≡ way.To n → handling.Ways b s q ≡ handling.Ways way.Nowhere (way.To n) false
+    by way.Nowhere false e = ap (λ z. handling.Ways way.Nowhere z false) e
+    by way.Nowhere true e = absurd (no-way n e)
+    by (way.To b) q e = absurd (no-way n e)
+alone-ways (handling.Three a b c s) n e = absurd (no-way n e)
+alone-ways (handling.Result b first k) n e = absurd (no-way n e)
+
 module _ {p : Program} {blocks xs cols : List ℕ} {w : Walk} {s : MemoryState} (st : Standing p blocks xs cols w s) where
   pub may-charge : w .counts .charged < 4294967295
   may-charge = omega (arith, st .gas, st .holds .walk .counts .gas-few)
@@ -368,7 +397,26 @@ module _ {p : Program} {blocks xs cols : List ℕ} {w : Walk} {s : MemoryState} 
       pub turns-handled : (ts dols : List ℕ) (t : Turn) → handled < 3 → Follows p zs ts cols dols v h t → Turns p blocks xs ts cols dols w s t
       turns-handled ts dols t few follows =
           record {
-            says = λ g fd r. turn-told r ys small less raised zs low long x read h (ltb 0 handled) (ap (ltb 0) is) (st .gas) handles ts dols t (omega (arith, few, is, handled-is r)) (subst (λ y. Follows p zs ts cols dols y h t) e follows);
+            says = λ g fd r. settled-told p g blocks ts dols w t (theTurn p g fd) (turn-told r ys small less raised zs low long x read h (ltb 0 handled) (ap (ltb 0) is) (st .gas) handles ts dols t (omega (arith, few, is, handled-is r)) (subst (λ y. Follows p zs ts cols dols y h t) e follows));
             bytes = follows .bytes ∙ long ∙ raised .bytes;
             columns = follows .columns;
           }
+
+      -- the state that goes on alone is on a row
+      pub turns-stays : (n : MemoryState) (on : Way) → on ≡ alone h → on ≡ way.To n → inListing (n .row) p ≡ true → handled < 3 → Turns p blocks xs zs cols cols w s (turned.Stays n)
+      turns-stays n on is-on to in-it few =
+          record { says = λ g fd r. goes .says g fd r; bytes = goes .bytes; columns = goes .columns }
+        where
+          u : Walk
+          u = noteRepeated (chargeOne w) false
+
+          its : h ≡ handling.Ways way.Nowhere (way.To n) false
+          its = alone-ways h n (sym is-on ∙ to)
+
+          goes : Turns p blocks xs zs cols cols w s (turned.Goes (front.OnRow u n))
+          goes =
+              turns-handled zs cols (turned.Goes (front.OnRow u n)) few
+              (subst (λ y. Follows p zs zs cols cols y h (turned.Goes (front.OnRow u n))) (sym e)
+              (all-ways p zs cols (chargeOne w) h way.Nowhere (way.To n) false its zs (turned.Goes (front.OnRow u n))
+              (ways-nowhere p zs zs (chargeOne w) u way.Nowhere (way.To n) false (front.OnRow u n) (subst (Turning p zs) e handled-turning .less) refl refl
+              (goes-row p zs u (way.To n) n refl in-it))))

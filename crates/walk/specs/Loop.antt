@@ -2,7 +2,7 @@
 -- that they hold one. Assumes nothing.
 use mathlib.Core.Path.{_≡_}
 use mathlib.Core.Option.{Option}
-use mathlib.Core.Bool.{Bool}
+use mathlib.Core.Bool.{Bool, true, false}
 use mathlib.Core.List.{List, [], _∷_, _++_}
 use Prim.Native.Nat.{ℕ, _+_, _-_, _<_, _≤_}
 use lib.IntN.{pos}
@@ -39,6 +39,7 @@ use Rattle.walk.specs.declared.Taken.the-variants as taken
 use Rattle.walk.specs.declared.Added.{Added}
 use Rattle.walk.specs.declared.Added.the-variants as added
 use Rattle.walk.specs.declared.Turn.{Turn}
+use Rattle.walk.specs.declared.Turn.the-variants as turned
 use Rattle.walk.specs.declared.Progress.{Progress}
 
 -- ---- what is asked
@@ -279,8 +280,26 @@ pub record Standing (p : Program) (blocks xs cols : List ℕ) (w : Walk) (s : Me
   pub width : length cols ≡ 2000
   pub gas : 0 < w .gas
 
+-- the state that goes on, if no branch is offered with it and no repeat is counted
+abbrev pub aloneBy : Way → Bool → Way → Way
+aloneBy way.Nowhere false s = s
+aloneBy way.Nowhere true s = way.Nowhere
+aloneBy (way.To b) repeat s = way.Nowhere
+
+abbrev pub alone : Handling → Way
+alone (handling.Refused k) = way.Nowhere
+alone (handling.Ways b s repeat) = aloneBy b repeat s
+alone (handling.Three a b c s) = way.Nowhere
+alone (handling.Result b first n) = way.Nowhere
+
+-- where a state goes on, the walk is as it was but for the charge
+abbrev pub settled : Walk → Turn → Turn
+settled w (turned.Over k) = turned.Over k
+settled w (turned.Stays s) = turned.Goes (front.OnRow (chargeOne w) s)
+settled w (turned.Goes f) = turned.Goes f
+
 pub record Turns (p : Program) (blocks xs ys cols dols : List ℕ) (w : Walk) (s : MemoryState) (r : Turn) : Type 0 where
-  pub says : (g : Given) (f : Fronted Defined ResultRow) → HoldsRow p g blocks xs cols w s f → TellsTurn p g blocks ys dols r (theTurn p g f)
+  pub says : (g : Given) (f : Fronted Defined ResultRow) → HoldsRow p g blocks xs cols w s f → TellsTurn p g blocks ys dols (settled w r) (theTurn p g f)
   pub bytes : length ys ≡ length xs
   pub columns : length dols ≡ length cols
 

@@ -133,6 +133,7 @@ pub record Moved (p : Program) (g : Given) (blocks xs cols : List ℕ) (r : Fron
 
 abbrev pub TellsTurn : Program → Given → List ℕ → List ℕ → List ℕ → Turn → Turned Defined ResultRow → Type 0
 TellsTurn p g blocks xs cols (turned.Over k) t = Stopped k t
+TellsTurn p g blocks xs cols (turned.Stays s) t = ⊥
 TellsTurn p g blocks xs cols (turned.Goes r) t = Moved p g blocks xs cols r t
 
 -- a run is paused, refused or answered

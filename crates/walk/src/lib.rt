@@ -2,7 +2,7 @@
 ghost use mathlib.Core.Path.{_≡_};
 ghost use Prim.Native.Nat.{_+_, _<_};
 ghost use Rattle.walk.specs.Walks.{inListing};
-ghost use Rattle.walk.specs.Loop.{Walking, withBranches, withCounts, Takes, TakesUp, GoesOn, Holding, Turning, Offering, AddsBranch, MayOffer, noteRepeated, FollowsWays, AddsThree, FollowsThree, withWidth, Resulting, FollowsResult, MayFollow, Follows, chargeOne, stopLoop, stopGas, Standing, Turns, Closes, ClosesCurrent, Running, Runs};
+ghost use Rattle.walk.specs.Loop.{Walking, withBranches, withCounts, Takes, TakesUp, GoesOn, Holding, Turning, Offering, AddsBranch, MayOffer, noteRepeated, FollowsWays, AddsThree, FollowsThree, withWidth, Resulting, FollowsResult, MayFollow, Follows, alone, chargeOne, stopLoop, stopGas, Standing, Turns, Closes, ClosesCurrent, Running, Runs};
 use branches::BranchList;
 use branches::Popped;
 use branches::Pushed;
@@ -44,9 +44,11 @@ pub enum Added {
     Done(Walk),
 }
 
-// What a row gives: a refusal, or where the walk stands then.
+// What a row gives: a refusal, the state that goes on where the row's charge is all that changes in the walk, or where the walk stands then.
+// Most rows give the second, and the walk is not passed on for it.
 pub enum Turn {
     Over(u64),
+    Stays(MemoryState),
     Goes(Front),
 }
 
@@ -267,6 +269,26 @@ fn follow(w: Walk, area: &mut [u8], columns: &mut [u8], p: Program, h: Handling)
     }
 }
 
+// The state that goes on, if no branch is offered with it and no repeat is counted.
+fn alone(h: Handling) -> Way
+    ensures { λ r. ⌜ r ≡ alone h ⌝ }
+{
+    match h {
+        Handling::Refused(_) => Way::Nowhere,
+        Handling::Ways(b, s, repeat) => {
+            if repeat {
+                return Way::Nowhere;
+            }
+            match b {
+                Way::Nowhere => s,
+                Way::To(_) => Way::Nowhere,
+            }
+        }
+        Handling::Three(_, _, _, _) => Way::Nowhere,
+        Handling::Result(_, _, _) => Way::Nowhere,
+    }
+}
+
 // One of the units is charged.
 fn charge(w: Walk) -> Walk
     requires { ⌜ (0 < w .gas) × (w .counts .charged < 4294967295) ⌝ }
@@ -318,6 +340,12 @@ fn take_turn(
     area::raise_count(area, from + p.size, k);
     let x = rows::row_at(area, from, k);
     let h = explain::handle(s, area, blocks, x, 0 < handled, from, p.size, p.limit);
+    let on = alone(h);
+    if let Way::To(n) = on {
+        if in_listing(n.row, p) {
+            return Turn::Stays(n);
+        }
+    }
     follow(v, area, columns, p, h)
 }
 
@@ -372,6 +400,10 @@ pub fn run(
         match t {
             Turn::Over(k) => {
                 return Progress::Refused(k);
+            }
+            Turn::Stays(n) => {
+                v = charge(v);
+                m = n;
             }
             Turn::Goes(f) => {
                 match f {
