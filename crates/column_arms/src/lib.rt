@@ -13,6 +13,7 @@ ghost use Rattle.intmap.specs.Map.{levels};
 ghost use Rattle.intmap.specs.Pack.{tagOf};
 ghost use Rattle.intmap.specs.Runs.{size, IsColumn};
 ghost use Rattle.intmap.specs.Signed.{intOf};
+ghost use Rattle.rows.specs.Judged.{IsRow};
 ghost use Rattle.state.specs.Leads.{Current, Leads};
 ghost use Rattle.state.specs.Arms.{CursorArm};
 ghost use Rattle.column_arms.specs.Columns.{columnsIn, counted, FindsColumn, StoresRun, storeColumn, LeadsWith};
@@ -137,7 +138,7 @@ fn store_column(map: IntMap, area: &mut [u8], at: usize, i: u64, j: u64, limit: 
 
 // Column: register P3 becomes column P2 of cursor P1. P2 is looked at only where there are columns.
 pub fn column(map: IntMap, area: &mut [u8], x: Row, limit: usize) -> Stored
-    requires { ⌜ Current limit (cells (now area)) map ⌝ }
+    requires { ⌜ Current limit (cells (now area)) map × IsRow x ⌝ }
     ensures { λ r. ⌜ ((row : ℕ) → CursorArm limit (cells (now (area .entry))) (cells (now (area .exit))) map row x opColumn r) ⌝ }
 {
     let p = cursor_arms::read_cursor(map, area, x.p1);
@@ -153,7 +154,7 @@ pub fn column(map: IntMap, area: &mut [u8], x: Row, limit: usize) -> Stored
 
 // RowData, SorterData: register P2 becomes the record of cursor P1's columns, an empty one, if it has none.
 pub fn row_data(map: IntMap, area: &mut [u8], x: Row, limit: usize) -> Stored
-    requires { ⌜ Current limit (cells (now area)) map ⌝ }
+    requires { ⌜ Current limit (cells (now area)) map × IsRow x ⌝ }
     ensures { λ r. ⌜ ((row : ℕ) → CursorArm limit (cells (now (area .entry))) (cells (now (area .exit))) map row x opRowData r) ⌝ }
 {
     let p = cursor_arms::read_cursor(map, area, x.p1);

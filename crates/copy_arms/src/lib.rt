@@ -9,7 +9,7 @@ ghost use Rattle.area.specs.Cells.{cells};
 ghost use Rattle.intmap.specs.Map.{levels, IsMap};
 ghost use Rattle.intmap.specs.Runs.{size};
 ghost use Rattle.intmap.specs.Signed.{offset, intOf};
-ghost use Rattle.rows.specs.Rows.{Fits};
+ghost use Rattle.rows.specs.Judged.{IsRow};
 ghost use Rattle.state.specs.Leads.{Current, Leads};
 ghost use Rattle.state.specs.Arms.{RegisterArm};
 ghost use Rattle.copy_arms.specs.Copies.{StoresFrom, carryOne, carryMany};
@@ -67,7 +67,7 @@ pub fn copy_register(map: IntMap, area: &mut [u8], i: u64, j: u64, limit: usize)
 
 // SCopy, IntCopy, Not: r[P2] = r[P1].
 pub fn scopy(map: IntMap, area: &mut [u8], x: Row, limit: usize) -> Stored
-    requires { ⌜ Current limit (cells (now area)) map × Fits x ⌝ }
+    requires { ⌜ Current limit (cells (now area)) map × IsRow x ⌝ }
     ensures { λ r. ⌜ RegisterArm limit (cells (now (area .entry))) (cells (now (area .exit))) map x opCopyOne r ⌝ }
 {
     copy_register(map, area, x.p1, x.p2, limit)
@@ -254,7 +254,7 @@ fn carry_many(
 
 // Copy: P3 + 1 registers from P1 on to those from P2 on.
 pub fn copy(map: IntMap, area: &mut [u8], x: Row, limit: usize) -> Stored
-    requires { ⌜ Current limit (cells (now area)) map × Fits x ⌝ }
+    requires { ⌜ Current limit (cells (now area)) map × IsRow x ⌝ }
     ensures { λ r. ⌜ RegisterArm limit (cells (now (area .entry))) (cells (now (area .exit))) map x opCopy r ⌝ }
 {
     carry_many(map, area, x.p1, x.p2, turns(x.p3 + 1), false, limit)
@@ -262,7 +262,7 @@ pub fn copy(map: IntMap, area: &mut [u8], x: Row, limit: usize) -> Stored
 
 // Move: P3 registers from P1 on to those from P2 on.
 pub fn move_(map: IntMap, area: &mut [u8], x: Row, limit: usize) -> Stored
-    requires { ⌜ Current limit (cells (now area)) map × Fits x ⌝ }
+    requires { ⌜ Current limit (cells (now area)) map × IsRow x ⌝ }
     ensures { λ r. ⌜ RegisterArm limit (cells (now (area .entry))) (cells (now (area .exit))) map x opMove r ⌝ }
 {
     carry_many(map, area, x.p1, x.p2, turns(x.p3), true, limit)

@@ -17,8 +17,9 @@ ghost use Rattle.intmap.specs.Runs.{size};
 ghost use Rattle.intmap.specs.Signed.{intOf};
 ghost use Rattle.encoding.specs.Encode.{nullableCode};
 ghost use Rattle.encoding.specs.Decode.{nullableIn, nullables};
-ghost use Rattle.rows.specs.Rows.{Operand, Fits};
-ghost use Rattle.state.specs.Leads.{Current, Leads};
+ghost use Rattle.rows.specs.Judged.{IsRow};
+ghost use Rattle.rows.specs.Rows.{Operand};
+ghost use Rattle.state.specs.Leads.{Current, SomeCurrent, Leads};
 ghost use Rattle.state.specs.Arms.{CursorArm};
 ghost use Rattle.cursor_arms.specs.Cursors.{cursorIn, RowWithin, ReadsCursor, TableChanged};
 ghost use Rattle.cursor_arms.specs.Behind.{RunBehind};
@@ -79,7 +80,7 @@ pub fn store_normal(map: IntMap, area: &mut [u8], i: u64, row: u64, limit: usize
 
 // OpenPseudo: cursor P1 reads register P2.
 pub fn open_pseudo(map: IntMap, area: &mut [u8], x: Row, limit: usize) -> Stored
-    requires { ⌜ Current limit (cells (now area)) map × Fits x ⌝ }
+    requires { ⌜ Current limit (cells (now area)) map × IsRow x ⌝ }
     ensures { λ r. ⌜ ((row : ℕ) → CursorArm limit (cells (now (area .entry))) (cells (now (area .exit))) map row x opOpenPseudo r) ⌝ }
 {
     store_pseudo(map, area, x.p1, x.p2, limit)
@@ -246,7 +247,7 @@ pub fn run_behind(map: IntMap, area: &mut [u8], at: usize, nullable: u64, limit:
 
 // OpenDup: cursor P1 becomes what cursor P2 is, if there is one.
 pub fn open_dup(map: IntMap, area: &mut [u8], x: Row, limit: usize) -> Stored
-    requires { ⌜ Current limit (cells (now area)) map ⌝ }
+    requires { ⌜ Current limit (cells (now area)) map × IsRow x ⌝ }
     ensures { λ r. ⌜ ((row : ℕ) → CursorArm limit (cells (now (area .entry))) (cells (now (area .exit))) map row x opOpenDup r) ⌝ }
 {
     let p = read_cursor(map, area, x.p2);
@@ -289,7 +290,7 @@ fn delete_from(map: IntMap, area: &mut [u8], row: u64)
 
 // Delete: the table of cursor P1 might be empty now.
 pub fn delete(map: IntMap, area: &mut [u8], x: Row) -> Stored
-    requires { ⌜ IsMap (cells (now area)) map ⌝ }
+    requires { ⌜ SomeCurrent (cells (now area)) map × IsRow x ⌝ }
     ensures { λ r. ⌜ ((limit row : ℕ) → Current limit (cells (now (area .entry))) map → CursorArm limit (cells (now (area .entry))) (cells (now (area .exit))) map row x opDelete r) ⌝ }
 {
     let p = read_cursor(map, area, x.p1);

@@ -24,7 +24,7 @@ use Rattle.intmap.specs.declared.Stored.the-variants as stored
 use Rattle.intmap.proofs.SignedLaws.{int-turns}
 use Rattle.opcode.specs.Opcode.{arms, operationAt, constantKind}
 use Rattle.opcode.proofs.Arms.{NoneOf}
-use Rattle.rows.specs.Judged.{Judged}
+use Rattle.rows.specs.Judged.{Judged, IsRow}
 use Rattle.rows.specs.declared.Row.{Row}
 use Rattle.state.specs.Leads.{Current, Tells, Leads}
 use Rattle.state.specs.Arms.{Standard, RegisterArm, CursorArm}
@@ -38,7 +38,7 @@ use Rattle.jump_arms.proofs.StoreSteps.{SameRow, leaves-after}
 use Rattle.coroutine_arms.specs.Arms.{RowsArm}
 use Rattle.read_arm.specs.Gathers.{ReadsTable}
 use Rattle.explain.specs.Handles.{meaningOf}
-use Rattle.explain.specs.Numbers.{IsRow, NumberArm}
+use Rattle.explain.specs.Numbers.{NumberArm}
 use Rattle.explain.proofs.RowKept.{register-row, cursor-row}
 
 -- ---- the last number of a `match`

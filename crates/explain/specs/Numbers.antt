@@ -1,5 +1,5 @@
 -- The arm of an operation's number, as far as it offers at most one branch and does not count a repeat: its step is what the definition's arm
--- offers. And a step as what handling a row gives, and what is asked of a row: that it stands for one. Assumes nothing.
+-- offers. And a step as what handling a row gives. Assumes nothing.
 use mathlib.Core.Path.{_≡_}
 use mathlib.Core.Bool.{Bool}
 use mathlib.Core.List.{List}
@@ -23,11 +23,6 @@ use Rattle.state.specs.declared.Step.the-variants as step
 use Rattle.explain.specs.declared.Handling.{Handling}
 use Rattle.explain.specs.declared.Handling.the-variants as handling
 use Rattle.explain.specs.Handles.{meaningOf}
-
--- a row of the listing is judged to this
-pub record IsRow (x : Row) : Type 0 where
-  pub listed : Listed
-  pub judged : Judged listed x
 
 -- as `JumpArm`, of the number `op`, and of the listing and the catalogue's blocks at hand
 pub record NumberArm (limit from n : ℕ) (cs ds : List Cell) (blocks : List ℕ) (s : MemoryState) (x : Row) (op : ℕ) (r : Step) : Type 0 where

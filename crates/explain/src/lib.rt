@@ -9,7 +9,7 @@ ghost use Rattle.rows.specs.Rows.{Fits};
 ghost use Rattle.jump_arms.specs.Arms.{Ready, stepAfter};
 ghost use Rattle.explain.specs.Handles.{Handles};
 ghost use Rattle.root_block.specs.Blocks.{IsBlocks};
-ghost use Rattle.explain.specs.Numbers.{IsRow, NumberArm, asHandling};
+ghost use Rattle.explain.specs.Numbers.{NumberArm, asHandling};
 use intmap::Stored;
 use result_arm::Columns;
 use rows::Row;
@@ -83,7 +83,7 @@ fn jump(
 
 // The arms that write registers.
 fn register(s: MemoryState, area: &mut [u8], x: Row, op: u8, limit: usize) -> Stored
-    requires { ⌜ Ready limit (cells (now area)) s x × IsRow x × (16 ≤ op) × (op ≤ 32) ⌝ }
+    requires { ⌜ Ready limit (cells (now area)) s x × (16 ≤ op) × (op ≤ 32) ⌝ }
     ensures { λ r. ⌜ ((from n : ℕ) (blocks : List ℕ) → IsBlocks blocks → NumberArm limit from n (cells (now (area .entry))) (cells (now (area .exit))) blocks s x op (stepAfter (s .row + 1) r)) ⌝ }
 {
     let map = s.map;
@@ -109,7 +109,7 @@ fn register(s: MemoryState, area: &mut [u8], x: Row, op: u8, limit: usize) -> St
 
 // The arms that use a cursor.
 fn cursor(s: MemoryState, area: &mut [u8], blocks: &[u8], x: Row, op: u8, limit: usize) -> Stored
-    requires { ⌜ Ready limit (cells (now area)) s x × IsRow x × IsBlocks (now blocks) × (limit ≤ 65535) × (33 ≤ op) × (op ≤ 41) ⌝ }
+    requires { ⌜ Ready limit (cells (now area)) s x × IsBlocks (now blocks) × (limit ≤ 65535) × (33 ≤ op) × (op ≤ 41) ⌝ }
     ensures { λ r. ⌜ ((from n : ℕ) → NumberArm limit from n (cells (now (area .entry))) (cells (now (area .exit))) (now (blocks .entry)) s x op (stepAfter (s .row + 1) r)) ⌝ }
 {
     let map = s.map;
@@ -176,7 +176,7 @@ pub fn handle(
     n: usize,
     limit: usize,
 ) -> Handling
-    requires { ⌜ Ready limit (cells (now area)) s x × (from + n ≤ length (cells (now area))) × (limit ≤ 65535) × IsRow x × IsBlocks (now blocks) ⌝ }
+    requires { ⌜ Ready limit (cells (now area)) s x × (from + n ≤ length (cells (now area))) × (limit ≤ 65535) × IsBlocks (now blocks) ⌝ }
     ensures { λ r. ⌜ Handles limit from n (cells (now (area .entry))) (cells (now (area .exit))) (now (blocks .entry)) s x again r ⌝ }
 {
     let map = s.map;

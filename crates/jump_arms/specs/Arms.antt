@@ -1,4 +1,4 @@
--- What an arm asks for: the state's map with room behind it, a row whose operands are numbers of 32 bits, and a state on one of the 2,048 rows
+-- What an arm asks for: the state's map with room behind it, a row that one of the listing is judged to, and a state on one of the 2,048 rows
 -- that a listing has at most. And what the arms have in common: a step after an access to the map, the row that InitCoroutine and Return name,
 -- whether a register is known to hold a number or may be null and how it changes then, a store that stays within the map's room, If by what is
 -- known, and both ways by two accesses. Assumes nothing.
@@ -20,8 +20,7 @@ use Rattle.intmap.specs.Signed.{offset, intOf}
 use Rattle.intmap.specs.declared.IntMap.{IntMap}
 use Rattle.intmap.specs.declared.Stored.{Stored}
 use Rattle.intmap.specs.declared.Stored.the-variants as stored
-use Rattle.rows.specs.Rows.{Fits}
-use Rattle.rows.specs.Judged.{Judged}
+use Rattle.rows.specs.Judged.{Judged, IsRow}
 use Rattle.rows.specs.declared.Row.{Row}
 use Rattle.state.specs.Leads.{Current, HoldsMap, operands, Leads}
 use Rattle.state.specs.Reads.{IsInt}
@@ -37,7 +36,7 @@ use Rattle.jump_arms.specs.declared.Asked.the-variants as asked
 
 pub record Ready (limit : ℕ) (cs : List Cell) (s : MemoryState) (x : Row) : Type 0 where
   pub current : Current limit cs (s .map)
-  pub fits : Fits x
+  pub row : IsRow x
   pub above : offset ≤ s .row
   pub below : s .row < offset + 2048
 

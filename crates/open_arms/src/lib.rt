@@ -4,7 +4,7 @@ ghost use Prim.Native.Nat.{_+_, _<_, _≤_};
 ghost use Rattle.model.specs.Operation.{opOpenEphemeral};
 ghost use Rattle.area.specs.Cells.{cells, Inside};
 ghost use Rattle.intmap.specs.Store.{RunAbove};
-ghost use Rattle.rows.specs.Rows.{Fits};
+ghost use Rattle.rows.specs.Judged.{IsRow};
 ghost use Rattle.state.specs.Leads.{Current};
 ghost use Rattle.state.specs.Arms.{CursorArm};
 ghost use Rattle.open_arms.specs.Tables.{IsTable, OpensTable, PutsTable};
@@ -56,7 +56,7 @@ fn put_table(area: &mut [u8], p: usize, n: usize)
 
 // OpenEphemeral, OpenAutoindex, SorterOpen: cursor P1 on an empty table of P2 columns. More columns than `limit` are refused before any is written.
 pub fn open_ephemeral(map: IntMap, area: &mut [u8], row: u64, x: Row, limit: usize) -> Stored
-    requires { ⌜ Current limit (cells (now area)) map × (row ≤ 65535) × (limit ≤ 65536) × Fits x ⌝ }
+    requires { ⌜ Current limit (cells (now area)) map × (row ≤ 65535) × (limit ≤ 65536) × IsRow x ⌝ }
     ensures { λ r. ⌜ CursorArm limit (cells (now (area .entry))) (cells (now (area .exit))) map row x opOpenEphemeral r ⌝ }
 {
     if x.p2 < intmap::ZERO {

@@ -11,7 +11,7 @@ ghost use Rattle.area.specs.Cells.{cells};
 ghost use Rattle.intmap.specs.Pack.{tagOf};
 ghost use Rattle.intmap.specs.Map.{HasRoom};
 ghost use Rattle.intmap.specs.Signed.{intOf};
-ghost use Rattle.rows.specs.Rows.{Fits};
+ghost use Rattle.rows.specs.Judged.{IsRow};
 ghost use Rattle.state.specs.Leads.{Current};
 ghost use Rattle.root_block.specs.Blocks.{columnOf, IsBlocks};
 ghost use Rattle.read_arm.specs.Gathers.{Adds, atPage, atDatabase, Gathers, ReadsTable};
@@ -97,7 +97,7 @@ pub fn open_read(
     x: Row,
     limit: usize,
 ) -> Stored
-    requires { ⌜ Current limit (cells (now area)) map × (row ≤ 65535) × (limit ≤ 65535) × Fits x × IsBlocks (now blocks) ⌝ }
+    requires { ⌜ Current limit (cells (now area)) map × (row ≤ 65535) × (limit ≤ 65535) × IsRow x × IsBlocks (now blocks) ⌝ }
     ensures { λ r. ⌜ ReadsTable limit (cells (now (area .entry))) (cells (now (area .exit))) map (now (blocks .entry)) row x r ⌝ }
 {
     if limit == 0 {

@@ -10,7 +10,7 @@ ghost use Rattle.intmap.specs.Pack.{classKey};
 ghost use Rattle.intmap.specs.Runs.{IsColumn};
 ghost use Rattle.intmap.specs.Signed.{intOf};
 ghost use Rattle.encoding.specs.Heads.{asColumn};
-ghost use Rattle.rows.specs.Rows.{Fits};
+ghost use Rattle.rows.specs.Judged.{IsRow};
 ghost use Rattle.state.specs.Leads.{Current, Leads};
 ghost use Rattle.state.specs.Arms.{RegisterArm};
 ghost use Rattle.record_arms.specs.Records.{JudgesRange, deepAt, anyDeep, Flat, Puttable, PutsColumn, PutsColumns, BuildsRecord, recordFrom};
@@ -221,7 +221,7 @@ fn store_record(map: IntMap, area: &mut [u8], first: u64, n: u64, i: u64, limit:
 
 // MakeRecord: register P3 becomes the record of P2 registers from P1 on.
 pub fn make_record(map: IntMap, area: &mut [u8], x: Row, limit: usize) -> Stored
-    requires { ⌜ Current limit (cells (now area)) map × Fits x ⌝ }
+    requires { ⌜ Current limit (cells (now area)) map × IsRow x ⌝ }
     ensures { λ r. ⌜ RegisterArm limit (cells (now (area .entry))) (cells (now (area .exit))) map x opMakeRecord r ⌝ }
 {
     if x.p2 < intmap::ZERO {

@@ -13,7 +13,7 @@ ghost use Rattle.model.specs.Operation.{opInteger, opConstant, opVariable, opFu
 ghost use Rattle.area.specs.Cells.{cells};
 ghost use Rattle.intmap.specs.Signed.{intOf};
 ghost use Rattle.encoding.specs.Decode.{datatypes, nullables};
-ghost use Rattle.rows.specs.Rows.{Fits};
+ghost use Rattle.rows.specs.Judged.{IsRow};
 ghost use Rattle.state.specs.Leads.{Current, Leads};
 ghost use Rattle.state.specs.Arms.{RegisterArm};
 ghost use Rattle.register_arms.specs.Values.{IsDatatype, IsNullable, AreNullable, isAbsent};
@@ -28,7 +28,7 @@ const NOT_UTF8: u64 = 10;
 
 // Integer: the number P1 in register P2.
 pub fn integer(map: IntMap, area: &mut [u8], x: Row, limit: usize) -> Stored
-    requires { ⌜ Current limit (cells (now area)) map × Fits x ⌝ }
+    requires { ⌜ Current limit (cells (now area)) map × IsRow x ⌝ }
     ensures { λ r. ⌜ RegisterArm limit (cells (now (area .entry))) (cells (now (area .exit))) map x opInteger r ⌝ }
 {
     state::store_int(map, area, x.p2, x.p1, limit)
@@ -36,7 +36,7 @@ pub fn integer(map: IntMap, area: &mut [u8], x: Row, limit: usize) -> Stored
 
 // The operations that store a value of a known kind in register P2.
 pub fn constant(map: IntMap, area: &mut [u8], x: Row, d: DataType, limit: usize) -> Stored
-    requires { ⌜ Current limit (cells (now area)) map × Fits x ⌝ }
+    requires { ⌜ Current limit (cells (now area)) map × IsRow x ⌝ }
     ensures { λ r. ⌜ RegisterArm limit (cells (now (area .entry))) (cells (now (area .exit))) map x (opConstant d) r ⌝ }
 {
     state::store_single(map, area, x.p2, d, state::NEVER, limit)
@@ -44,7 +44,7 @@ pub fn constant(map: IntMap, area: &mut [u8], x: Row, d: DataType, limit: usize)
 
 // Variable: a parameter may be null, and its kind is not known.
 pub fn variable(map: IntMap, area: &mut [u8], x: Row, limit: usize) -> Stored
-    requires { ⌜ Current limit (cells (now area)) map × Fits x ⌝ }
+    requires { ⌜ Current limit (cells (now area)) map × IsRow x ⌝ }
     ensures { λ r. ⌜ RegisterArm limit (cells (now (area .entry))) (cells (now (area .exit))) map x opVariable r ⌝ }
 {
     state::store_single(map, area, x.p2, DataType::Null, state::NULLABLE, limit)
@@ -62,7 +62,7 @@ fn nullable_by(p2: u64) -> u64
 
 // Function: the value of a built-in function in register P3; an unknown function changes nothing.
 pub fn function(map: IntMap, area: &mut [u8], x: Row, limit: usize) -> Stored
-    requires { ⌜ Current limit (cells (now area)) map × Fits x ⌝ }
+    requires { ⌜ Current limit (cells (now area)) map × IsRow x ⌝ }
     ensures { λ r. ⌜ RegisterArm limit (cells (now (area .entry))) (cells (now (area .exit))) map x opFunction r ⌝ }
 {
     if x.text != 1 {
@@ -188,7 +188,7 @@ fn operands_nullable(a: Register, b: Register) -> u64
 
 // The operations on two operands: the kind of the first, unless it is Null, in register P3.
 pub fn arithmetic(map: IntMap, area: &mut [u8], x: Row, limit: usize) -> Stored
-    requires { ⌜ Current limit (cells (now area)) map × Fits x ⌝ }
+    requires { ⌜ Current limit (cells (now area)) map × IsRow x ⌝ }
     ensures { λ r. ⌜ RegisterArm limit (cells (now (area .entry))) (cells (now (area .exit))) map x opArithmetic r ⌝ }
 {
     let a = state::read_register(map, area, x.p1);
@@ -255,7 +255,7 @@ fn other_row(map: IntMap, area: &mut [u8], from: u64, to: u64, limit: usize) -> 
 
 // AggStep and AggValue: what the aggregate gives in register P3. An aggregate of code 0 gives its operand, which may be a record.
 pub fn agg_step(map: IntMap, area: &mut [u8], x: Row, limit: usize) -> Stored
-    requires { ⌜ Current limit (cells (now area)) map × Fits x ⌝ }
+    requires { ⌜ Current limit (cells (now area)) map × IsRow x ⌝ }
     ensures { λ r. ⌜ RegisterArm limit (cells (now (area .entry))) (cells (now (area .exit))) map x opAggStep r ⌝ }
 {
     if x.text != 1 {
@@ -278,7 +278,7 @@ pub fn agg_step(map: IntMap, area: &mut [u8], x: Row, limit: usize) -> Stored
 
 // AggFinal: an integer goes to register P1, a real to register P3; a sum and an operand stay as they are.
 pub fn agg_final(map: IntMap, area: &mut [u8], x: Row, limit: usize) -> Stored
-    requires { ⌜ Current limit (cells (now area)) map × Fits x ⌝ }
+    requires { ⌜ Current limit (cells (now area)) map × IsRow x ⌝ }
     ensures { λ r. ⌜ RegisterArm limit (cells (now (area .entry))) (cells (now (area .exit))) map x opAggFinal r ⌝ }
 {
     if x.text != 1 {
@@ -323,7 +323,7 @@ fn null_many(map: IntMap, area: &mut [u8], from: u64, n: u64, limit: usize) -> S
 
 // Null: null in the registers from P2 to P3, or in P2 alone.
 pub fn null(map: IntMap, area: &mut [u8], x: Row, limit: usize) -> Stored
-    requires { ⌜ Current limit (cells (now area)) map × Fits x ⌝ }
+    requires { ⌜ Current limit (cells (now area)) map × IsRow x ⌝ }
     ensures { λ r. ⌜ RegisterArm limit (cells (now (area .entry))) (cells (now (area .exit))) map x opNull r ⌝ }
 {
     if x.p2 < x.p3 {
@@ -341,7 +341,7 @@ fn low_byte(w: u64) -> u8
 
 // Cast: the kind of the affinity in P2's low byte in register P1, if something is there; whether it is null stays.
 pub fn cast(map: IntMap, area: &mut [u8], x: Row, limit: usize) -> Stored
-    requires { ⌜ Current limit (cells (now area)) map × Fits x ⌝ }
+    requires { ⌜ Current limit (cells (now area)) map × IsRow x ⌝ }
     ensures { λ r. ⌜ RegisterArm limit (cells (now (area .entry))) (cells (now (area .exit))) map x opCast r ⌝ }
 {
     let v = state::read_register(map, area, x.p1);
@@ -357,7 +357,7 @@ pub fn cast(map: IntMap, area: &mut [u8], x: Row, limit: usize) -> Stored
 
 // HaltIfNull: behind it a plain column in register P3 is not null; what else is there stays.
 pub fn halt_if_null(map: IntMap, area: &mut [u8], x: Row, limit: usize) -> Stored
-    requires { ⌜ Current limit (cells (now area)) map × Fits x ⌝ }
+    requires { ⌜ Current limit (cells (now area)) map × IsRow x ⌝ }
     ensures { λ r. ⌜ RegisterArm limit (cells (now (area .entry))) (cells (now (area .exit))) map x opHaltIfNull r ⌝ }
 {
     match state::read_register(map, area, x.p3) {

@@ -2,6 +2,7 @@
 // src/connection/explain.rs.
 ghost use mathlib.Core.Path.{_≡_};
 ghost use Prim.Native.Nat.{_-_};
+ghost use Rattle.rows.specs.Judged.{IsRow};
 ghost use Rattle.result_arm.specs.Results.{JudgesRow};
 use record_arms::Range;
 use rows::Row;
@@ -27,6 +28,7 @@ fn turns(w: u64) -> u64
 
 // ResultRow: the columns of the row are the P2 registers from P1 on. Its width is judged before they are read.
 pub fn result_row(x: Row) -> Columns
+    requires { ⌜ IsRow x ⌝ }
     ensures { λ r. ⌜ JudgesRow x r ⌝ }
 {
     let n = turns(x.p2);

@@ -35,6 +35,11 @@ pub record Judged (x : Listed) (r : Row) : Type 0 where
   pub function : isUtf8 (x .p4) ≡ true → IsFunction (functionIn builtIn (x .p4)) (r .function)
   pub aggregate : isUtf8 (x .p4) ≡ true → IsAggregate (aggregateOf (x .p4)) (r .aggregate)
 
+-- a row of the listing is judged to this
+pub record IsRow (r : Row) : Type 0 where
+  pub listed : Listed
+  pub judged : Judged listed r
+
 -- the cells from `from` on have the listing's rows
 abbrev pub HaveRows : List Cell → ℕ → List Listed → Type 0
 HaveRows cs from rows = (i : ℕ) (x : Listed) → getElem? rows i ≡ some x → Judged x (rowIn (getD cs (from + i) blank))

@@ -21,9 +21,10 @@ pub record Standard (limit : ℕ) (meaning : Meaning) : Type 0 where
   pub cells : meaning .cellLimit ≡ limit
   pub functions : (text : List ℕ) → meaning .functionFor text ≡ functionIn builtIn text
 
+-- an arm asks that a row of the listing is judged to x (`IsRow`), so some l is there
 pub record RegisterArm (limit : ℕ) (cs ds : List Cell) (a : IntMap) (x : Row) (o : RegisterOperation) (r : Stored) : Type 0 where
   pub leads : (meaning : Meaning) (l : Listed) → Standard limit meaning → Judged l x → Leads limit cs ds a r (λ m. registerArm meaning l m o)
 
--- `row` is the number of the row
+-- the same of an arm that uses a cursor; `row` is the number of the row
 pub record CursorArm (limit : ℕ) (cs ds : List Cell) (a : IntMap) (row : ℕ) (x : Row) (o : CursorOperation) (r : Stored) : Type 0 where
   pub leads : (meaning : Meaning) (l : Listed) → Standard limit meaning → Judged l x → Leads limit cs ds a r (λ m. cursorArm meaning row l m o)

@@ -38,6 +38,11 @@ pub record Current (limit : ℕ) (cs : List Cell) (a : IntMap) : Type 0 where
   pub state : MemoryState
   pub holds : HoldsMap limit bound cs a state
 
+-- the same of whoever is not told the limit
+pub record SomeCurrent (cs : List Cell) (a : IntMap) : Type 0 where
+  pub limit : ℕ
+  pub current : Current limit cs a
+
 -- the answer is the definition's answer t
 abbrev pub Tells : ℕ → ℕ → List Cell → Stored → Tried MemoryState → Type 0
 Tells limit bound ds (stored.Refused n) t = t ≡ refused n

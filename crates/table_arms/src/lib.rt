@@ -3,11 +3,12 @@ ghost use mathlib.Core.Path.{_≡_};
 ghost use Prim.Native.Nat.{ℕ, _+_, _≤_};
 ghost use Rattle.model.specs.Operation.{opNullRow, opInsert};
 ghost use Rattle.area.specs.Cells.{cells};
-ghost use Rattle.intmap.specs.Map.{levels, IsMap};
+ghost use Rattle.intmap.specs.Map.{levels};
 ghost use Rattle.intmap.specs.Runs.{size, AreColumns};
 ghost use Rattle.intmap.specs.Signed.{intOf};
 ghost use Rattle.encoding.specs.Heads.{singleNullable};
-ghost use Rattle.state.specs.Leads.{Current, Leads};
+ghost use Rattle.rows.specs.Judged.{IsRow};
+ghost use Rattle.state.specs.Leads.{Current, SomeCurrent, Leads};
 ghost use Rattle.state.specs.Arms.{CursorArm};
 ghost use Rattle.table_arms.specs.Nulled.{Nulled};
 ghost use Rattle.table_arms.specs.Inserted.{fillTable, StoresTable, InsertsRecord, InsertsFrom};
@@ -50,7 +51,7 @@ fn null_columns(area: &mut [u8], from: usize, n: u64)
 
 // NullRow: every plain column of cursor P1 may be null.
 pub fn null_row(map: IntMap, area: &mut [u8], x: Row) -> Stored
-    requires { ⌜ IsMap (cells (now area)) map ⌝ }
+    requires { ⌜ SomeCurrent (cells (now area)) map × IsRow x ⌝ }
     ensures { λ r. ⌜ ((limit row : ℕ) → Current limit (cells (now (area .entry))) map → CursorArm limit (cells (now (area .entry))) (cells (now (area .exit))) map row x opNullRow r) ⌝ }
 {
     let p = cursor_arms::read_cursor(map, area, x.p1);
@@ -138,7 +139,7 @@ fn insert_from(map: IntMap, area: &mut [u8], x: Row, at: usize, limit: usize) ->
 
 // Insert, IdxInsert, SorterInsert: what register P2 holds goes into the table of cursor P1.
 pub fn insert(map: IntMap, area: &mut [u8], x: Row, limit: usize) -> Stored
-    requires { ⌜ Current limit (cells (now area)) map ⌝ }
+    requires { ⌜ Current limit (cells (now area)) map × IsRow x ⌝ }
     ensures { λ r. ⌜ ((row : ℕ) → CursorArm limit (cells (now (area .entry))) (cells (now (area .exit))) map row x opInsert r) ⌝ }
 {
     let v = map.get(area, state::REGISTERS, x.p2);

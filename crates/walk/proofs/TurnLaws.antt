@@ -40,7 +40,6 @@ use Rattle.branches.proofs.RememberLaws.{Bytes, counted-kept}
 use Rattle.branches.proofs.BlockLaws.{blocks-low}
 use Rattle.walk.specs.Walks.{rowsFrom, countsFrom, firstFrom, Given, boundOf, HoldsList, Counts, HoldsWalk, HoldsRow, inListing, TellsTurn, theFollowing, theTurn}
 use Rattle.root_block.specs.Blocks.{IsBlocks}
-use Rattle.explain.specs.Numbers.{IsRow}
 use Rattle.explain.specs.Handles.{meaningOf, TellsHandling, LeavesHandling, Handles}
 use Rattle.walk.specs.Loop.{Walking, noteRepeated, alone, aloneBy, settled, Turning, MayOffer, MayFollow, StaysHere, Follows, TakesUp, chargeOne, stopLoop, Standing, Turns}
 use Rattle.explain.specs.declared.Handling.{Handling}
@@ -226,13 +225,10 @@ module _ {p : Program} {g : Given} {blocks xs cols : List ℕ} {w : Walk} {s : M
             state = r .lineage .mem;
             holds = raised-state .map;
           };
-          fits = judged x e .fits;
+          row = record { listed = listed .element; judged = judged x e };
           above = omega (arith, r .at);
           below = omega (arith, r .at, r .within, r .walk .list .few);
         }
-
-    pub is-row : (x : Row) → x ≡ rowIn (getD (cells ys) (rowsFrom p + k) blank) → IsRow x
-    is-row x e = record { listed = listed .element; judged = judged x e }
 
     pub rows-fit : rowsFrom p + p .size ≤ length (cells ys)
     rows-fit = omega (arith, fits-inside raised-list)

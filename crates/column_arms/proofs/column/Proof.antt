@@ -29,25 +29,25 @@ enum-known-columns-2 : tie.Need-enum-known-columns-2
 enum-known-columns-2 c = search needs
 
 store-column-requires : tie.Need-store-column-requires
-store-column-requires c κs = (c .before .before .before .before .before .before .before .before .before .pre, head-above _ _ _ (c .before .before .before .before .before .before .before .before .before .args .x) (c .before .before .before .before .before .before .before .before .before .pre) _ (c .before .before .before .before .before .before .read-cursor .ensures) _ (c .before .before .before .before .columns .ensures) _ (c .before .before .columns3 .given .1), head-below _ _ _ (c .before .before .before .before .before .before .before .before .before .args .x) (c .before .before .before .before .before .before .before .before .before .pre) _ (c .before .before .before .before .before .before .read-cursor .ensures) _ (c .before .before .before .before .columns .ensures) _ (c .before .before .columns3 .given .1), head-tag _ _ _ (c .before .before .before .before .before .before .before .before .before .args .x) (c .before .before .before .before .before .before .before .before .before .pre) _ (c .before .before .before .before .before .before .read-cursor .ensures) _ (c .before .before .before .before .columns .ensures) _ (c .before .before .columns3 .given .1))
+store-column-requires c κs = (c .before .before .before .before .before .before .before .before .before .pre .0, head-above _ _ _ (c .before .before .before .before .before .before .before .before .before .args .x) (c .before .before .before .before .before .before .before .before .before .pre .0) _ (c .before .before .before .before .before .before .read-cursor .ensures) _ (c .before .before .before .before .columns .ensures) _ (c .before .before .columns3 .given .1), head-below _ _ _ (c .before .before .before .before .before .before .before .before .before .args .x) (c .before .before .before .before .before .before .before .before .before .pre .0) _ (c .before .before .before .before .before .before .read-cursor .ensures) _ (c .before .before .before .before .columns .ensures) _ (c .before .before .columns3 .given .1), head-tag _ _ _ (c .before .before .before .before .before .before .before .before .before .args .x) (c .before .before .before .before .before .before .before .before .before .pre .0) _ (c .before .before .before .before .before .before .read-cursor .ensures) _ (c .before .before .before .before .columns .ensures) _ (c .before .before .columns3 .given .1))
 
 same-length : tie.Need-same-length
 same-length c = search needs
 
 returns : tie.Need-returns
-returns c = arm-bad _ _ _ _ (c .before .before .before .before .before .before .before .before .pre) _ (c .before .before .before .before .before .read-cursor .ensures) _ (c .before .before .before .columns .ensures) _ _ (λ row. column-goes _ row _) _ (c .before .columns2 .given .1)
+returns c = arm-bad _ _ _ _ (c .before .before .before .before .before .before .before .before .pre .0) _ (c .before .before .before .before .before .read-cursor .ensures) _ (c .before .before .before .columns .ensures) _ _ (λ row. column-goes _ row _) _ (c .before .columns2 .given .1)
 
 same-length-2 : tie.Need-same-length-2
 same-length-2 c = search needs
 
 returns-2 : tie.Need-returns-2
-returns-2 c = arm-absent _ _ _ _ (c .before .before .before .before .before .before .before .before .before .before .before .pre) _ (c .before .before .before .before .before .before .before .before .read-cursor .ensures) _ (c .before .before .before .before .before .before .columns .ensures) _ _ (λ row. column-goes _ row _) (c .before .before .before .before .enum-told .given .1) _ _ (column-default _ _ _ _ _ _ _ (c .before .before .store-single .ensures))
+returns-2 c = arm-absent _ _ _ _ (c .before .before .before .before .before .before .before .before .before .before .before .pre .0) _ (c .before .before .before .before .before .before .before .before .read-cursor .ensures) _ (c .before .before .before .before .before .before .columns .ensures) _ _ (λ row. column-goes _ row _) (c .before .before .before .before .enum-told .given .1) _ _ (column-default _ _ _ _ _ _ _ (c .before .before .store-single .ensures))
 
 same-length-3 : tie.Need-same-length-3
 same-length-3 c = search needs
 
 returns-3 : tie.Need-returns-3
-returns-3 c = arm-there _ _ _ _ (c .before .before .before .before .before .before .before .before .before .before .before .before .pre) _ (c .before .before .before .before .before .before .before .before .before .read-cursor .ensures) _ (c .before .before .before .before .before .before .before .columns .ensures) _ _ (λ row. column-goes _ row _) _ (c .before .before .before .before .before .columns3 .given .1) _ _ (c .before .before .store-column .ensures)
+returns-3 c = arm-there _ _ _ _ (c .before .before .before .before .before .before .before .before .before .before .before .before .pre .0) _ (c .before .before .before .before .before .before .before .before .before .read-cursor .ensures) _ (c .before .before .before .before .before .before .before .columns .ensures) _ _ (λ row. column-goes _ row _) _ (c .before .before .before .before .before .columns3 .given .1) _ _ (c .before .before .store-column .ensures)
 
 pub column-spec : {M : Type 1} → statement M
 column-spec =

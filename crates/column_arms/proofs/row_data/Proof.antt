@@ -32,28 +32,28 @@ enum-known-columns-2 : tie.Need-enum-known-columns-2
 enum-known-columns-2 c = search needs
 
 cell-at-requires : tie.Need-cell-at-requires
-cell-at-requires c κs = record { within = head-place _ _ _ (c .before .before .before .before .before .before .before .before .before .args .x) (c .before .before .before .before .before .before .before .before .before .pre) _ (c .before .before .before .before .before .before .read-cursor .ensures) _ (c .before .before .before .before .columns .ensures) _ (c .before .before .columns3 .given .1); small = c .before .before .before .before .before .before .before .before .before .pre .room .small }
+cell-at-requires c κs = record { within = head-place _ _ _ (c .before .before .before .before .before .before .before .before .before .args .x) (c .before .before .before .before .before .before .before .before .before .pre .0) _ (c .before .before .before .before .before .before .read-cursor .ensures) _ (c .before .before .before .before .columns .ensures) _ (c .before .before .columns3 .given .1); small = c .before .before .before .before .before .before .before .before .before .pre .0 .room .small }
 
 store-from-requires : tie.Need-store-from-requires
-store-from-requires c κs = (c .before .before .before .before .before .before .before .before .before .before .before .pre, head-above _ _ _ (c .before .before .before .before .before .before .before .before .before .before .before .args .x) (c .before .before .before .before .before .before .before .before .before .before .before .pre) _ (c .before .before .before .before .before .before .before .before .read-cursor .ensures) _ (c .before .before .before .before .before .before .columns .ensures) _ (c .before .before .before .before .columns3 .given .1), head-below _ _ _ (c .before .before .before .before .before .before .before .before .before .before .before .args .x) (c .before .before .before .before .before .before .before .before .before .before .before .pre) _ (c .before .before .before .before .before .before .before .before .read-cursor .ensures) _ (c .before .before .before .before .before .before .columns .ensures) _ (c .before .before .before .before .columns3 .given .1), sym (head-tag _ _ _ (c .before .before .before .before .before .before .before .before .before .before .before .args .x) (c .before .before .before .before .before .before .before .before .before .before .before .pre) _ (c .before .before .before .before .before .before .before .before .read-cursor .ensures) _ (c .before .before .before .before .before .before .columns .ensures) _ (c .before .before .before .before .columns3 .given .1)), ap (λ (c : Cell). c .payload) (c .before .cell-at .ensures))
+store-from-requires c κs = (c .before .before .before .before .before .before .before .before .before .before .before .pre .0, head-above _ _ _ (c .before .before .before .before .before .before .before .before .before .before .before .args .x) (c .before .before .before .before .before .before .before .before .before .before .before .pre .0) _ (c .before .before .before .before .before .before .before .before .read-cursor .ensures) _ (c .before .before .before .before .before .before .columns .ensures) _ (c .before .before .before .before .columns3 .given .1), head-below _ _ _ (c .before .before .before .before .before .before .before .before .before .before .before .args .x) (c .before .before .before .before .before .before .before .before .before .before .before .pre .0) _ (c .before .before .before .before .before .before .before .before .read-cursor .ensures) _ (c .before .before .before .before .before .before .columns .ensures) _ (c .before .before .before .before .columns3 .given .1), sym (head-tag _ _ _ (c .before .before .before .before .before .before .before .before .before .before .before .args .x) (c .before .before .before .before .before .before .before .before .before .before .before .pre .0) _ (c .before .before .before .before .before .before .before .before .read-cursor .ensures) _ (c .before .before .before .before .before .before .columns .ensures) _ (c .before .before .before .before .columns3 .given .1)), ap (λ (c : Cell). c .payload) (c .before .cell-at .ensures))
 
 same-length : tie.Need-same-length
 same-length c = search needs
 
 returns : tie.Need-returns
-returns c = arm-bad _ _ _ _ (c .before .before .before .before .before .before .before .before .pre) _ (c .before .before .before .before .before .read-cursor .ensures) _ (c .before .before .before .columns .ensures) _ _ (λ row. row-goes _ row _) _ (c .before .columns2 .given .1)
+returns c = arm-bad _ _ _ _ (c .before .before .before .before .before .before .before .before .pre .0) _ (c .before .before .before .before .before .read-cursor .ensures) _ (c .before .before .before .columns .ensures) _ _ (λ row. row-goes _ row _) _ (c .before .columns2 .given .1)
 
 same-length-2 : tie.Need-same-length-2
 same-length-2 c = search needs
 
 returns-2 : tie.Need-returns-2
-returns-2 c = arm-absent _ _ _ _ (c .before .before .before .before .before .before .before .before .before .before .before .pre) _ (c .before .before .before .before .before .before .before .before .read-cursor .ensures) _ (c .before .before .before .before .before .before .columns .ensures) _ _ (λ row. row-goes _ row _) (c .before .before .before .before .enum-told .given .1) _ _ (row-empty _ _ _ _ _ _ (c .before .before .store-empty .ensures))
+returns-2 c = arm-absent _ _ _ _ (c .before .before .before .before .before .before .before .before .before .before .before .pre .0) _ (c .before .before .before .before .before .before .before .before .read-cursor .ensures) _ (c .before .before .before .before .before .before .columns .ensures) _ _ (λ row. row-goes _ row _) (c .before .before .before .before .enum-told .given .1) _ _ (row-empty _ _ _ _ _ _ (c .before .before .store-empty .ensures))
 
 same-length-3 : tie.Need-same-length-3
 same-length-3 c = search needs
 
 returns-3 : tie.Need-returns-3
-returns-3 c = arm-there _ _ _ _ (c .before .before .before .before .before .before .before .before .before .before .before .before .before .before .pre) _ (c .before .before .before .before .before .before .before .before .before .before .before .read-cursor .ensures) _ (c .before .before .before .before .before .before .before .before .before .columns .ensures) _ _ (λ row. row-goes _ row _) _ (c .before .before .before .before .before .before .before .columns3 .given .1) _ _ (row-there _ _ _ _ _ (head-tag _ _ _ (c .before .before .before .before .before .before .before .before .before .before .before .before .before .before .args .x) (c .before .before .before .before .before .before .before .before .before .before .before .before .before .before .pre) _ (c .before .before .before .before .before .before .before .before .before .before .before .read-cursor .ensures) _ (c .before .before .before .before .before .before .before .before .before .columns .ensures) _ (c .before .before .before .before .before .before .before .columns3 .given .1)) _ (c .before .before .before .before .cell-at .ensures) _ _ (c .before .before .store-from .ensures))
+returns-3 c = arm-there _ _ _ _ (c .before .before .before .before .before .before .before .before .before .before .before .before .before .before .pre .0) _ (c .before .before .before .before .before .before .before .before .before .before .before .read-cursor .ensures) _ (c .before .before .before .before .before .before .before .before .before .columns .ensures) _ _ (λ row. row-goes _ row _) _ (c .before .before .before .before .before .before .before .columns3 .given .1) _ _ (row-there _ _ _ _ _ (head-tag _ _ _ (c .before .before .before .before .before .before .before .before .before .before .before .before .before .before .args .x) (c .before .before .before .before .before .before .before .before .before .before .before .before .before .before .pre .0) _ (c .before .before .before .before .before .before .before .before .before .before .before .read-cursor .ensures) _ (c .before .before .before .before .before .before .before .before .before .columns .ensures) _ (c .before .before .before .before .before .before .before .columns3 .given .1)) _ (c .before .before .before .before .cell-at .ensures) _ _ (c .before .before .store-from .ensures))
 
 pub row-data-spec : {M : Type 1} → statement M
 row-data-spec =

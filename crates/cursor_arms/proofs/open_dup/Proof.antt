@@ -35,7 +35,7 @@ same-length-2 : tie.Need-same-length-2
 same-length-2 c = search needs
 
 returns-2 : tie.Need-returns-2
-returns-2 c = dup-absent _ _ _ _ _ (c .before .before .read-cursor .ensures) (c .before .before .before .before .before .pre) (c .enum-told .given .1)
+returns-2 c = dup-absent _ _ _ _ _ (c .before .before .read-cursor .ensures) (c .before .before .before .before .before .pre .0) (c .enum-told .given .1)
 
 same-length-3 : tie.Need-same-length-3
 same-length-3 c = search needs

@@ -26,7 +26,7 @@ enum-known-v-2 c = search needs
 
 -- src/lib.rt:148:25
 insert-from-requires : tie.Need-insert-from-requires
-insert-from-requires c κs = (c .before .before .before .before .before .before .before .pre, got-inside _ _ _ _ (c .before .before .before .before .get .ensures) _ (c .before .before .v2 .given .1) .0, got-inside _ _ _ _ (c .before .before .before .before .get .ensures) _ (c .before .before .v2 .given .1) .1)
+insert-from-requires c κs = (c .before .before .before .before .before .before .before .pre .0, got-inside _ _ _ _ (c .before .before .before .before .get .ensures) _ (c .before .before .v2 .given .1) .0, got-inside _ _ _ _ (c .before .before .before .before .get .ensures) _ (c .before .before .v2 .given .1) .1)
 
 -- src/lib.rt:140:1
 same-length : tie.Need-same-length
@@ -34,7 +34,7 @@ same-length c = search needs
 
 -- src/lib.rt:140:1
 returns : tie.Need-returns
-returns c = insert-bad _ _ _ _ (c .before .before .before .before .before .before .pre) _ (c .before .before .before .get .ensures) _ (c .before .v .given .1)
+returns c = insert-bad _ _ _ _ (c .before .before .before .before .before .before .pre .0) _ (c .before .before .before .get .ensures) _ (c .before .v .given .1)
 
 -- src/lib.rt:140:1
 same-length-2 : tie.Need-same-length-2
@@ -42,7 +42,7 @@ same-length-2 c = search needs
 
 -- src/lib.rt:140:1
 returns-2 : tie.Need-returns-2
-returns-2 c = insert-absent _ _ _ _ (c .before .before .before .before .before .pre) _ (c .before .before .get .ensures) (c .enum-told .given .1)
+returns-2 c = insert-absent _ _ _ _ (c .before .before .before .before .before .pre .0) _ (c .before .before .get .ensures) (c .enum-told .given .1)
 
 -- src/lib.rt:140:1
 same-length-3 : tie.Need-same-length-3
@@ -50,7 +50,7 @@ same-length-3 c = search needs
 
 -- src/lib.rt:140:1
 returns-3 : tie.Need-returns-3
-returns-3 c = insert-there _ _ _ _ (c .before .before .before .before .before .before .before .before .before .before .pre) _ (c .before .before .before .before .before .before .before .get .ensures) _ (c .before .before .before .before .before .v2 .given .1) _ _ (c .before .before .insert-from .ensures)
+returns-3 c = insert-there _ _ _ _ (c .before .before .before .before .before .before .before .before .before .before .pre .0) _ (c .before .before .before .before .before .before .before .get .ensures) _ (c .before .before .before .before .before .v2 .given .1) _ _ (c .before .before .insert-from .ensures)
 
 pub insert-spec : {M : Type 1} → statement M
 insert-spec =

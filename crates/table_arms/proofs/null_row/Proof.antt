@@ -1,4 +1,5 @@
 -- `table_arms::null_row` reads the cursor and changes its columns. Assumes nothing.
+use Rattle.intmap.proofs.StoreLaws.{room-map}
 use Rattle.table_arms.proofs.NullLaws.{null-bad, null-absent, head-within, columns-within, null-there}
 use native.Mathlib.Omega.{arith}
 use borrow.Author.Needs.{needs}
@@ -17,7 +18,7 @@ read-cursor-requires c κs = search needs
 
 -- src/lib.rt:53:9
 columns-requires : tie.Need-columns-requires
-columns-requires c κs = (c .before .before .before .before .pre, c .before .read-cursor .ensures .within)
+columns-requires c κs = (room-map (c .before .before .before .before .pre .0 .current .room), c .before .read-cursor .ensures .within)
 
 -- src/lib.rt:55:19
 enum-known-columns : tie.Need-enum-known-columns
@@ -33,15 +34,15 @@ enum-known-columns-2 c = search needs
 
 -- src/lib.rt:58:17
 cell-at-requires : tie.Need-cell-at-requires
-cell-at-requires c κs = record { within = omega (arith, head-within _ _ (c .before .before .before .before .before .before .before .before .before .pre) _ _ (c .before .before .before .before .columns .ensures) _ (c .before .before .columns3 .given .1)); small = c .before .before .before .before .before .before .before .before .before .pre .small }
+cell-at-requires c κs = record { within = omega (arith, head-within _ _ (room-map (c .before .before .before .before .before .before .before .before .before .pre .0 .current .room)) _ _ (c .before .before .before .before .columns .ensures) _ (c .before .before .columns3 .given .1)); small = c .before .before .before .before .before .before .before .before .before .pre .0 .current .room .small }
 
 -- src/lib.rt:59:32
 add-null-columns : tie.Need-add-null-columns
-add-null-columns c = omega (arith, head-within _ _ (c .before .before .before .before .before .before .before .before .before .before .before .pre) _ _ (c .before .before .before .before .before .before .columns .ensures) _ (c .before .before .before .before .columns3 .given .1), c .before .before .before .before .before .before .before .before .before .before .before .pre .small)
+add-null-columns c = omega (arith, head-within _ _ (room-map (c .before .before .before .before .before .before .before .before .before .before .before .pre .0 .current .room)) _ _ (c .before .before .before .before .before .before .columns .ensures) _ (c .before .before .before .before .columns3 .given .1), c .before .before .before .before .before .before .before .before .before .before .before .pre .0 .current .room .small)
 
 -- src/lib.rt:59:13
 null-columns-requires : tie.Need-null-columns-requires
-null-columns-requires c κs = columns-within _ _ (c .before .before .before .before .before .before .before .before .before .before .before .pre) _ _ (c .before .before .before .before .before .before .columns .ensures) _ (c .before .before .before .before .columns3 .given .1) _ (c .before .cell-at .ensures)
+null-columns-requires c κs = columns-within _ _ (room-map (c .before .before .before .before .before .before .before .before .before .before .before .pre .0 .current .room)) _ _ (c .before .before .before .before .before .before .columns .ensures) _ (c .before .before .before .before .columns3 .given .1) _ (c .before .cell-at .ensures)
 
 -- src/lib.rt:48:1
 same-length : tie.Need-same-length
@@ -49,7 +50,7 @@ same-length c = search needs
 
 -- src/lib.rt:48:1
 returns : tie.Need-returns
-returns c = null-bad _ _ (c .before .before .before .before .before .before .before .before .pre) _ _ (c .before .before .before .before .before .read-cursor .ensures) _ (c .before .before .before .columns .ensures) _ (c .before .columns2 .given .1)
+returns c = null-bad _ _ (room-map (c .before .before .before .before .before .before .before .before .pre .0 .current .room)) _ _ (c .before .before .before .before .before .read-cursor .ensures) _ (c .before .before .before .columns .ensures) _ (c .before .columns2 .given .1)
 
 -- src/lib.rt:48:1
 same-length-2 : tie.Need-same-length-2
@@ -57,7 +58,7 @@ same-length-2 c = search needs
 
 -- src/lib.rt:48:1
 returns-2 : tie.Need-returns-2
-returns-2 c = null-absent _ _ (c .before .before .before .before .before .before .before .pre) _ _ (c .before .before .before .before .read-cursor .ensures) _ (c .before .before .columns .ensures) (c .enum-told .given .1)
+returns-2 c = null-absent _ _ (room-map (c .before .before .before .before .before .before .before .pre .0 .current .room)) _ _ (c .before .before .before .before .read-cursor .ensures) _ (c .before .before .columns .ensures) (c .enum-told .given .1)
 
 -- src/lib.rt:48:1
 same-length-3 : tie.Need-same-length-3
@@ -65,7 +66,7 @@ same-length-3 c = search needs
 
 -- src/lib.rt:48:1
 returns-3 : tie.Need-returns-3
-returns-3 c = null-there _ _ (c .before .before .before .before .before .before .before .before .before .before .before .before .before .before .pre) _ _ (c .before .before .before .before .before .before .before .before .before .before .before .read-cursor .ensures) _ (c .before .before .before .before .before .before .before .before .before .columns .ensures) _ (c .before .before .before .before .before .before .before .columns3 .given .1) _ _ (c .before .before .before .before .cell-at .ensures) (c .before .before .null-columns .ensures)
+returns-3 c = null-there _ _ (room-map (c .before .before .before .before .before .before .before .before .before .before .before .before .before .before .pre .0 .current .room)) _ _ (c .before .before .before .before .before .before .before .before .before .before .before .read-cursor .ensures) _ (c .before .before .before .before .before .before .before .before .before .columns .ensures) _ (c .before .before .before .before .before .before .before .columns3 .given .1) _ _ (c .before .before .before .before .cell-at .ensures) (c .before .before .null-columns .ensures)
 
 pub null-row-spec : {M : Type 1} → statement M
 null-row-spec =

@@ -1,6 +1,6 @@
 -- `walk::take_turn`: charged, closed or handled, and followed. Assumes nothing.
 use native.Mathlib.Omega.{arith}
-use Rattle.walk.proofs.TurnLaws.{may-charge, may-count, row-inside, is-ready, is-row, is-blocks, rows-fit, limit-fits, may-stop, closed-walking, turns-closed, handled-turning, handled-may, turns-handled}
+use Rattle.walk.proofs.TurnLaws.{may-charge, may-count, row-inside, is-ready, is-blocks, rows-fit, limit-fits, may-stop, closed-walking, turns-closed, handled-turning, handled-may, turns-handled}
 use borrow.Author.Needs.{needs}
 use Rattle.walk.proofs.take_turn.Statement.{statement}
 use Rattle.walk.proofs.take_turn.Tie as tie
@@ -65,7 +65,7 @@ row-at-requires c κs = row-inside (c .before .before .before .before .before .b
 
 -- src/lib.rt:363:9
 handle-requires : tie.Need-handle-requires
-handle-requires c κs = (is-ready (c .before .before .before .before .before .before .before .before .before .before .before .before .before .before .before .before .before .before .pre .holds) _ (c .before .before .before .before .before .before .before .before .before .before .before .before .before .before .before .before .before .slice-known .given) (c .before .before .before .slice-known4 .given) (c .before .before .before .before .before .raise-count .ensures) _ (c .before .row-at .ensures), rows-fit (c .before .before .before .before .before .before .before .before .before .before .before .before .before .before .before .before .before .before .pre .holds) _ (c .before .before .before .before .before .before .before .before .before .before .before .before .before .before .before .before .before .slice-known .given) (c .before .before .before .slice-known4 .given) (c .before .before .before .before .before .raise-count .ensures), limit-fits (c .before .before .before .before .before .before .before .before .before .before .before .before .before .before .before .before .before .before .pre .holds) _ (c .before .before .before .before .before .before .before .before .before .before .before .before .before .before .before .before .before .slice-known .given) (c .before .before .before .slice-known4 .given) (c .before .before .before .before .before .raise-count .ensures), is-row (c .before .before .before .before .before .before .before .before .before .before .before .before .before .before .before .before .before .before .pre .holds) _ (c .before .before .before .before .before .before .before .before .before .before .before .before .before .before .before .before .before .slice-known .given) (c .before .before .before .slice-known4 .given) (c .before .before .before .before .before .raise-count .ensures) _ (c .before .row-at .ensures), is-blocks (c .before .before .before .before .before .before .before .before .before .before .before .before .before .before .before .before .before .before .pre .holds))
+handle-requires c κs = (is-ready (c .before .before .before .before .before .before .before .before .before .before .before .before .before .before .before .before .before .before .pre .holds) _ (c .before .before .before .before .before .before .before .before .before .before .before .before .before .before .before .before .before .slice-known .given) (c .before .before .before .slice-known4 .given) (c .before .before .before .before .before .raise-count .ensures) _ (c .before .row-at .ensures), rows-fit (c .before .before .before .before .before .before .before .before .before .before .before .before .before .before .before .before .before .before .pre .holds) _ (c .before .before .before .before .before .before .before .before .before .before .before .before .before .before .before .before .before .slice-known .given) (c .before .before .before .slice-known4 .given) (c .before .before .before .before .before .raise-count .ensures), limit-fits (c .before .before .before .before .before .before .before .before .before .before .before .before .before .before .before .before .before .before .pre .holds) _ (c .before .before .before .before .before .before .before .before .before .before .before .before .before .before .before .before .before .slice-known .given) (c .before .before .before .slice-known4 .given) (c .before .before .before .before .before .raise-count .ensures), is-blocks (c .before .before .before .before .before .before .before .before .before .before .before .before .before .before .before .before .before .before .pre .holds))
 
 -- src/lib.rt:364:5
 follow-requires : tie.Need-follow-requires
