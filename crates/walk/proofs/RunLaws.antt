@@ -249,3 +249,6 @@ module _ {p : Program} {blocks xs ys cols dols : List ℕ} {w v : Walk} {s m : M
 
       as-goes : Turns p blocks ys zs dols eols v m (turned.Goes (front.OnRow (chargeOne v) n))
       as-goes = record { says = λ g f h. as-stays .says g f h; bytes = as-stays .bytes; columns = as-stays .columns }
+
+  pub runs-as : (zs eols : List ℕ) (u u' : Walk) (n n' : MemoryState) (k : ℕ) → u' ≡ u → n' ≡ n → RunsTo p blocks xs zs cols eols w s budget u n k → RunsTo p blocks xs zs cols eols w s budget u' n' k
+  runs-as zs eols u u' n n' k e f h = subst (λ y. RunsTo p blocks xs zs cols eols w s budget y n' k) (sym e) (subst (λ y. RunsTo p blocks xs zs cols eols w s budget u y k) (sym f) h)

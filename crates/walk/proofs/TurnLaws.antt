@@ -337,6 +337,13 @@ abbrev Off : Way → Type 0
 Off way.Nowhere = Unit {0}
 Off (way.To n) = ⊥
 
+pub alone-repeat : (h : Handling) (b s : Way) (q : Bool) → h ≡ handling.Ways b s q → q ≡ true → way.Nowhere ≡ alone h
+alone-repeat h b s q e f = by b ∙ ap (λ z. aloneBy b z s) (sym f) ∙ ap alone (sym e)
+  where
+    by : (b : Way) → way.Nowhere ≡ aloneBy b true s
+    by way.Nowhere = refl
+    by (way.To n) = refl
+
 no-way : (n : MemoryState) → way.Nowhere ≡ way.To n → ⊥
 no-way n e = subst Off e tt
 

@@ -2,7 +2,9 @@
 use borrow.Author.Needs.{needs}
 use native.Mathlib.Omega.{arith}
 use mathlib.Core.Path.{_∙_}
-use Rattle.walk.proofs.RunLaws.{RunsTo, runs-first, runs-standing, may-close, runs-pause, runs-close, runs-refused, runs-ended, runs-next}
+use Rattle.walk.proofs.RunLaws.{RunsTo, runs-first, runs-standing, may-close, runs-pause, runs-close, runs-refused, runs-ended, runs-next, runs-stays, runs-as}
+use Rattle.walk.proofs.TurnLaws.{may-charge}
+use mathlib.Core.Logic.{inl, inr}
 use Rattle.walk.proofs.run.Statement.{statement}
 use Rattle.walk.proofs.run.Tie as tie
 use Rattle.walk.proofs.run.Reads as reads
@@ -16,107 +18,90 @@ Inv-loop area₀ columns₀ blocks p budget v₀ m₀ left₀ area columns v m l
 abbrev μ-loop : tie.MeasureT-loop
 μ-loop area₀ columns₀ blocks p budget v₀ m₀ left₀ area columns v m left = left
 
--- src/lib.rt:402:5
 loop-holds : tie.Need-loop-holds Inv-loop μ-loop
 loop-holds c = runs-first _ _ _ _ _ _ _
 
--- src/lib.rt:404:36
 close-requires : tie.Need-close-requires Inv-loop μ-loop
 close-requires c κs = may-close (c .before .before .before .before .loop .inv) (c .before .before .before .before .before .before .before .before .pre)
 
--- src/lib.rt:404:13
 same-length : tie.Need-same-length Inv-loop μ-loop
 same-length c = c .before .before .before .before .before .loop .inv .bytes
 
--- src/lib.rt:404:13
 same-length-2 : tie.Need-same-length-2 Inv-loop μ-loop
 same-length-2 c = c .before .before .before .before .before .loop .inv .columns
 
--- src/lib.rt:404:13
 returns : tie.Need-returns Inv-loop μ-loop
 returns c = runs-close (c .before .before .before .before .before .loop .inv) _ (omega (arith, c .before .before .if1 .taken)) (c .close .ensures)
 
--- src/lib.rt:406:13
 take-turn-requires : tie.Need-take-turn-requires Inv-loop μ-loop
 take-turn-requires c κs = runs-standing (c .before .before .before .before .before .loop .inv) (c .before .before .before .before .before .before .before .before .before .pre) (omega (arith, c .before .before .if1 .left))
 
--- src/lib.rt:408:24
 enum-known-t : tie.Need-enum-known-t Inv-loop μ-loop
 enum-known-t c = search needs
 
--- src/lib.rt:409:17
 same-length-3 : tie.Need-same-length-3 Inv-loop μ-loop
 same-length-3 c = c .before .before .before .before .before .before .before .take-turn .ensures .bytes ∙ c .before .before .before .before .before .before .before .before .before .before .before .before .before .loop .inv .bytes
 
--- src/lib.rt:409:17
 same-length-4 : tie.Need-same-length-4 Inv-loop μ-loop
 same-length-4 c = c .before .before .before .before .before .before .before .take-turn .ensures .columns ∙ c .before .before .before .before .before .before .before .before .before .before .before .before .before .loop .inv .columns
 
--- src/lib.rt:409:17
 returns-2 : tie.Need-returns-2 Inv-loop μ-loop
 returns-2 c = runs-refused (c .before .before .before .before .before .before .before .before .before .before .before .before .before .loop .inv) (omega (arith, c .before .before .before .before .before .before .before .before .before .before .before .before .loop-test .taken)) (omega (arith, c .before .before .before .before .before .before .before .before .before .before .if1 .left)) _ _ _ (c .before .before .before .before .before .before .before .take-turn .ensures) _ (c .before .t .given .1)
 
--- src/lib.rt:411:24
 enum-known-t-2 : tie.Need-enum-known-t-2 Inv-loop μ-loop
 enum-known-t-2 c = search needs
 
--- src/lib.rt:413:37
+charge-requires : tie.Need-charge-requires Inv-loop μ-loop
+charge-requires c κs = (omega (arith, c .before .before .before .before .before .before .before .before .before .before .if1 .left), may-charge (runs-standing (c .before .before .before .before .before .before .before .before .before .before .before .before .before .loop .inv) (c .before .before .before .before .before .before .before .before .before .before .before .before .before .before .before .before .before .pre) (omega (arith, c .before .before .before .before .before .before .before .before .before .before .if1 .left))))
+
+enum-known-t-3 : tie.Need-enum-known-t-3 Inv-loop μ-loop
+enum-known-t-3 c = search needs
+
 enum-known-f : tie.Need-enum-known-f Inv-loop μ-loop
 enum-known-f c = search needs
 
--- src/lib.rt:414:25
 same-length-5 : tie.Need-same-length-5 Inv-loop μ-loop
 same-length-5 c = c .before .before .before .before .before .before .before .before .before .before .take-turn .ensures .bytes ∙ c .before .before .before .before .before .before .before .before .before .before .before .before .before .before .before .before .loop .inv .bytes
 
--- src/lib.rt:414:25
 same-length-6 : tie.Need-same-length-6 Inv-loop μ-loop
 same-length-6 c = c .before .before .before .before .before .before .before .before .before .before .take-turn .ensures .columns ∙ c .before .before .before .before .before .before .before .before .before .before .before .before .before .before .before .before .loop .inv .columns
 
--- src/lib.rt:414:25
 returns-3 : tie.Need-returns-3 Inv-loop μ-loop
-returns-3 c = runs-ended (c .before .before .before .before .before .before .before .before .before .before .before .before .before .before .before .before .loop .inv) (omega (arith, c .before .before .before .before .before .before .before .before .before .before .before .before .before .before .before .loop-test .taken)) (omega (arith, c .before .before .before .before .before .before .before .before .before .before .before .before .before .if1 .left)) _ _ _ (c .before .before .before .before .before .before .before .before .before .before .take-turn .ensures) _ (c .before .before .before .before .t2 .given .1) _ (c .before .f .given .1)
+returns-3 c = runs-ended (c .before .before .before .before .before .before .before .before .before .before .before .before .before .before .before .before .loop .inv) (omega (arith, c .before .before .before .before .before .before .before .before .before .before .before .before .before .before .before .loop-test .taken)) (omega (arith, c .before .before .before .before .before .before .before .before .before .before .before .before .before .if1 .left)) _ _ _ (c .before .before .before .before .before .before .before .before .before .before .take-turn .ensures) _ (c .before .before .before .before .t3 .given .1) _ (c .before .f .given .1)
 
--- src/lib.rt:416:34
 enum-known-f-2 : tie.Need-enum-known-f-2 Inv-loop μ-loop
 enum-known-f-2 c = search needs
 
--- src/lib.rt:423:9
 sub-left : tie.Need-sub-left Inv-loop μ-loop
-sub-left c = omega (arith, c .before .before .before .before .before .before .before .before .before .before .before .before .before .before .before .loop-test .taken)
+sub-left c = omega (arith, c .before .before .before .before .before .before .before .before .before .before .loop-test .taken)
 
--- src/lib.rt:402:5
 loop-less : tie.Need-loop-less Inv-loop μ-loop
-loop-less c = omega (arith, c .before .before .before .before .before .before .before .before .before .before .before .before .before .before .before .loop-test .taken)
+loop-less c = omega (arith, c .before .before .before .before .before .before .before .before .before .before .loop-test .taken)
 
--- src/lib.rt:402:5
 loop-again : tie.Need-loop-again Inv-loop μ-loop
-loop-again c = runs-next (c .before .before .before .before .before .before .before .before .before .before .before .before .before .before .before .before .loop .inv) (omega (arith, c .before .before .before .before .before .before .before .before .before .before .before .before .before .before .before .loop-test .taken)) (omega (arith, c .before .before .before .before .before .before .before .before .before .before .before .before .before .if1 .left)) _ _ _ (c .before .before .before .before .before .before .before .before .before .before .take-turn .ensures) _ (c .before .before .before .before .t2 .given .1) _ _ (c .before .f2 .given .1)
+loop-again c = elim (c .match .came) [
+  | inl d ↦ runs-as (c .before .before .before .before .before .before .before .before .before .before .before .loop .inv) _ _ _ _ _ _ _ (d .4) (d .5) (runs-stays (c .before .before .before .before .before .before .before .before .before .before .before .loop .inv) (omega (arith, c .before .before .before .before .before .before .before .before .before .before .loop-test .taken)) (omega (arith, c .before .before .before .before .before .before .before .before .if1 .left)) _ _ _ (c .before .before .before .before .before .take-turn .ensures) _ (d .1 .given .1) _ (d .3 .ensures))
+  | inr d ↦ runs-as (c .before .before .before .before .before .before .before .before .before .before .before .loop .inv) _ _ _ _ _ _ _ (d .6) (d .7) (runs-next (c .before .before .before .before .before .before .before .before .before .before .before .loop .inv) (omega (arith, c .before .before .before .before .before .before .before .before .before .before .loop-test .taken)) (omega (arith, c .before .before .before .before .before .before .before .before .if1 .left)) _ _ _ (c .before .before .before .before .before .take-turn .ensures) _ (d .1 .given .1) _ _ (d .4 .given .1))
+]
 
--- src/lib.rt:426:32
 close-requires-2 : tie.Need-close-requires-2 Inv-loop μ-loop
 close-requires-2 c κs = may-close (c .before .before .before .before .loop .inv) (c .before .before .before .before .before .before .before .before .pre)
 
--- src/lib.rt:426:9
 same-length-7 : tie.Need-same-length-7 Inv-loop μ-loop
 same-length-7 c = c .before .before .before .before .before .loop .inv .bytes
 
--- src/lib.rt:426:9
 same-length-8 : tie.Need-same-length-8 Inv-loop μ-loop
 same-length-8 c = c .before .before .before .before .before .loop .inv .columns
 
--- src/lib.rt:426:9
 returns-4 : tie.Need-returns-4 Inv-loop μ-loop
 returns-4 c = runs-close (c .before .before .before .before .before .loop .inv) _ (omega (arith, c .before .before .if2 .taken)) (c .close2 .ensures)
 
--- src/lib.rt:395:1
 same-length-9 : tie.Need-same-length-9 Inv-loop μ-loop
 same-length-9 c = c .before .before .before .loop .inv .bytes
 
--- src/lib.rt:395:1
 same-length-10 : tie.Need-same-length-10 Inv-loop μ-loop
 same-length-10 c = c .before .before .before .loop .inv .columns
 
--- src/lib.rt:395:1
 returns-5 : tie.Need-returns-5 Inv-loop μ-loop
 returns-5 c = runs-pause (c .before .before .before .loop .inv) (omega (arith, c .before .before .loop-test .left)) (omega (arith, c .if2 .left))
 
@@ -137,6 +122,8 @@ run-spec =
     same-length-4
     returns-2
     enum-known-t-2
+    charge-requires
+    enum-known-t-3
     enum-known-f
     same-length-5
     same-length-6

@@ -1,6 +1,7 @@
 -- `walk::take_turn`: charged, closed or handled, and followed. Assumes nothing.
 use native.Mathlib.Omega.{arith}
-use Rattle.walk.proofs.TurnLaws.{may-charge, may-count, row-inside, is-ready, is-blocks, rows-fit, limit-fits, may-stop, closed-walking, turns-closed, handled-turning, handled-may, turns-handled}
+use mathlib.Core.Path.{sym, _∙_}
+use Rattle.walk.proofs.TurnLaws.{may-charge, may-count, row-inside, is-ready, is-blocks, rows-fit, limit-fits, may-stop, closed-walking, turns-closed, handled-turning, handled-may, turns-handled, turns-stays}
 use borrow.Author.Needs.{needs}
 use Rattle.walk.proofs.take_turn.Statement.{statement}
 use Rattle.walk.proofs.take_turn.Tie as tie
@@ -15,73 +16,74 @@ use Rattle.explain.proofs.handle.Reads as handle-reads
 use Rattle.walk.proofs.loop_stop.Reads as loop-stop-reads
 use Rattle.walk.proofs.take_up.Reads as take-up-reads
 
--- src/lib.rt:354:9
 charge-requires : tie.Need-charge-requires
 charge-requires c κs = (c .before .before .before .pre .gas, may-charge (c .before .before .before .pre))
 
--- src/lib.rt:355:14
 sub-k : tie.Need-sub-k
 sub-k c = search needs
 
--- src/lib.rt:356:16
 add-from : tie.Need-add-from
 add-from c = search needs
 
--- src/lib.rt:357:40
 add-count-at : tie.Need-add-count-at
 add-count-at c = search needs
 
--- src/lib.rt:357:9
 count-at-requires : tie.Need-count-at-requires
 count-at-requires c κs = may-count (c .before .before .before .before .before .before .before .before .pre)
 
--- src/lib.rt:359:35
 loop-stop-requires : tie.Need-loop-stop-requires
 loop-stop-requires c κs = may-stop (c .before .before .before .before .before .before .before .before .before .before .pre) _ (c .before .before .before .before .before .before .charge .ensures)
 
--- src/lib.rt:359:27
 take-up-requires : tie.Need-take-up-requires
 take-up-requires c κs = closed-walking (c .before .before .before .before .before .before .before .before .before .before .before .before .pre) _ (c .before .before .before .before .before .before .before .before .charge .ensures) _ (c .before .loop-stop .ensures)
 
--- src/lib.rt:359:9
 same-length : tie.Need-same-length
 same-length c = search needs
 
--- src/lib.rt:359:9
 returns : tie.Need-returns
 returns c = turns-closed (c .before .before .before .before .before .before .before .before .before .before .before .before .before .before .before .pre) _ (c .before .before .before .before .before .before .before .before .before .before .before .charge .ensures) _ _ _ _ (c .before .before .before .before .before .before .count-at .ensures) (c .before .before .before .before .before .if1 .taken) (c .before .before .before .before .loop-stop .ensures) (c .before .before .take-up .ensures)
 
--- src/lib.rt:361:29
 add-raise-count : tie.Need-add-raise-count
 add-raise-count c = search needs
 
--- src/lib.rt:361:5
 raise-count-requires : tie.Need-raise-count-requires
 raise-count-requires c κs = record { inside = may-count (c .before .before .before .before .before .before .before .before .before .before .before .before .pre); below = omega (arith, c .before .before .before .count-at .ensures, c .before .before .if1 .left) }
 
--- src/lib.rt:362:9
 row-at-requires : tie.Need-row-at-requires
 row-at-requires c κs = row-inside (c .before .before .before .before .before .before .before .before .before .before .before .before .before .before .before .before .pre .holds) _ (c .before .before .before .before .before .before .before .before .before .before .before .before .before .before .before .slice-known .given) (c .before .slice-known4 .given) (c .before .before .before .raise-count .ensures)
 
--- src/lib.rt:363:9
 handle-requires : tie.Need-handle-requires
 handle-requires c κs = (is-ready (c .before .before .before .before .before .before .before .before .before .before .before .before .before .before .before .before .before .before .pre .holds) _ (c .before .before .before .before .before .before .before .before .before .before .before .before .before .before .before .before .before .slice-known .given) (c .before .before .before .slice-known4 .given) (c .before .before .before .before .before .raise-count .ensures) _ (c .before .row-at .ensures), rows-fit (c .before .before .before .before .before .before .before .before .before .before .before .before .before .before .before .before .before .before .pre .holds) _ (c .before .before .before .before .before .before .before .before .before .before .before .before .before .before .before .before .before .slice-known .given) (c .before .before .before .slice-known4 .given) (c .before .before .before .before .before .raise-count .ensures), limit-fits (c .before .before .before .before .before .before .before .before .before .before .before .before .before .before .before .before .before .before .pre .holds) _ (c .before .before .before .before .before .before .before .before .before .before .before .before .before .before .before .before .before .slice-known .given) (c .before .before .before .slice-known4 .given) (c .before .before .before .before .before .raise-count .ensures), is-blocks (c .before .before .before .before .before .before .before .before .before .before .before .before .before .before .before .before .before .before .pre .holds))
 
--- src/lib.rt:364:5
-follow-requires : tie.Need-follow-requires
-follow-requires c κs = (handled-turning (c .before .before .before .before .before .before .before .before .before .before .before .before .before .before .before .before .before .before .before .before .before .before .before .pre) _ (c .before .before .before .before .before .before .before .before .before .before .before .before .before .before .before .before .before .before .before .charge .ensures) _ _ (c .before .before .before .before .before .before .before .before .before .before .before .before .before .before .before .before .before .before .before .before .before .before .slice-known .given) (c .before .before .before .before .before .before .before .before .slice-known4 .given) (c .before .before .slice-known5 .given) (c .before .before .before .before .before .before .before .before .before .before .raise-count .ensures) (c .before .before .before .before .handle .kept .1 .0) _ (c .before .before .before .before .before .before .row-at .ensures) _ _ (c .before .before .before .before .before .before .before .before .before .before .before .before .before .before .count-at .ensures) (c .before .before .before .before .handle .ensures), handled-may (c .before .before .before .before .before .before .before .before .before .before .before .before .before .before .before .before .before .before .before .before .before .before .before .pre) _ (c .before .before .before .before .before .before .before .before .before .before .before .before .before .before .before .before .before .before .before .charge .ensures) _ _ (c .before .before .before .before .before .before .before .before .before .before .before .before .before .before .before .before .before .before .before .before .before .before .slice-known .given) (c .before .before .before .before .before .before .before .before .slice-known4 .given) (c .before .before .slice-known5 .given) (c .before .before .before .before .before .before .before .before .before .before .raise-count .ensures) (c .before .before .before .before .handle .kept .1 .0) _ (c .before .before .before .before .before .before .row-at .ensures) _ _ (c .before .before .before .before .before .before .before .before .before .before .before .before .before .before .count-at .ensures) (c .before .before .before .before .handle .ensures))
+alone-requires : tie.Need-alone-requires
+alone-requires c κs = search needs
 
--- src/lib.rt:350:1
+enum-known-on : tie.Need-enum-known-on
+enum-known-on c = search needs
+
+in-listing-requires : tie.Need-in-listing-requires
+in-listing-requires c κs = search needs
+
 same-length-2 : tie.Need-same-length-2
 same-length-2 c = search needs
 
--- src/lib.rt:350:1
+returns-2 : tie.Need-returns-2
+returns-2 c = turns-stays (c .before .before .before .before .before .before .before .before .before .before .before .before .before .before .before .before .before .before .before .before .before .before .before .before .before .before .before .pre) _ (c .before .before .before .before .before .before .before .before .before .before .before .before .before .before .before .before .before .before .before .before .before .before .before .charge .ensures) _ _ (c .before .before .before .before .before .before .before .before .before .before .before .before .before .before .before .before .before .before .before .before .before .before .before .before .before .before .slice-known .given) (c .before .before .before .before .before .before .before .before .before .before .before .before .slice-known4 .given) (c .before .before .before .before .before .before .slice-known5 .given) (c .before .before .before .before .before .before .before .before .before .before .before .before .before .before .raise-count .ensures) (c .before .before .before .before .before .before .before .before .handle .kept .1 .0) _ (c .before .before .before .before .before .before .before .before .before .before .row-at .ensures) _ _ (c .before .before .before .before .before .before .before .before .before .before .before .before .before .before .before .before .before .before .count-at .ensures) (c .before .before .before .before .before .before .before .before .handle .ensures) _ _ (c .before .before .before .before .before .alone .ensures) (c .before .before .before .on .given .1) (sym (c .before .in-listing .ensures) ∙ c .if2 .taken) (c .before .before .before .before .before .before .before .before .before .before .before .before .before .before .before .before .before .if1 .left)
+
+enum-told : tie.Need-enum-told
+enum-told c = search needs
+
+follow-requires : tie.Need-follow-requires
+follow-requires c κs = (handled-turning (c .before .before .before .before .before .before .before .before .before .before .before .before .before .before .before .before .before .before .before .before .before .before .before .before .before .pre) _ (c .before .before .before .before .before .before .before .before .before .before .before .before .before .before .before .before .before .before .before .before .before .charge .ensures) _ _ (c .before .before .before .before .before .before .before .before .before .before .before .before .before .before .before .before .before .before .before .before .before .before .before .before .slice-known .given) (c .before .before .before .before .before .before .before .before .before .before .slice-known4 .given) (c .before .before .before .before .slice-known5 .given) (c .before .before .before .before .before .before .before .before .before .before .before .before .raise-count .ensures) (c .before .before .before .before .before .before .handle .kept .1 .0) _ (c .before .before .before .before .before .before .before .before .row-at .ensures) _ _ (c .before .before .before .before .before .before .before .before .before .before .before .before .before .before .before .before .count-at .ensures) (c .before .before .before .before .before .before .handle .ensures), handled-may (c .before .before .before .before .before .before .before .before .before .before .before .before .before .before .before .before .before .before .before .before .before .before .before .before .before .pre) _ (c .before .before .before .before .before .before .before .before .before .before .before .before .before .before .before .before .before .before .before .before .before .charge .ensures) _ _ (c .before .before .before .before .before .before .before .before .before .before .before .before .before .before .before .before .before .before .before .before .before .before .before .before .slice-known .given) (c .before .before .before .before .before .before .before .before .before .before .slice-known4 .given) (c .before .before .before .before .slice-known5 .given) (c .before .before .before .before .before .before .before .before .before .before .before .before .raise-count .ensures) (c .before .before .before .before .before .before .handle .kept .1 .0) _ (c .before .before .before .before .before .before .before .before .row-at .ensures) _ _ (c .before .before .before .before .before .before .before .before .before .before .before .before .before .before .before .before .count-at .ensures) (c .before .before .before .before .before .before .handle .ensures))
+
 same-length-3 : tie.Need-same-length-3
 same-length-3 c = search needs
 
--- src/lib.rt:350:1
-returns-2 : tie.Need-returns-2
-returns-2 c = turns-handled (c .before .before .before .before .before .before .before .before .before .before .before .before .before .before .before .before .before .before .before .before .before .before .before .before .before .before .before .before .pre) _ (c .before .before .before .before .before .before .before .before .before .before .before .before .before .before .before .before .before .before .before .before .before .before .before .before .charge .ensures) _ _ (c .before .before .before .before .before .before .before .before .before .before .before .before .before .before .before .before .before .before .before .before .before .before .before .before .before .before .before .slice-known .given) (c .before .before .before .before .before .before .before .before .before .before .before .before .before .slice-known4 .given) (c .before .before .before .before .before .before .before .slice-known5 .given) (c .before .before .before .before .before .before .before .before .before .before .before .before .before .before .before .raise-count .ensures) (c .before .before .before .before .before .before .before .before .before .handle .kept .1 .0) _ (c .before .before .before .before .before .before .before .before .before .before .before .row-at .ensures) _ _ (c .before .before .before .before .before .before .before .before .before .before .before .before .before .before .before .before .before .before .before .count-at .ensures) (c .before .before .before .before .before .before .before .before .before .handle .ensures) _ _ _ (c .before .before .before .before .before .before .before .before .before .before .before .before .before .before .before .before .before .before .if1 .left) (c .before .before .before .before .follow .ensures)
+same-length-4 : tie.Need-same-length-4
+same-length-4 c = search needs
+
+returns-3 : tie.Need-returns-3
+returns-3 c = turns-handled (c .before .before .before .before .before .before .before .before .before .before .before .before .before .before .before .before .before .before .before .before .before .before .before .before .before .before .before .before .before .before .pre) _ (c .before .before .before .before .before .before .before .before .before .before .before .before .before .before .before .before .before .before .before .before .before .before .before .before .before .before .charge .ensures) _ _ (c .before .before .before .before .before .before .before .before .before .before .before .before .before .before .before .before .before .before .before .before .before .before .before .before .before .before .before .before .before .slice-known .given) (c .before .before .before .before .before .before .before .before .before .before .before .before .before .before .before .slice-known4 .given) (c .before .before .before .before .before .before .before .before .before .slice-known5 .given) (c .before .before .before .before .before .before .before .before .before .before .before .before .before .before .before .before .before .raise-count .ensures) (c .before .before .before .before .before .before .before .before .before .before .before .handle .kept .1 .0) _ (c .before .before .before .before .before .before .before .before .before .before .before .before .before .row-at .ensures) _ _ (c .before .before .before .before .before .before .before .before .before .before .before .before .before .before .before .before .before .before .before .before .before .count-at .ensures) (c .before .before .before .before .before .before .before .before .before .before .before .handle .ensures) _ _ _ (c .before .before .before .before .before .before .before .before .before .before .before .before .before .before .before .before .before .before .before .before .if1 .left) (c .before .before .before .before .follow .ensures)
 
 pub take-turn-spec : {M : Type 1} → statement M
 take-turn-spec =
@@ -100,7 +102,13 @@ take-turn-spec =
     raise-count-requires
     row-at-requires
     handle-requires
-    follow-requires
+    alone-requires
+    enum-known-on
+    in-listing-requires
     same-length-2
+    returns-2
+    enum-told
+    follow-requires
     same-length-3
-    returns-2)
+    same-length-4
+    returns-3)
