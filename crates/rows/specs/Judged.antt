@@ -25,6 +25,7 @@ abbrev pub listed : List ℕ → ℕ → ℕ → ℕ → List ℕ → Listed
 listed op p1 p2 p3 p4 = record { op = op; p1 = intOf p1; p2 = intOf p2; p3 = intOf p3; p4 = p4 }
 
 -- what a P4 that is not UTF-8 names is not asked: it is refused
+-- (`other` makes its numbers 0, so that one judged row stands for each row)
 pub record Judged (x : Listed) (r : Row) : Type 0 where
   pub fits : Fits r
   pub op : IsOpcode (operationOf (x .op)) (r .op)
