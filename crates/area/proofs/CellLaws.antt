@@ -1,5 +1,6 @@
 -- Laws of specs/Cells.antt: how many cells there are, and what a store of a cell or of a byte does to each. Assumes nothing.
 use mathlib.Core.Path.{_≡_, sym, ap, ap₂, _∙_}
+use mathlib.Core.Logic.{inr}
 use mathlib.Core.List.{List}
 use Prim.Native.Nat.{ℕ, _+_, _*_, _/_, _<_, _≤_}
 use native.Mathlib.Omega.{arith}
@@ -60,14 +61,15 @@ cells-set xs ys i h p lt e =
 pub cell-put :
     (xs us ys : List ℕ) (i h p : ℕ) →
     Inside xs i 1 →
-    WordsNow xs us (set (words xs) (i * 2) h) →
-    WordsNow us ys (set (words us) (i * 2 + 1) p) →
+    WordsNow xs us (i * 2) h →
+    WordsNow us ys (i * 2 + 1) p →
     CellsNow xs ys (set (cells xs) i (cell h p))
 cell-put xs us ys i h p inside first second =
     let len : length ys ≡ length xs = second .bytes ∙ first .bytes in
     record {
       same = cells-kept xs ys len;
       bytes = len;
+      rest = λ j le. second .others j (inr (omega arith)) ∙ first .others j (inr (omega arith));
       cells = cells-set xs ys i h p (omega arith) (second .words ∙ ap (λ l. set l (i * 2 + 1) p) (first .words));
     }
 

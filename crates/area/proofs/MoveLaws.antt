@@ -24,7 +24,7 @@ moved-same cs f zero = refl
 moved-same cs f (suc n) = ap (λ l. set l (f + n) (getD cs (f + n) blank)) (moved-same cs f n) ∙ set-getD cs (f + n) blank
 
 pub moved-nowhere : (xs : List ℕ) (f t n : ℕ) → t ≡ f → CellsNow xs xs (moved (cells xs) f t n)
-moved-nowhere xs f t n e = record { same = refl; bytes = refl; cells = sym (ap (λ x. moved (cells xs) f x n) e ∙ moved-same (cells xs) f n) }
+moved-nowhere xs f t n e = record { same = refl; bytes = refl; rest = λ j le. refl; cells = sym (ap (λ x. moved (cells xs) f x n) e ∙ moved-same (cells xs) f n) }
 
 -- what is not written is as it was
 pub moved-below : (cs : List Cell) (f t n j : ℕ) → j < t → getD (moved cs f t n) j blank ≡ getD cs j blank
@@ -53,7 +53,7 @@ moved-none cs f t n e = rw e
 
 -- nothing is moved yet
 pub turn-first : (xs : List ℕ) (f t n : ℕ) → n ≡ 0 → CellsNow xs xs (moved (cells xs) f t n)
-turn-first xs f t n e = record { same = refl; bytes = refl; cells = moved-none (cells xs) f t n e }
+turn-first xs f t n e = record { same = refl; bytes = refl; rest = λ j le. refl; cells = moved-none (cells xs) f t n e }
 
 -- one cell more after the last, and before the first
 last : (cs : List Cell) (f t n : ℕ) → set (moved cs f t n) (t + n) (getD cs (f + n) blank) ≡ moved cs f t (n + 1)
@@ -81,6 +81,7 @@ turn-down xs ys zs c f t i le done read put =
     record {
       same = put .same ∙ done .same;
       bytes = put .bytes ∙ done .bytes;
+      rest = λ j le. put .rest j (omega (arith, done .same)) ∙ done .rest j le;
       cells = put .cells ∙ ap₂ (λ l d. set l (t + i) d) (done .cells) was ∙ last cs f t i;
     }
 
@@ -103,6 +104,7 @@ turn-up xs ys zs c f t n i le lt most done read put =
     record {
       same = put .same ∙ done .same;
       bytes = put .bytes ∙ done .bytes;
+      rest = λ j le. put .rest j (omega (arith, done .same)) ∙ done .rest j le;
       cells = put .cells ∙ ap₂ (λ l d. set l (t + (i - 1)) d) (done .cells) was ∙ rw (p, q, r) (first cs (f + (i - 1)) (t + (i - 1)) (n - i));
     }
 

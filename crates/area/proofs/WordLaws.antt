@@ -1,5 +1,6 @@
 -- Laws of specs/Words.antt: how many words there are, and what a store of a word or of a byte does to each. Assumes nothing.
 use mathlib.Core.Path.{_≡_, refl, sym, ap, ap₂, _∙_}
+use mathlib.Core.Logic.{_⊎_, inl, inr}
 use mathlib.Core.List.{List, _∷_}
 use Prim.Native.Nat.{ℕ, zero, suc, _+_, _-_, _*_, _/_, _%_, _<_, _≤_}
 use native.Mathlib.Omega.{arith}
@@ -166,7 +167,7 @@ withBytes-none xs p zero v le = refl
 withBytes-none xs p (suc n) v le = absurd (omega arith)
 
 -- the eight bytes of v written make v the word there
-pub words-set : (xs ys : List ℕ) (i v : ℕ) → i < length (words xs) → v < 18446744073709551616 → ys ≡ withBytes xs (i * 8) 8 v → WordsNow xs ys (set (words xs) i v)
+pub words-set : (xs ys : List ℕ) (i v : ℕ) → i < length (words xs) → v < 18446744073709551616 → ys ≡ withBytes xs (i * 8) 8 v → WordsNow xs ys i v
 unfolding words full from
 words-set xs ys i v lt small e =
     let len : length ys ≡ length xs = ap length e ∙ length-withBytes xs (i * 8) 8 v in
@@ -176,9 +177,14 @@ words-set xs ys i v lt small e =
     record {
       same = words-kept xs ys len;
       bytes = len;
+      others = λ j out. ap (λ zs. getD zs j 0) e ∙ withBytes-other xs (i * 8) 8 v j (λ k small q. apart j k small q out);
       words =
           ap (λ n. tabulate (n / 8) (λ j. number (eight ys (j * 8)))) len
           ∙ tabulate-set (length xs / 8) (λ j. number (eight xs (j * 8))) (λ j. number (eight ys (j * 8))) i (omega (arith, length-words xs))
           (λ j l ne. eight-same xs ys (j * 8) (λ k small. ap (λ zs. getD zs (j * 8 + k) 0) e ∙ withBytes-other xs (i * 8) 8 v (j * 8 + k) (λ m s q. ne (omega arith))))
           ∙ ap (set (words xs) i) read;
     }
+  where
+    apart : (j k : ℕ) → k < 8 → j ≡ i * 8 + k → (j < i * 8) ⊎ (i * 8 + 8 ≤ j) → ⊥
+    apart j k small q (inl lt) = omega arith
+    apart j k small q (inr le) = omega arith

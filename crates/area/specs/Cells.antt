@@ -29,8 +29,9 @@ pub record WordInside (xs : List ℕ) (i : ℕ) : Type 0 where
   pub within : i < length (words xs)
   pub small : length (cells xs) ≤ 1048576
 
--- a store of cells: cs are the cells now, and nothing grew or shrank
+-- a store of cells: cs are the cells now, no byte past them is another, and nothing grew or shrank
 pub record CellsNow (entry exit : List ℕ) (cs : List Cell) : Type 0 where
   pub same : length (cells exit) ≡ length (cells entry)
   pub bytes : length exit ≡ length entry
+  pub rest : (j : ℕ) → length (cells entry) * 16 ≤ j → getD exit j 0 ≡ getD entry j 0
   pub cells : cells exit ≡ cs

@@ -1,7 +1,8 @@
 -- The bytes of the area as 64-bit words, least byte first; bytes past the last whole word are in no word. Assumes nothing.
 use mathlib.Core.Path.{_≡_}
+use mathlib.Core.Logic.{_⊎_}
 use mathlib.Core.List.{List, [], _∷_}
-use Prim.Native.Nat.{ℕ, zero, suc, _+_, _*_, _/_, _%_}
+use Prim.Native.Nat.{ℕ, zero, suc, _+_, _*_, _/_, _%_, _<_, _≤_}
 use lib.ListN.{length, getD, set}
 
 -- f 0, f 1 and so on, n of them
@@ -26,8 +27,9 @@ unfoldable pub withBytes : List ℕ → ℕ → ℕ → ℕ → List ℕ
 withBytes xs p zero v = xs
 withBytes xs p (suc n) v = withBytes (set xs p (v % 256)) (p + 1) n (v / 256)
 
--- a store of words: ws are the words now, and nothing grew or shrank
-pub record WordsNow (entry exit ws : List ℕ) : Type 0 where
+-- a store of the word at i: it is v now, no byte outside it is another, and nothing grew or shrank
+pub record WordsNow (entry exit : List ℕ) (i v : ℕ) : Type 0 where
   pub same : length (words exit) ≡ length (words entry)
   pub bytes : length exit ≡ length entry
-  pub words : words exit ≡ ws
+  pub others : (j : ℕ) → (j < i * 8) ⊎ (i * 8 + 8 ≤ j) → getD exit j 0 ≡ getD entry j 0
+  pub words : words exit ≡ set (words entry) i v

@@ -74,7 +74,7 @@ pub fn word_at(area: &[u8], i: usize) -> u64
 // Makes v the word at i.
 pub fn put_word(area: &mut [u8], i: usize, v: u64)
     requires { ⌜ WordInside (now area) i ⌝ }
-    ensures { λ _. ⌜ WordsNow (now (area .entry)) (now (area .exit)) (set (words (now (area .entry))) i v) ⌝ }
+    ensures { λ _. ⌜ WordsNow (now (area .entry)) (now (area .exit)) i v ⌝ }
 {
     put_from(area, i * 8, v);
 }

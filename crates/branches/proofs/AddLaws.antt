@@ -64,6 +64,7 @@ module _ (limit n counts : ℕ) (xs : List ℕ) (b : BranchList) (s : MemoryStat
             let e = known-true m ks (f .kept) (f .among) (at-equal limit bound n xs s m (f .kept) (ok .offers .map) held (r .kept (f .kept) (f .among)) (f .there)) in
             inl (judged n m ks (length (cells xs) - b .top) true _ e refl, record { same = refl; remembers = r });
         below = record { long = refl; same = λ j lt. refl };
+        writes = (λ e. refl, λ j le. refl);
         bytes = refl;
       }
 
@@ -80,6 +81,7 @@ module _ (limit n counts : ℕ) (xs : List ℕ) (b : BranchList) (s : MemoryStat
               judged n m ks (length (cells xs) - b .top) false false (unknown bound ks ws m r held)
               (lt-leb (unitsFor n m) (length (cells xs) - b .top) (omega (arith, length-cells xs, held-used limit bound (cells xs) _ _ _ m (held .map), r .inside)));
           below = record { long = refl; same = λ j lt. refl };
+          writes = refl;
           bytes = refl;
         }
 
@@ -371,10 +373,12 @@ module _ (limit n counts : ℕ) (xs : List ℕ) (b : BranchList) (s : MemoryStat
                   remembers = added limit n counts xs us ys b s h at bits ok is fits saves links small less few bound ks ws m past r held counted found;
                 },
               );
-          below = record { long = cells-kept xs ys (links .bytes ∙ saves .bytes); same = λ j lt. kept j lt (ℕ-discrete at 0) ∙ saves .below .same j (omega (arith, low-top)) };
+          below = record { long = cells-kept xs ys (links .bytes ∙ saves .bytes); same = λ j lt. kept j (inl lt) (ℕ-discrete at 0) ∙ saves .below .same j (omega (arith, low-top)) };
+          writes = (λ e. absurd (omega (arith, ap (λ (c : BranchList). c .top) e)), λ j le. kept j (inr (omega arith)) (ℕ-discrete at 0) ∙ saves .above j le);
           bytes = links .bytes ∙ saves .bytes;
         }
       where
-        kept : (j : ℕ) → j < b .first → Dec (at ≡ 0) → getD (cells ys) j blank ≡ getD (cells us) j blank
+        kept : (j : ℕ) → (j < b .first) ⊎ (b .top + 2 ≤ j) → Dec (at ≡ 0) → getD (cells ys) j blank ≡ getD (cells us) j blank
         kept j lt (yes z) = ap (λ (l : List Cell). getD l j blank) (links .none z)
-        kept j lt (no ne) = links .linked ne .elsewhere j (λ e. omega (arith, free-link .low ne))
+        kept j (inl lt) (no ne) = links .linked ne .elsewhere j (λ e. omega (arith, free-link .low ne))
+        kept j (inr le) (no ne) = links .linked ne .elsewhere j (λ e. omega (arith, free-link .high))

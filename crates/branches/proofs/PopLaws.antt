@@ -49,7 +49,7 @@ none-waits limit bound n xs b ks (k ∷ ws) e r =
     absurd (omega (arith, r .waiting .0, blocks-span (cells xs) n (b .first) (b .top) ks (r .blocks) k (r .among k (inl refl)) .0, r .positive))
 
 pub pop-none : (xs : List ℕ) (b : BranchList) → b .last ≡ 0 → PopsAny xs b popped.Nothing
-pop-none xs b e = record { pops = λ limit n. record { says = λ bound ks ws r. none-waits limit bound n xs b ks ws e r } }
+pop-none xs b e = record { none = λ z. refl; latest = λ ne. absurd (ne e); pops = λ limit n. record { says = λ bound ks ws r. none-waits limit bound n xs b ks ws e r } }
 
 -- the latest is taken, and the one behind it is the latest then
 takes : (limit bound n : ℕ) (xs : List ℕ) (b : BranchList) (next : ℕ) (ks ws : List Kept) → (b .last ≡ 0 → ⊥) → next ≡ nextAt (cells xs) (b .last) → Remembers limit bound n xs b ks ws → Taken limit bound n xs ks ws b (record { first = b .first; top = b .top; last = next }) (b .last)
@@ -82,4 +82,8 @@ takes limit bound n xs b next ks (k ∷ ws) ne e r =
 
 pub pop-one : (xs : List ℕ) (b : BranchList) (c : Cell) → (b .last ≡ 0 → ⊥) → c ≡ getD (cells xs) (b .last + 1) blank → PopsAny xs b (popped.At (record { first = b .first; top = b .top; last = c .payload / half }) (b .last))
 pop-one xs b c ne read =
-    record { pops = λ limit n. record { says = λ bound ks ws r. takes limit bound n xs b (c .payload / half) ks ws ne (ap (λ (x : Cell). x .payload / half) read) r } }
+    record {
+      none = λ e. absurd (ne e);
+      latest = λ z. ap (λ (x : Cell). popped.At (record { first = b .first; top = b .top; last = x .payload / half }) (b .last)) read;
+      pops = λ limit n. record { says = λ bound ks ws r. takes limit bound n xs b (c .payload / half) ks ws ne (ap (λ (x : Cell). x .payload / half) read) r };
+    }

@@ -99,6 +99,7 @@ module _
             long = len;
             same = λ j lt. other j (λ e. omega arith) (λ e. omega arith) ∙ moved-below (cells bs) counts to (countCells n) j (omega arith) ∙ copied .frame .below j (omega arith);
           };
+          above = λ j le. other j (λ e. omega arith) (λ e. omega arith) ∙ moved-above (cells bs) counts to (countCells n) j le ∙ copied .frame .above j (omega arith);
           bytes = two .bytes ∙ one .bytes ∙ moves .bytes ∙ long;
         }
 
@@ -180,12 +181,12 @@ module _
         ∙ moved-in (cells bs) (p + 2 + usedAt (cells xs) p) counts (countCells n) j (omega (arith, len, ok .whole, ok .below)) lt
         ∙ copied .frame .above (p + 2 + usedAt (cells xs) p + j) (omega (arith, ok .most, ok .apart, ok .below))
 
-    outside : (j : ℕ) → (j < base) ⊎ (base + limit ≤ j) → (j < counts) ⊎ (counts + countCells n ≤ j) → getD (cells ys) j blank ≡ getD (cells xs) j blank
+    outside : (j : ℕ) → (j < base) ⊎ (base + usedAt (cells xs) p ≤ j) → (j < counts) ⊎ (counts + countCells n ≤ j) → getD (cells ys) j blank ≡ getD (cells xs) j blank
     outside j a b = ap (λ (l : List Cell). getD l j blank) (moves .cells) ∙ second b ∙ first a
       where
-        first : (j < base) ⊎ (base + limit ≤ j) → getD (cells bs) j blank ≡ getD (cells xs) j blank
+        first : (j < base) ⊎ (base + usedAt (cells xs) p ≤ j) → getD (cells bs) j blank ≡ getD (cells xs) j blank
         first (inl lt) = copied .frame .below j lt
-        first (inr le) = copied .frame .above j (omega (arith, ok .most))
+        first (inr le) = copied .frame .above j le
 
         second : (j < counts) ⊎ (counts + countCells n ≤ j) → getD (moved (cells bs) (p + 2 + usedAt (cells xs) p) counts (countCells n)) j blank ≡ getD (cells bs) j blank
         second (inl lt) = moved-below (cells bs) _ counts (countCells n) j lt
@@ -209,8 +210,11 @@ module _
             counted-same xs ys n (p + 2 + usedAt (cells xs) p) counts (k .past) small less (moves .bytes ∙ long) (ok .map .small) (ok .whole) (omega (arith, ok .whole, ok .below)) high
                 (subst (λ (q : ℕ). Counted xs n (q + 2 + usedAt (cells xs) q) (k .past)) at (is .counts)),
           );
-          row = refl;
-          lies = ap (λ (m : IntMap). m .base) e;
+          is = ap (λ (m : IntMap). record { row = rowAt (cells xs) p; map = m }) e;
+          runs = subst (λ (m : IntMap). runsAt (cells ys) m ≡ runsAt (cells xs) (stateAt (cells xs) p .map)) (sym e)
+              (placed-runs (cells bs) (cells ys) (placed base (stateAt (cells xs) p .map)) base kept-map low
+              ∙ subst (λ (m : IntMap). runsAt (cells bs) m ≡ runsAt (cells xs) (stateAt (cells xs) p .map)) e (copied .runs));
+          copied = high;
           room = subst (HasRoom (cells ys) limit) (sym e) (placed-room (cells bs) (cells ys) (placed base (stateAt (cells xs) p .map)) base kept-map low (moves .same) limit (ok .most) (omega (arith, all, ok .whole, ok .apart, ok .below)));
           outside = record { long = all; same = outside };
           bytes = moves .bytes ∙ long;

@@ -9,11 +9,12 @@ use Rattle.area.specs.Counts.{count as countAt}
 use Rattle.area.specs.declared.Cell.{Cell}
 use Rattle.intmap.specs.Map.{runsAt, IsMap}
 use Rattle.state.specs.declared.MemoryState.{MemoryState}
-use Rattle.branches.specs.Header.{half, sizesWord, sizesAt, child, usedAt, stateAt}
+use Rattle.branches.specs.Header.{half, sizesWord, sizesAt, child, usedAt, nextAt, stateAt}
 use Rattle.branches.specs.Entries.{countCells, Remembering}
-use Rattle.branches.specs.Lists.{Offers, Below, Pops}
+use Rattle.branches.specs.Lists.{Offers, Below, Above, Pops}
 use Rattle.branches.specs.declared.BranchList.{BranchList}
 use Rattle.branches.specs.declared.Popped.{Popped}
+use Rattle.branches.specs.declared.Popped.the-variants as popped
 
 -- a state can be pushed, with the counts of n rows below the remembered states
 pub record Pushable (limit n counts : ℕ) (xs : List ℕ) (b : BranchList) (s : MemoryState) : Type 0 where
@@ -39,6 +40,7 @@ pub record Saves (n : ℕ) (xs ys : List ℕ) (p : ℕ) (s : MemoryState) (h nex
   pub runs : runsAt (cells ys) (record { base = p + 2; len = s .map .len; used = s .map .used }) ≡ runsAt (cells xs) (s .map)
   pub counted : (i : ℕ) → i < n → countAt ys (p + 2 + s .map .used) i ≡ countAt xs counts i
   pub below : Below (cells xs) (cells ys) p
+  pub above : Above (cells xs) (cells ys) (p + 2 + s .map .used + countCells n)
   pub bytes : length ys ≡ length xs
 
 -- a link of the one at p, which is free, can lead to q
@@ -67,8 +69,11 @@ pub record Latest (xs : List ℕ) (b : BranchList) : Type 0 where
   pub header : (b .last ≡ 0 → ⊥) → b .last + 2 ≤ length (cells xs)
   pub small : length (cells xs) ≤ 1048576
 
--- whatever the limit and the number of rows
+-- what is popped is told by the link and the header of the latest alone; where states are remembered it is told of them, whatever the limit and
+-- the number of rows
 pub record PopsAny (xs : List ℕ) (b : BranchList) (r : Popped) : Type 0 where
+  pub none : b .last ≡ 0 → r ≡ popped.Nothing
+  pub latest : (b .last ≡ 0 → ⊥) → r ≡ popped.At (record { first = b .first; top = b .top; last = nextAt (cells xs) (b .last) }) (b .last)
   pub pops : (limit n : ℕ) → Pops limit n xs b r
 
 -- the state at p and its counts can be copied below it, to `base` and to `counts`

@@ -35,7 +35,7 @@ use Rattle.answer.specs.declared.Written.the-variants as written
 use Rattle.root_block.specs.Build.{Indexable, Indexed}
 use Rattle.rows.specs.Judged.{HaveRows}
 use Rattle.walk.proofs.BranchLaws.{rows-kept}
-use Rattle.walk.specs.Walks.{HoldsEnd, Few}
+use Rattle.walk.specs.Walks.{Counts, Few}
 use Rattle.walk.specs.declared.Walk.{Walk}
 use Rattle.walk.specs.declared.Progress.{Progress}
 use Rattle.walk.specs.declared.Progress.the-variants as progress
@@ -82,12 +82,12 @@ module _ (cols answer : List ℕ) (x : Progress) where
       subst (λ y. WritesWalk cols y answer answerThen r) (sym e)
       (record {
         says = λ v t.
-            writes .says (columnsOf (t .notes .counted)) (t .end .columns) .is ∙
-            ap (λ a. leave answer (printInto (length answer) a)) (same-answer (t .notes) (t .end)) ∙
+            writes .says (columnsOf (t .notes .counted)) (t .columns) .is ∙
+            ap (λ a. leave answer (printInto (length answer) a)) (same-answer (t .notes) (t .counts)) ∙
             sym (ap (λ u. leave answer (outcomeOf u >>= λ a. printInto (length answer) a)) (t .is));
       })
     where
-      same-answer : (n : Notes Defined ResultRow) → HoldsEnd cols w n → answerWith (w .counts .charged) (w .counts .loopstops) (w .counts .gasstops) (w .counts .repeats) (columnsOf (n .counted)) ≡ answerOf n
+      same-answer : (n : Notes Defined ResultRow) → Counts w n → answerWith (w .counts .charged) (w .counts .loopstops) (w .counts .gasstops) (w .counts .repeats) (columnsOf (n .counted)) ≡ answerOf n
       same-answer n h = rw (h .charged, h .loopstops, h .gasstops, h .repeats)
 
 -- ---- the listing and the catalogue, read
@@ -209,7 +209,7 @@ module _ {catalogue blocks area : List ℕ} {n : ℕ} (m : MayWalk area n) (i : 
           by : (y : Progress) → TellsWalk cols y (walkListing (standard (i .records)) (m .rows) (length area)) → Writable cols y
           by (progress.Paused w s) t = t
           by (progress.Refused k) t = tt
-          by (progress.Ended w) t = (t .end .few, walks .columns)
+          by (progress.Ended w) t = (t .few, walks .columns)
 
       pub answers-walk : (answer answerThen : List ℕ) (q : Written) → WritesWalk cols x answer answerThen q → AnswersRows catalogue area ts answer answerThen n q
       answers-walk answer answerThen q writes =

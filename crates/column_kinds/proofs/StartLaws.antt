@@ -171,7 +171,9 @@ module _ {blocks xs cols : List ℕ} {n : ℕ} (q : Prepared blocks xs cols n) (
         record {
           notes = notes rows (space rows records (length xs));
           is = none-walk;
-          end = record { charged = refl; loopstops = refl; gasstops = refl; repeats = refl; columns = start-list .columns; few = record { charged = omega arith; loopstops = omega arith; gasstops = omega arith; repeats = omega arith; width = omega arith } };
+          counts = start-walk .counts;
+          columns = start-list .columns;
+          few = record { charged = omega arith; loopstops = omega arith; gasstops = omega arith; repeats = omega arith; width = omega arith };
         }
       where
         none-walk : walkListing (standard records) rows (length xs) ≡ answered (notes rows (space rows records (length xs)))
@@ -206,4 +208,4 @@ module _ {blocks xs cols : List ℕ} {n : ℕ} (q : Prepared blocks xs cols n) (
       whole : (x : Progress) (rows : List Listed) (records : List CatalogueRecord) → TellsRun (programOf n) (givenOf rows records) blocks ys dols x (ended (walkListing (standard records) rows (length xs))) → TellsWalk dols x (walkListing (standard records) rows (length xs))
       whole (progress.Paused w s) rows records t = paused-ended (t .is)
       whole (progress.Refused k) rows records t = record { notes = t .notes; is = same-walk (t .is) }
-      whole (progress.Ended w) rows records t = record { notes = t .notes; is = same-walk (t .is); end = t .end }
+      whole (progress.Ended w) rows records t = record { notes = t .notes; is = same-walk (t .is); counts = t .end .walk .counts; columns = t .end .walk .list .columns; few = t .end .few }

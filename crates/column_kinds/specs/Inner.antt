@@ -9,7 +9,7 @@ use lib.ListN.{length, replicate}
 use Rattle.model.specs.Walk.{Notes, Walked, refusedWith, answered}
 use Rattle.model.specs.Row.{Row as Listed}
 use Rattle.model.specs.State.{MemoryState as Defined}
-use Rattle.model.specs.Results.{ResultRow}
+use Rattle.model.specs.Results.{ResultRow, columnsOf}
 use Rattle.model.specs.Catalogue.{CatalogueRecord}
 use Rattle.model.specs.CatalogueText.{readCatalogue}
 use Rattle.root_block.specs.Blocks.{HasBlocks}
@@ -21,9 +21,10 @@ use Rattle.model.specs.Call.{printInto, leave, call}
 use Rattle.area.specs.Cells.{cells}
 use Rattle.area.specs.Counts.{count}
 use Rattle.rows.specs.Judged.{HaveRows}
+use Rattle.merge.specs.Columns.{HasColumns}
 use Rattle.answer.specs.Text.{calledOf}
 use Rattle.answer.specs.declared.Written.{Written}
-use Rattle.walk.specs.Walks.{HoldsEnd, Few}
+use Rattle.walk.specs.Walks.{Counts, Few}
 use Rattle.walk.specs.declared.Walk.{Walk}
 use Rattle.walk.specs.declared.Progress.{Progress}
 use Rattle.walk.specs.declared.Progress.the-variants as progress
@@ -58,7 +59,9 @@ pub record WalkRefused (k : ℕ) (w : Walked Defined ResultRow) : Type 0 where
 pub record WalkAnswered (cols : List ℕ) (e : Walk) (w : Walked Defined ResultRow) : Type 0 where
   pub notes : Notes Defined ResultRow
   pub is : w ≡ answered notes
-  pub end : HoldsEnd cols e notes
+  pub counts : Counts e notes
+  pub columns : HasColumns cols (e .width) (columnsOf (notes .counted))
+  pub few : Few e
 
 abbrev pub TellsWalk : List ℕ → Progress → Walked Defined ResultRow → Type 0
 TellsWalk cols (progress.Paused w s) x = ⊥

@@ -61,6 +61,7 @@ module _ {before after : List ℕ} (from room k : ℕ) (r : Row) where
   put-yes h p = record {
     same = p .same;
     bytes = p .bytes;
+    rest = p .rest;
     cells = p .cells ∙ ap (λ b. setIf b (cells before) (from + k) (cellOf r)) (sym (lt-ltb k room h));
   }
 
@@ -68,6 +69,7 @@ pub put-no : (area : List ℕ) (from room k : ℕ) (r : Row) → room ≤ k → 
 put-no area from room k r h = record {
   same = refl;
   bytes = refl;
+  rest = λ j le. refl;
   cells = ap (λ b. setIf b (cells area) (from + k) (cellOf r)) (sym (le-ltb k room h));
 }
 

@@ -49,14 +49,14 @@ columns-none m i (suc n) h = absurd (omega arith)
 -- in the words of the code
 module _ (i n : ℕ) where
   pub range-none : n ≡ 0 → JudgesRange i n (range.From 0)
-  range-none h = record { says = λ m. columns-none m i n h; within = omega arith }
+  range-none h = record { none = λ e. refl; says = λ m. columns-none m i n h; within = omega arith }
 
   module _ (some : n ≡ 0 → ⊥) where
     pub range-low : i < offset → JudgesRange i n (range.Bad 6)
-    range-low h = record { says = λ m. ap (λ z. readColumns n z m) (int-below i h) ∙ columns-under m n _ some; within = tt }
+    range-low h = record { none = λ e. absurd (some e); says = λ m. ap (λ z. readColumns n z m) (int-below i h) ∙ columns-under m n _ some; within = tt }
 
     pub range-high : offset ≤ i → 65536 < i - offset + n → JudgesRange i n (range.Bad 7)
-    range-high le h = record { says = λ m. ap (λ z. readColumns n z m) (int-above i le) ∙ columns-over m n (i - offset) (omega (arith, some)) h; within = tt }
+    range-high le h = record { none = λ e. absurd (some e); says = λ m. ap (λ z. readColumns n z m) (int-above i le) ∙ columns-over m n (i - offset) (omega (arith, some)) h; within = tt }
 
     pub range-within : offset ≤ i → i - offset + n ≤ 65536 → JudgesRange i n (range.From (i - offset))
-    range-within le h = record { says = λ m. ap (λ z. readColumns n z m) (int-above i le) ∙ columns-read m n (i - offset) h; within = h }
+    range-within le h = record { none = λ e. absurd (some e); says = λ m. ap (λ z. readColumns n z m) (int-above i le) ∙ columns-read m n (i - offset) h; within = h }

@@ -54,7 +54,9 @@ abbrev pub RangeWithin : ℕ → Range → Type 0
 RangeWithin n (range.Bad k) = Unit {0}
 RangeWithin n (range.From first) = first + n ≤ 65536
 
+-- where none is read, the first is 0
 pub record JudgesRange (i n : ℕ) (r : Range) : Type 0 where
+  pub none : n ≡ 0 → r ≡ range.From 0
   pub says : (m : MemoryState) → TellsRange m n r (readColumns n (intOf i) m)
   pub within : RangeWithin n r
 

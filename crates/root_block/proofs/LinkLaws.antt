@@ -63,6 +63,7 @@ link-made xs ys zs i c f b d ce fe s be de u =
     record {
       same = u .same ∙ s .same;
       bytes = u .bytes ∙ s .bytes;
+      rest = λ j le. u .rest j (omega (arith, s .same)) ∙ s .rest j le;
       cells = u .cells ∙ ap (λ x. set (cells ys) b (withFirst (i + 1) x)) de ∙ ap₂ (λ l k. set l k (withFirst (i + 1) (getD l k blank))) followed its;
     }
 

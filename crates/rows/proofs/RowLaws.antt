@@ -85,6 +85,7 @@ module _ (name p4 : List ℕ) (p1 p2 p3 n k : ℕ) (x : P4) (operands : Operand 
         text = sym no;
         function = λ yes. absurd (true≢false (sym yes ∙ no));
         aggregate = λ yes. absurd (true≢false (sym yes ∙ no));
+        other = λ none. (refl, refl, refl);
       }
 
   module _ (f a f′ a′ : ℕ) (e : x ≡ Judged-text f a) (sf : f′ ≡ f) (sa : a′ ≡ a) where
@@ -108,6 +109,7 @@ module _ (name p4 : List ℕ) (p1 p2 p3 n k : ℕ) (x : P4) (operands : Operand 
           text = sym (text-is .isText);
           function = λ yes. function-is;
           aggregate = λ yes. aggregate-is;
+          other = λ no. absurd (true≢false (sym (text-is .isText) ∙ no));
         }
 
 -- the rows stay where their cells do

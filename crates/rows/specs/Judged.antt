@@ -2,7 +2,7 @@
 -- whether it is UTF-8, which function's value and which aggregate it names. 01, "Walk, refusals in order":
 -- "10 P4 not UTF-8 at a handled Function, AggStep, AggValue or AggFinal"; no other arm reads it. Assumes nothing.
 use mathlib.Core.Path.{_≡_}
-use mathlib.Core.Bool.{true}
+use mathlib.Core.Bool.{true, false}
 use mathlib.Core.Option.{some}
 use mathlib.Core.List.{List}
 use Prim.Native.Nat.{ℕ, _+_}
@@ -25,6 +25,7 @@ abbrev pub listed : List ℕ → ℕ → ℕ → ℕ → List ℕ → Listed
 listed op p1 p2 p3 p4 = record { op = op; p1 = intOf p1; p2 = intOf p2; p3 = intOf p3; p4 = p4 }
 
 -- what a P4 that is not UTF-8 names is not asked: it is refused
+-- (`other` makes its numbers 0, so that one judged row stands for each row)
 pub record Judged (x : Listed) (r : Row) : Type 0 where
   pub fits : Fits r
   pub op : IsOpcode (operationOf (x .op)) (r .op)
@@ -34,6 +35,7 @@ pub record Judged (x : Listed) (r : Row) : Type 0 where
   pub text : eqb (r .text) 1 ≡ isUtf8 (x .p4)
   pub function : isUtf8 (x .p4) ≡ true → IsFunction (functionIn builtIn (x .p4)) (r .function)
   pub aggregate : isUtf8 (x .p4) ≡ true → IsAggregate (aggregateOf (x .p4)) (r .aggregate)
+  pub other : isUtf8 (x .p4) ≡ false → (r .text ≡ 0) × (r .function ≡ 0) × (r .aggregate ≡ 0)
 
 -- a row of the listing is judged to this
 pub record IsRow (r : Row) : Type 0 where

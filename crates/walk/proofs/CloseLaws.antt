@@ -104,8 +104,8 @@ module _ {p : Program} {xs : List ℕ} {w v : Walk} (c : Closing p xs w v) where
               let a = c .says g blocks cols ls n h in
               let t = as-nothing .says g blocks cols (a .waiting) (a .notes) (a .holds) in
               let is : closeAll (rowOf (g .rows)) ls n ≡ t .notes = a .same ∙ subst (λ f. ClosedAs g f (closeAll (rowOf (g .rows)) (a .waiting) (a .notes))) (t .is) (closed-as g (a .waiting) (a .notes)) in
-              subst (HoldsEnd cols u) (sym is)
-              (record { charged = t .holds .counts .charged; loopstops = t .holds .counts .loopstops; gasstops = t .holds .counts .gasstops; repeats = t .holds .counts .repeats; columns = t .holds .list .columns; few = few-then (t .holds) (t .holds .counts .gasstops ∙ none-notes g (a .waiting) (a .notes) (t .notes) (t .is) ∙ sym (a .holds .counts .gasstops)) });
+              subst (HoldsEnd p g blocks xs cols u) (sym is)
+              (record { walk = t .holds; few = few-then (t .holds) (t .holds .counts .gasstops ∙ none-notes g (a .waiting) (a .notes) (t .notes) (t .is) ∙ sym (a .holds .counts .gasstops)) });
         }
       where
         few-then : {g : Given} {blocks cols : List ℕ} {ls : List (Lineage Defined)} {n : Notes Defined ResultRow} → HoldsWalk p g blocks xs cols u ls n → u .counts .gasstops ≡ v .counts .gasstops → Few u

@@ -191,7 +191,7 @@ module _ {p : Program} {blocks xs ys cols dols : List ℕ} {w v : Walk} {s m : M
                 record {
                   notes = n .notes;
                   is = b .same ∙ run-goes p g left (v .gas) (b .front) (c .front) some-left gas (c .is) ∙ ap (theRun p g (left - 1) (v .gas - 1)) (n .is) ∙ run-none eqState (rowOf (g .rows)) (ways (meaningOf (p .limit) (g .records)) (g .rows)) (units (g .rows)) (left - 1) (v .gas - 1) (n .notes);
-                  end = record { charged = n .walk .counts .charged; loopstops = n .walk .counts .loopstops; gasstops = n .walk .counts .gasstops; repeats = n .walk .counts .repeats; columns = n .walk .list .columns; few = few-then n (notes-then g b c n) };
+                  end = record { walk = n .walk; few = few-then n (notes-then g b c n) };
                 };
             bytes = turns .bytes ∙ r .bytes;
             columns = turns .columns ∙ r .columns;

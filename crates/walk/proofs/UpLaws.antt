@@ -4,7 +4,7 @@ use mathlib.Core.Logic.{inl, inr}
 use mathlib.Core.Option.{Option, none, some}
 use mathlib.Core.Bool.{true, false}
 use mathlib.Core.List.{List}
-use Prim.Native.Nat.{ℕ, _-_}
+use Prim.Native.Nat.{ℕ, _-_, _≤_}
 use native.Mathlib.Omega.{arith}
 use Rattle.model.specs.Walk.{Lineage, Notes, onward, onRow, takeUp, goOn}
 use Rattle.model.specs.State.{MemoryState as Defined}
@@ -16,7 +16,7 @@ use Rattle.encoding.proofs.Held.{held-fits}
 use Rattle.state.specs.declared.MemoryState.{MemoryState}
 use Rattle.state.specs.declared.Way.{Way}
 use Rattle.state.specs.declared.Way.the-variants as way
-use Rattle.branches.specs.Header.{rowAt}
+use Rattle.branches.specs.Header.{rowAt, usedAt}
 use Rattle.branches.specs.Lists.{Loads}
 use Rattle.branches.specs.Changes.{Loadable}
 use Rattle.branches.proofs.RememberLaws.{Bytes}
@@ -71,6 +71,7 @@ module _ (p : Program) (xs : List ℕ) (w : Walk) (r : Taken) (takes : Takes p x
               let t = as-at .says g blocks cols ls n h in
               let k = t .holds .list .remembers .kept (t .one) (t .among) in
               let held = loads .says (boundOf v) (t .one) (t .place) k in
+              let fits : usedAt (cells xs) at ≤ p .limit = omega (arith, loads .room .most, ap (λ (x : MemoryState). x .map .used) (loads .is)) in
               record {
                 row = rowAt (cells xs) at - offset;
                 lineage = record { mem = t .one .mem; past = t .one .past };
@@ -79,13 +80,13 @@ module _ (p : Program) (xs : List ℕ) (w : Walk) (r : Taken) (takes : Takes p x
                 is = t .is;
                 walk = record {
                   list = list-kept (t .holds .list) ys small less (loads .bytes)
-                      (λ j le lt. loads .outside .same j (inr (omega arith)) (inl lt))
-                      (λ j le. loads .outside .same j (inr (omega arith)) (inr (omega arith)));
+                      (λ j le lt. loads .outside .same j (inr (omega (arith, fits))) (inl lt))
+                      (λ j le. loads .outside .same j (inr (omega (arith, fits))) (inr (omega arith)));
                   counts = t .holds .counts;
                   all = t .holds .all;
                 };
-                current = record { state = held .0; base = loads .lies; room = loads .room; past = held .1 };
-                at = omega (arith, loads .row, t .above);
+                current = record { state = held .0; base = ap (λ (x : MemoryState). x .map .base) (loads .is); room = loads .room; past = held .1 };
+                at = omega (arith, ap (λ (x : MemoryState). x .row) (loads .is), t .above);
                 within = t .within;
               };
           bytes = loads .bytes;

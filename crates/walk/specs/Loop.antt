@@ -305,11 +305,11 @@ pub record Turns (p : Program) (blocks xs ys cols dols : List ℕ) (w : Walk) (s
 
 -- with no unit left, the lineages that wait on a row are closed
 pub record Closes (p : Program) (xs : List ℕ) (w r : Walk) : Type 0 where
-  pub says : (g : Given) (blocks cols : List ℕ) (ls : List (Lineage Defined)) (n : Notes Defined ResultRow) → HoldsWalk p g blocks xs cols w ls n → HoldsEnd cols r (closeAll (rowOf (g .rows)) ls n)
+  pub says : (g : Given) (blocks cols : List ℕ) (ls : List (Lineage Defined)) (n : Notes Defined ResultRow) → HoldsWalk p g blocks xs cols w ls n → HoldsEnd p g blocks xs cols r (closeAll (rowOf (g .rows)) ls n)
 
 -- the current one first
 pub record ClosesCurrent (p : Program) (xs : List ℕ) (w r : Walk) : Type 0 where
-  pub says : (g : Given) (blocks cols : List ℕ) (ls : List (Lineage Defined)) (n : Notes Defined ResultRow) → HoldsWalk p g blocks xs cols w ls n → HoldsEnd cols r (closeAll (rowOf (g .rows)) ls (gasStop n))
+  pub says : (g : Given) (blocks cols : List ℕ) (ls : List (Lineage Defined)) (n : Notes Defined ResultRow) → HoldsWalk p g blocks xs cols w ls n → HoldsEnd p g blocks xs cols r (closeAll (rowOf (g .rows)) ls (gasStop n))
 
 -- a lineage is on a row, and no lineage was closed for want of units
 pub record Running (p : Program) (blocks xs cols : List ℕ) (w : Walk) (s : MemoryState) : Type 0 where

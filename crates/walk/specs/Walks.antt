@@ -154,24 +154,20 @@ pub record Few (w : Walk) : Type 0 where
   pub repeats : w .counts .repeats ≤ 4294967295
   pub width : w .width ≤ 2000
 
--- the counts of a walk that has ended, and its columns
-pub record HoldsEnd (cols : List ℕ) (w : Walk) (notes : Notes Defined ResultRow) : Type 0 where
-  pub charged : w .counts .charged ≡ notes .charged
-  pub loopstops : w .counts .loopstops ≡ notes .loopstops
-  pub gasstops : w .counts .gasstops ≡ notes .gasstops
-  pub repeats : w .counts .repeats ≡ notes .repeats
-  pub columns : HasColumns cols (w .width) (columnsOf (notes .counted))
+-- a walk that has ended: nothing waits, and what is remembered and counted is still held
+pub record HoldsEnd (p : Program) (g : Given) (blocks xs cols : List ℕ) (w : Walk) (notes : Notes Defined ResultRow) : Type 0 where
+  pub walk : HoldsWalk p g blocks xs cols w [] notes
   pub few : Few w
 
-pub record Answered (cols : List ℕ) (w : Walk) (t : Progressed Defined ResultRow) : Type 0 where
+pub record Answered (p : Program) (g : Given) (blocks xs cols : List ℕ) (w : Walk) (t : Progressed Defined ResultRow) : Type 0 where
   pub notes : Notes Defined ResultRow
   pub is : t ≡ ended (answered notes)
-  pub end : HoldsEnd cols w notes
+  pub end : HoldsEnd p g blocks xs cols w notes
 
 abbrev pub TellsRun : Program → Given → List ℕ → List ℕ → List ℕ → Progress → Progressed Defined ResultRow → Type 0
 TellsRun p g blocks xs cols (progress.Paused w s) t = Paused p g blocks xs cols w s t
 TellsRun p g blocks xs cols (progress.Refused k) t = Refused k t
-TellsRun p g blocks xs cols (progress.Ended w) t = Answered cols w t
+TellsRun p g blocks xs cols (progress.Ended w) t = Answered p g blocks xs cols w t
 
 -- the definition's walk over what is given
 module _ (p : Program) (g : Given) where

@@ -26,6 +26,7 @@ returns c =
     record {
       same = e .same;
       bytes = e .bytes;
+      rest = e .rest;
       cells = e .cells ∙ ap (set (cells (a .area .now)) (a .from + a .i)) (c .before .before .before .pack-row .ensures);
     }
 
