@@ -230,7 +230,7 @@ module _ {cs : List Cell} {a : IntMap} (is : IsMap cs a) {p q k l : ℕ} (source
             leads = λ limit current.
                 (let room = alike-room like (current .room) in
                 let next = first (current .holds) in
-                let current-then : Current limit ds a = record { room = room; scratch = omega (arith, current .scratch, like .long); bound = current .bound; large = current .large; state = next .state; holds = next .holds } in
+                let current-then : Current limit ds a = record { room = room; scratch = omega (arith, current .scratch, like .long); bound = current .bound; large = current .large; fits = current .fits; state = next .state; holds = next .holds } in
                 record {
                   says = λ bound m le h.
                       (let w = first h in

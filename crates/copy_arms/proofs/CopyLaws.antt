@@ -193,7 +193,7 @@ module _ (limit : ℕ) (cs : List Cell) (a : IntMap) (i : ℕ) (current : Curren
               base = stays .base;
               current =
                   (let w = subst (λ z. Tells limit (current .bound) ds z (storeRegister limit (intOf j) (found-value p e (current .bound) (current .state) (current .holds) .value) (current .state))) r (told (current .bound) (current .state) (current .holds)) in
-                  record { room = stays .room; scratch = omega (arith, stays .base, stores .frame .long, current .scratch); bound = current .bound; large = current .large; state = w .state; holds = w .holds });
+                  record { room = stays .room; scratch = omega (arith, stays .base, stores .frame .long, current .scratch); bound = current .bound; large = current .large; fits = current .fits; state = w .state; holds = w .holds });
               frame = stores .frame;
             }
 

@@ -154,6 +154,7 @@ module _ (limit : ℕ) (cs es : List Cell) (a : IntMap) (n : ℕ) (current : Cur
         scratch = omega (arith, f .long, current .scratch);
         bound = current .bound;
         large = current .large;
+        fits = current .fits;
         state = current .state;
         holds = held-elsewhere limit (current .bound) cs (a .base) (a .len) (a .used) (current .state) (current .holds) es (a .base) behind-same;
       }

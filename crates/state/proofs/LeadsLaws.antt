@@ -35,12 +35,13 @@ led-current {limit} {cs} {ds} {a} current b led =
       scratch = omega (arith, led .leaves .base, led .frame .long, current .scratch);
       bound = current .bound;
       large = current .large;
+      fits = current .fits;
       state = next .state;
       holds = next .holds;
     }
 
 pub current-held : {limit : ℕ} {cs : List Cell} {a : IntMap} → Current limit cs a → Held cs a
-current-held {limit} current = record { map = room-map (current .room); limit = limit; bound = current .bound; large = current .large; state = current .state; holds = current .holds }
+current-held {limit} current = record { map = room-map (current .room); limit = limit; bound = current .bound; large = current .large; fits = current .fits; state = current .state; holds = current .holds }
 
 -- ---- where a loop is
 

@@ -11,7 +11,7 @@ use Rattle.intmap.specs.Map.{IsMap, HasRoom, Frame}
 use Rattle.intmap.specs.declared.IntMap.{IntMap}
 use Rattle.intmap.specs.declared.Stored.{Stored}
 use Rattle.intmap.specs.declared.Stored.the-variants as stored
-use Rattle.encoding.specs.Holds.{Holds, HeldNext}
+use Rattle.encoding.specs.Holds.{largest, Holds, HeldNext}
 
 abbrev pub HoldsMap : ℕ → ℕ → List Cell → IntMap → MemoryState → Type 0
 HoldsMap limit bound cs a m = Holds limit bound cs (a .base) (a .len) (a .used) m
@@ -26,6 +26,7 @@ pub record Held (cs : List Cell) (a : IntMap) : Type 0 where
   pub limit : ℕ
   pub bound : ℕ
   pub large : operands ≤ bound
+  pub fits : bound + 1 ≤ largest
   pub state : MemoryState
   pub holds : HoldsMap limit bound cs a state
 
@@ -35,6 +36,7 @@ pub record Current (limit : ℕ) (cs : List Cell) (a : IntMap) : Type 0 where
   pub scratch : a .base + limit + limit ≤ length cs
   pub bound : ℕ
   pub large : operands ≤ bound
+  pub fits : bound + 1 ≤ largest
   pub state : MemoryState
   pub holds : HoldsMap limit bound cs a state
 

@@ -222,6 +222,7 @@ module _ {p : Program} {g : Given} {blocks xs cols : List ℕ} {w : Walk} {s : M
             scratch = omega (arith, r .current .base, fits-inside raised-list);
             bound = boundOf w;
             large = omega arith;
+            fits = omega (arith, r .walk .counts .gas-few);
             state = r .lineage .mem;
             holds = raised-state .map;
           };
