@@ -1,13 +1,14 @@
 -- The search for a column among those behind a head, and whether it nests within its levels. Assumes nothing.
-use mathlib.Core.Path.{_≡_, refl, sym, ap, _∙_}
+use mathlib.Core.Path.{_≡_, refl, sym, ap, subst, _∙_}
+use mathlib.Core.Logic.{_⊎_}
 use mathlib.Core.Bool.{Bool, true, false}
 use mathlib.Core.Option.{Option, none, some, Option·map, Option·none-ne-some, Option·some-injective}
 use mathlib.Core.List.{List}
 use Prim.Native.Nat.{ℕ, zero, suc, _+_, _-_, _<_, _≤_}
 use native.Mathlib.Omega.{arith}
-use lib.Dec.{ltb}
+use lib.Dec.{eqb, ltb}
 use lib.ListN.{length, getD}
-use borrow.Author.Tests.{eq-eqb, ne-eqb, lt-ltb, le-ltb, ltb-true, ltb-false}
+use borrow.Author.Tests.{eqb-true, eq-eqb, ne-eqb, lt-ltb, le-ltb, ltb-true, ltb-false}
 use Rattle.model.specs.IntMap.{get, Rising}
 use Rattle.model.specs.State.{ColumnType, Columns, end, entry, entries as columnEntries}
 use Rattle.model.specs.Cells.{columnDepth, columnsDepth}
@@ -18,11 +19,12 @@ use Rattle.area.specs.declared.Cell.{Cell}
 use Rattle.intmap.specs.Entries.{span, entries, total}
 use Rattle.intmap.specs.Find.{seek}
 use Rattle.intmap.specs.Map.{levels}
-use Rattle.intmap.specs.Pack.{tagOf}
+use Rattle.intmap.specs.Pack.{tagOf, keyOf}
 use Rattle.intmap.specs.Pick.{pick}
 use Rattle.intmap.specs.Runs.{size, sizes, IsColumn, AreColumns}
 use Rattle.intmap.specs.Swap.{lookup}
 use Rattle.intmap.specs.declared.Found.{Found}
+use Rattle.intmap.specs.declared.IntMap.{IntMap}
 use Rattle.intmap.specs.declared.Slot.the-variants as slot
 use Rattle.intmap.proofs.EntryLaws.{length-span, total-sizes}
 use Rattle.intmap.proofs.FindLaws.{found-within, found-whole}
@@ -33,7 +35,10 @@ use Rattle.encoding.specs.Holds.{Stands}
 use Rattle.encoding.proofs.Lengths.{length-flatten, count-runs}
 use Rattle.encoding.proofs.Standing.{entries-stand, column-whole, columns-whole}
 use Rattle.encoding.proofs.StateRuns.{get-column}
-use Rattle.column_arms.specs.Columns.{columnsIn, counted, ColumnsAt, IsColumnAt, FindsColumn}
+use Rattle.encoding.proofs.Flat.{Rise, rise-columns, sizes-many, direct, columns-flat}
+use Rattle.state.specs.Own.{isFlat}
+use Rattle.state.proofs.OwnLaws.{flat-told}
+use Rattle.column_arms.specs.Columns.{columnsIn, counted, ColumnsAt, DirectAt, IsColumnAt, FindsColumn}
 use Rattle.column_arms.proofs.WholeLaws.{counted-parts, counted-one, whole-size, counted-column}
 
 -- ---- the columns that a cell says it has
@@ -186,3 +191,51 @@ module _ (cs : List Cell) (p : ℕ) (is : IsColumn cs levels p) (tag : tagOf (ge
                   absurd (omega (arith, state-whole cs key (w .at) _ (stands x at), ltb-false (counted (span cs (w .at) n)) n (sym be ∙ e), ne, ap (λ k. counted (span cs (w .at) k)) ne));
               within = tt;
             }
+
+-- ---- at its distance from the head
+
+module _ (cs : List Cell) (a : IntMap) (p key : ℕ) (is : IsColumn cs levels p) (tag : tagOf (getD cs p blank) ≡ 2) (inside : p + size cs levels p ≤ a .base + a .used) (c : Cell) (ce : c ≡ getD cs p blank) (near : DirectAt cs a p (c .payload) key) where
+  abbrev q : ℕ
+  q = p + 1 + key
+
+  abbrev n : ℕ
+  n = getD cs p blank .payload
+
+  same-n : c .payload ≡ n
+  same-n = ap (λ (y : Cell). y .payload) ce
+
+  own-size : size cs 9 q ≡ 1
+  own-size = sym (size-single cs 9 q (getD cs q blank) refl (near .plain))
+
+  -- each has one cell
+  flat-sizes : (x : Columns) → ColumnsAt cs p x → sizes (size cs 8) n (p + 1) ≡ n
+  flat-sizes x at =
+      let told = flat-told cs a p (c .payload) (near .flat) in
+      let long = behind-size cs p x at tag in
+      let whole = behind cs p is tag c ce in
+      let same : 1 + sizes (size cs 8) n (p + 1) ≡ 1 + length (runColumns x) = ap (λ k. 1 + sizes (size cs 8) k (p + 1)) (sym same-n) ∙ whole ∙ long in
+      omega (arith, same, columns-flat x (at .sorted) cs (p + 1) n (a .base + a .used) (at .stands) (omega (arith, same, sizes-many cs 8 n (p + 1))) (omega (arith, long, inside)) (subst (λ k. (p + 1 + k ≡ a .base + a .used) ⊎ (65536 ≤ keyOf (getD cs (p + 1 + k) blank))) same-n (told .1)))
+
+  sought-there : (x : Columns) → ColumnsAt cs p x → (seek cs 8 key n (p + 1) .at ≡ q) × (seek cs 8 key n (p + 1) .present ≡ true)
+  sought-there x at =
+      let found = direct cs 8 n (p + 1) 0 key (flat-sizes x at) (subst (Rise 0) (sym (behind-runs cs p x at)) (rise-columns x 0 (at .sorted))) (omega (arith, near .below, same-n)) in
+      subst (λ k. (seek cs 8 k n (p + 1) .at ≡ q) × (seek cs 8 k n (p + 1) .present ≡ true)) (near .is) (found .at, found .present)
+
+  pub column-direct : FindsColumn cs p key (slot.At q)
+  column-direct =
+      record {
+        says = λ x at.
+            (let w = sought-there x at in
+            is-there cs key q _ (there cs p x at key q (seek-some cs 8 key n (p + 1) (w .1) ∙ ap (λ k. some (span cs k (size cs 8 k))) (w .0))));
+        within = (omega arith, omega (arith, own-size, behind cs p is tag c ce, sizes-many cs 8 (c .payload) (p + 1), near .below));
+      }
+
+pub direct-place : (cs : List Cell) (a : IntMap) (p n key : ℕ) → isFlat cs a p n ≡ true → key < n → p + 1 + key < a .base + a .used
+direct-place cs a p n key flat lt = omega (arith, flat-told cs a p n flat .0)
+
+pub direct-at : (cs : List Cell) (a : IntMap) (p n key : ℕ) → key < n → isFlat cs a p n ≡ true → (c : Cell) → c ≡ getD cs (p + 1 + key) blank → (t : ℕ) → t ≡ tagOf c → (t ≡ 2 → ⊥) → (r : Bool) → r ≡ eqb (keyOf c) key → r ≡ true → DirectAt cs a p n key
+direct-at cs a p n key lt flat c ce t te plain r re e =
+    record { below = lt; flat = flat; plain = λ q. plain (te ∙ ap (λ y. tagOf y) ce ∙ q); is = eqb-true (keyOf (getD cs (p + 1 + key) blank)) key (ap (λ y. eqb (keyOf y) key) (sym ce) ∙ sym re ∙ e) }
+
+pub head-below : (cs : List Cell) (a : IntMap) (p : ℕ) → p + size cs levels p ≤ a .base + a .used → p < a .base + a .used
+head-below cs a p h = omega (arith, h, size-pos cs levels p)

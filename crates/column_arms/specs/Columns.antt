@@ -1,6 +1,7 @@
 -- The columns that stand behind a head, as Column and RowData take them: one of them by its key, and a run stored in a register.
 -- Assumes nothing.
 use mathlib.Core.Path.{_≡_}
+use mathlib.Core.Bool.{true}
 use mathlib.Core.Option.{Option, none, some}
 use mathlib.Core.List.{List, [], _∷_}
 use Prim.Native.Nat.{ℕ, _+_, _-_, _<_, _≤_}
@@ -19,7 +20,7 @@ use Rattle.area.specs.Cells.{blank}
 use Rattle.area.specs.declared.Cell.{Cell}
 use Rattle.intmap.specs.Entries.{span}
 use Rattle.intmap.specs.Map.{levels, Frame}
-use Rattle.intmap.specs.Pack.{tagOf}
+use Rattle.intmap.specs.Pack.{tagOf, keyOf}
 use Rattle.intmap.specs.Pick.{pick}
 use Rattle.intmap.specs.Runs.{size}
 use Rattle.intmap.specs.Signed.{intOf}
@@ -30,6 +31,7 @@ use Rattle.intmap.specs.declared.Stored.{Stored}
 use Rattle.encoding.specs.Encode.{count, runColumn, runColumns}
 use Rattle.encoding.specs.Holds.{Stands}
 use Rattle.state.specs.Leads.{HoldsMap, Tells, Leaves, operands}
+use Rattle.state.specs.Own.{isFlat}
 
 -- ---- columns by number
 
@@ -49,6 +51,13 @@ pub record ColumnsAt (cs : List Cell) (p : ℕ) (x : Columns) : Type 0 where
   pub sorted : SortedColumns x 0
   pub number : getD cs p blank .payload ≡ count x
   pub stands : Stands cs (p + 1) (runColumns x)
+
+-- the column of a key by its distance from the head at p, which has n columns of one cell each
+pub record DirectAt (cs : List Cell) (a : IntMap) (p n key : ℕ) : Type 0 where
+  pub below : key < n
+  pub flat : isFlat cs a p n ≡ true
+  pub plain : tagOf (getD cs (p + 1 + key) blank) ≡ 2 → ⊥
+  pub is : keyOf (getD cs (p + 1 + key) blank) ≡ key
 
 -- the column that has a key, and its run at q
 pub record IsColumnAt (cs : List Cell) (key q : ℕ) (o : Option ColumnType) : Type 0 where

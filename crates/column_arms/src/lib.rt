@@ -2,6 +2,7 @@
 // src/connection/explain.rs.
 ghost use mathlib.Core.Path.{_≡_};
 ghost use Prim.Native.Nat.{ℕ, _+_, _<_, _≤_};
+ghost use mathlib.Core.Bool.{true};
 ghost use lib.Dec.{ltb};
 ghost use lib.ListN.{length, getD};
 ghost use Rattle.model.specs.State.{Record, end, Column};
@@ -9,14 +10,14 @@ ghost use Rattle.model.specs.Access.{storeRegister};
 ghost use Rattle.model.specs.Operation.{opColumn, opRowData};
 ghost use Rattle.area.specs.Cells.{cells, blank};
 ghost use Rattle.intmap.specs.Entries.{span};
-ghost use Rattle.intmap.specs.Map.{levels};
+ghost use Rattle.intmap.specs.Map.{levels, IsMap};
 ghost use Rattle.intmap.specs.Pack.{tagOf};
 ghost use Rattle.intmap.specs.Runs.{size, IsColumn};
 ghost use Rattle.intmap.specs.Signed.{intOf};
 ghost use Rattle.rows.specs.Judged.{IsRow};
 ghost use Rattle.state.specs.Leads.{Current, Leads};
 ghost use Rattle.state.specs.Arms.{CursorArm};
-ghost use Rattle.column_arms.specs.Columns.{columnsIn, counted, FindsColumn, StoresRun, storeColumn, LeadsWith};
+ghost use Rattle.column_arms.specs.Columns.{columnsIn, counted, DirectAt, FindsColumn, StoresRun, storeColumn, LeadsWith};
 use area::Cell;
 use intmap::Index;
 use intmap::IntMap;
@@ -55,13 +56,35 @@ fn is_whole(area: &[u8], at: usize, n: usize) -> bool
     true
 }
 
+// Whether the column of a key is at its distance from the head at `at`, which has n columns: where each has one cell, the one there that has the
+// key is it.
+fn is_direct(map: IntMap, area: &[u8], at: usize, n: u64, key: u64) -> bool
+    requires { ⌜ IsMap (cells (now area)) map × (map .base ≤ at) × (at < map .base + map .used) ⌝ }
+    ensures { λ r. ⌜ (r ≡ true → DirectAt (cells (now (area .entry))) map at n key) ⌝ }
+{
+    if n <= key {
+        return false;
+    }
+    if !state::is_flat(map, area, at, n) {
+        return false;
+    }
+    let c = area::cell_at(area, at + 1 + key as usize);
+    if intmap::tag_of(c) == intmap::RECORD {
+        return false;
+    }
+    intmap::has_key(c, key)
+}
+
 // Looks for a key among the columns behind the head at `at`. The head's run is counted in LEVELS levels, so its columns in one fewer. In a state
 // none goes deeper, and in other cells a record that may is refused.
-fn find_column(area: &[u8], at: usize, key: u64) -> Slot
-    requires { ⌜ IsColumn (cells (now area)) levels at × (tagOf (getD (cells (now area)) at blank) ≡ 2) ⌝ }
+fn find_column(map: IntMap, area: &[u8], at: usize, key: u64) -> Slot
+    requires { ⌜ IsColumn (cells (now area)) levels at × (tagOf (getD (cells (now area)) at blank) ≡ 2) × IsMap (cells (now area)) map × (map .base ≤ at) × (at + size (cells (now area)) levels at ≤ map .base + map .used) ⌝ }
     ensures { λ r. ⌜ FindsColumn (cells (now (area .entry))) at key r ⌝ }
 {
     let head = area::cell_at(area, at);
+    if is_direct(map, area, at, head.payload, key) {
+        return Slot::At(at + 1 + key as usize);
+    }
     let found = intmap::find_from(area, at + 1, head.payload, key, intmap::LEVELS - 1);
     let q = found.at;
     let there = found.present;
@@ -121,7 +144,7 @@ fn store_column(map: IntMap, area: &mut [u8], at: usize, i: u64, j: u64, limit: 
     match x {
         Index::Bad(n) => Stored::Refused(n),
         Index::At(k) => {
-            let column = find_column(area, at, k);
+            let column = find_column(map, area, at, k);
             match column {
                 Slot::Bad(n) => Stored::Refused(n),
                 Slot::Absent => {

@@ -38,7 +38,7 @@ fn carry_register(map: IntMap, area: &mut [u8], i: u64, j: u64, moves: bool, lim
     requires { ⌜ Current limit (cells (now area)) map ⌝ }
     ensures { λ r. ⌜ Leads limit (cells (now (area .entry))) (cells (now (area .exit))) map r (carryOne limit moves (intOf i) (intOf j)) ⌝ }
 {
-    let x = map.get(area, state::REGISTERS, i);
+    let x = state::get(map, area, state::REGISTERS, i);
     match x {
         Slot::Bad(n) => Stored::Refused(n),
         Slot::Absent => Stored::Done(map),

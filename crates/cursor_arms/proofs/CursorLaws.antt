@@ -31,8 +31,6 @@ use Rattle.encoding.specs.Encode.{runCursor}
 use Rattle.encoding.specs.Holds.{SmallCursor}
 use Rattle.encoding.proofs.Injective.{first-is}
 use Rattle.encoding.proofs.HeldRead.{told-cursor}
-use Rattle.state.specs.Own.{Own}
-use Rattle.state.proofs.OwnLaws.{own-gets}
 use Rattle.cursor_arms.specs.Cursors.{cursorIn, TellsCursor, RowWithin, ReadsCursor}
 use Rattle.cursor_arms.specs.declared.CursorDataType.{CursorDataType}
 use Rattle.cursor_arms.specs.declared.CursorDataType.the-variants as cursor
@@ -101,8 +99,3 @@ module _ (cs : List Cell) (a : IntMap) (i : ℕ) (x : Slot) (g : Gets cs a 1 i x
               (ap (λ y. y ∷ span cs (p + 1) (size cs levels p - 1)) ce ∙ opened (size cs levels p) (size-pos cs levels p) ∙ v .is) (v .has .0) (v .has .1) (v .answer)));
           within = subst RowWithin (sym re) (in-within c);
         }
-
--- read where it stands
-pub own-read : (cs : List Cell) (a : IntMap) (i p : ℕ) → Own cs a 1 i p → (c : Cell) (r : CursorDataType) → c ≡ getD cs p blank → r ≡ cursorIn c → ReadsCursor cs a i r
-own-read cs a i p own c r ce re =
-    record { says = λ limit bound m h. read-at cs a i (slot.At p) (own-gets own h) p refl c r ce re .says limit bound m h; within = subst RowWithin (sym re) (in-within c) }

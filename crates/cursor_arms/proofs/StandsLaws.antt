@@ -49,24 +49,13 @@ use Rattle.encoding.proofs.Injective.{first-is}
 use Rattle.encoding.proofs.Packing.{nullable-small}
 use Rattle.encoding.proofs.Standing.{stands-head, stands-rest}
 use Rattle.state.specs.Leads.{HoldsMap}
+use Rattle.state.specs.Own.{entrySlot}
 use Rattle.cursor_arms.specs.Cursors.{TellsCursor, RowWithin}
-use Rattle.cursor_arms.specs.StandsFor.{entrySlot, registerSlot, headSlot, tableSlot, columnsSlot, emptyIn, SlotWithin, cursorTable, IsTable, TellsTable, HasColumns, TellsColumns, emptinessOf, FindsTable, FindsColumns, TellsEmpty}
+use Rattle.cursor_arms.specs.StandsFor.{registerSlot, headSlot, tableSlot, columnsSlot, emptyIn, SlotWithin, cursorTable, IsTable, TellsTable, HasColumns, TellsColumns, emptinessOf, FindsTable, FindsColumns, TellsEmpty}
 use Rattle.cursor_arms.specs.declared.CursorDataType.{CursorDataType}
 use Rattle.cursor_arms.specs.declared.CursorDataType.the-variants as cursor
 
 -- ---- an entry that the search finds
-
-module _ (cs : List Cell) (a : IntMap) (class k key : ℕ) (ke : key ≡ classKey class k) (w : Found) (found : w ≡ seek cs levels key (a .len) (a .base)) where
-  same-found : w ≡ seek cs levels (classKey class k) (a .len) (a .base)
-  same-found = found ∙ ap (λ n. seek cs levels n (a .len) (a .base)) ke
-
-  pub entry-there : w .present ≡ true → slot.At (w .at) ≡ entrySlot cs a class k
-  unfolding entrySlot
-  entry-there e = ap (λ b. pick b (slot.At (w .at)) slot.Absent) (sym e) ∙ ap (λ (v : Found). pick (v .present) (slot.At (v .at)) slot.Absent) same-found
-
-  pub entry-none : w .present ≡ false → slot.Absent ≡ entrySlot cs a class k
-  unfolding entrySlot
-  entry-none e = ap (λ b. pick b (slot.At (w .at)) slot.Absent) (sym e) ∙ ap (λ (v : Found). pick (v .present) (slot.At (v .at)) slot.Absent) same-found
 
 -- which of a slot's cases it is, as a number
 abbrev pub case : Slot → ℕ

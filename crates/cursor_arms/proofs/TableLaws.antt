@@ -19,7 +19,6 @@ use Rattle.intmap.specs.Pack.{tagOf, classKey, withNullable}
 use Rattle.intmap.specs.Runs.{size, sizes, whole}
 use Rattle.intmap.specs.Find.{seek}
 use Rattle.intmap.specs.Map.{levels, IsMap, HasRoom, Frame}
-use Rattle.intmap.specs.declared.Found.{Found}
 use Rattle.intmap.specs.declared.IntMap.{IntMap}
 use Rattle.intmap.specs.declared.Slot.{Slot}
 use Rattle.intmap.specs.declared.Slot.the-variants as slot
@@ -31,6 +30,7 @@ use Rattle.encoding.proofs.BySearch.{search-table-kept, search-empty}
 use Rattle.state.specs.Leads.{HoldsMap}
 use Rattle.state.proofs.StoreLeads.{nullable-code}
 use Rattle.cursor_arms.proofs.DupLaws.{frame-same}
+use Rattle.state.specs.Own.{entrySlot}
 use Rattle.cursor_arms.proofs.StandsLaws.{case, done-same, Led, led-at, not-led, led-inside}
 use Rattle.cursor_arms.specs.Cursors.{TellsCursor, TableChanged}
 use Rattle.cursor_arms.specs.StandsFor.{tableSlot, FindsTable, CursorTableChanged}
@@ -139,22 +139,19 @@ module _ (e : Option Bool → Option Bool) (cs : List Cell) (a : IntMap) (row : 
 
 -- ---- Delete on the table of a row, as the code has it
 
-module _ (cs : List Cell) (a : IntMap) (row key : ℕ) (w : Found) (is : IsMap cs a) (ke : key ≡ classKey 2 row) (found : w ≡ seek cs levels key (a .len) (a .base)) where
-  present-is : (b : Bool) → w .present ≡ b → seek cs levels (classKey 2 row) (a .len) (a .base) .present ≡ b
-  present-is b e = ap (λ (v : Found). v .present) (ap (λ k. seek cs levels k (a .len) (a .base)) (sym ke) ∙ sym found) ∙ e
+module _ (cs : List Cell) (a : IntMap) (row : ℕ) (is : IsMap cs a) (s : Slot) (found : s ≡ entrySlot cs a 2 row) where
+  pub table-none : (case s ≡ 2 → ⊥) → TableChanged afterDelete cs cs a row
+  table-none h = none-changed emptyAfterDelete cs a row (not-led cs a 2 row (λ q. h (ap case found ∙ q)))
 
-  pub table-none : w .present ≡ false → TableChanged afterDelete cs cs a row
-  table-none e = none-changed emptyAfterDelete cs a row (present-is false e)
+  module _ (p : ℕ) (e : s ≡ slot.At p) where
+    table-led : Led cs a 2 row p
+    table-led = led-at cs a 2 row p (sym found ∙ e)
 
-  module _ (e : w .present ≡ true) where
-    table-led : Led cs a 2 row (w .at)
-    table-led = record { present = present-is true e; at = ap (λ (v : Found). v .at) (ap (λ k. seek cs levels k (a .len) (a .base)) (sym ke) ∙ sym found) }
+    pub table-within : p < a .base + a .used
+    table-within = led-within emptyAfterDelete cs a row p is table-led
 
-    pub table-within : w .at < a .base + a .used
-    table-within = led-within emptyAfterDelete cs a row (w .at) is table-led
-
-    pub table-there : (ds : List Cell) (c x : Cell) → c ≡ getD cs (w .at) blank → x ≡ withNullable (nullableCode (emptyAfterDelete (nullableIn c))) c → ds ≡ set cs (w .at) x → TableChanged afterDelete cs ds a row
-    table-there ds c x ce xe de = one-changed emptyAfterDelete cs a row (w .at) is table-led ds c x ce xe de
+    pub table-there : (ds : List Cell) (c x : Cell) → c ≡ getD cs p blank → x ≡ withNullable (nullableCode (emptyAfterDelete (nullableIn c))) c → ds ≡ set cs p x → TableChanged afterDelete cs ds a row
+    table-there ds c x ce xe de = one-changed emptyAfterDelete cs a row p is table-led ds c x ce xe de
 
 -- ---- the emptiness of a cursor's table set
 

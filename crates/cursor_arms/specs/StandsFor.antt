@@ -16,32 +16,24 @@ use Rattle.model.specs.Cursor.{cursorColumns, cursorIsEmpty, updateCursorTable}
 use Rattle.model.specs.Good.{SortedColumns, GoodTable}
 use Rattle.area.specs.Cells.{blank}
 use Rattle.area.specs.declared.Cell.{Cell}
-use Rattle.intmap.specs.Find.{seek}
-use Rattle.intmap.specs.Map.{levels, HasRoom, Frame}
-use Rattle.intmap.specs.Pack.{tagOf, nullableOf, classKey}
+use Rattle.intmap.specs.Map.{HasRoom, Frame}
+use Rattle.intmap.specs.Pack.{tagOf, nullableOf}
 use Rattle.intmap.specs.Pick.{pick}
 use Rattle.intmap.specs.Signed.{intOf}
-use Rattle.intmap.specs.declared.Found.{Found}
 use Rattle.intmap.specs.declared.IntMap.{IntMap}
 use Rattle.intmap.specs.declared.Slot.{Slot}
 use Rattle.intmap.specs.declared.Slot.the-variants as slot
 use Rattle.encoding.specs.Encode.{nullableCode, count, runColumns, runTable}
 use Rattle.encoding.specs.Holds.{Stands}
 use Rattle.state.specs.Leads.{HoldsMap}
+use Rattle.state.specs.Own.{entrySlot}
 use Rattle.cursor_arms.specs.Cursors.{TellsCursor}
 use Rattle.cursor_arms.specs.declared.CursorDataType.{CursorDataType}
 use Rattle.cursor_arms.specs.declared.CursorDataType.the-variants as cursor
 
 -- ---- places
 
--- where a search led, if it found the key
-abbrev pub foundSlot : Found → Slot
-foundSlot w = pick (w .present) (slot.At (w .at)) slot.Absent
-
--- the entry of an index in a class, and a register by its index, which is judged
-unfoldable pub entrySlot : List Cell → IntMap → ℕ → ℕ → Slot
-entrySlot cs a class k = foundSlot (seek cs levels (classKey class k) (a .len) (a .base))
-
+-- a register by its index, which is judged
 unfoldable pub registerSlot : List Cell → IntMap → Tried ℕ → Slot
 registerSlot cs a (refused n) = slot.Bad n
 registerSlot cs a (done k) = entrySlot cs a 0 k

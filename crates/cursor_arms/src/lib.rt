@@ -19,11 +19,11 @@ ghost use Rattle.encoding.specs.Encode.{nullableCode};
 ghost use Rattle.encoding.specs.Decode.{nullableIn, nullables};
 ghost use Rattle.rows.specs.Judged.{IsRow};
 ghost use Rattle.rows.specs.Rows.{Operand};
-ghost use Rattle.state.specs.Leads.{Current, SomeCurrent, Leads};
+ghost use Rattle.state.specs.Leads.{Held, Current, SomeCurrent, Leads};
 ghost use Rattle.state.specs.Arms.{CursorArm};
 ghost use Rattle.cursor_arms.specs.Cursors.{cursorIn, RowWithin, ReadsCursor, TableChanged};
 ghost use Rattle.cursor_arms.specs.Behind.{RunBehind};
-ghost use Rattle.cursor_arms.specs.StandsFor.{entrySlot, registerSlot, headSlot, emptyIn, SlotWithin, FindsTable, FindsColumns, TellsEmpty, CursorTableChanged};
+ghost use Rattle.cursor_arms.specs.StandsFor.{registerSlot, headSlot, emptyIn, SlotWithin, FindsTable, FindsColumns, TellsEmpty, CursorTableChanged};
 use area::Cell;
 use intmap::Index;
 use intmap::IntMap;
@@ -106,14 +106,10 @@ fn cursor_in(c: Cell) -> CursorDataType
 
 // Reads cursor i.
 pub fn read_cursor(map: IntMap, area: &[u8], i: u64) -> CursorDataType
-    requires { ⌜ IsMap (cells (now area)) map ⌝ }
+    requires { ⌜ Held (cells (now area)) map ⌝ }
     ensures { λ r. ⌜ ReadsCursor (cells (now (area .entry))) map i r ⌝ }
 {
-    let own = state::own_cell(map, area, CURSORS, i);
-    if let Slot::At(p) = own {
-        return cursor_in(area::cell_at(area, p));
-    }
-    let x = map.get(area, CURSORS, i);
+    let x = state::get(map, area, CURSORS, i);
     match x {
         Slot::Bad(n) => CursorDataType::Bad(n),
         Slot::Absent => CursorDataType::Absent,
@@ -121,28 +117,15 @@ pub fn read_cursor(map: IntMap, area: &[u8], i: u64) -> CursorDataType
     }
 }
 
-// Where the entry of an index in a class is, if it is there.
-fn entry_at(map: IntMap, area: &[u8], class: u64, k: u64) -> Slot
-    requires { ⌜ IsMap (cells (now area)) map × (class < 3) × (k ≤ 65535) ⌝ }
-    ensures { λ r. ⌜ r ≡ entrySlot (cells (now (area .entry))) map class k ⌝ }
-{
-    let found = map.find(area, intmap::class_key(class, k));
-    let there = found.present;
-    if there {
-        return Slot::At(found.at);
-    }
-    Slot::Absent
-}
-
 // Where register i is, if it is there.
 fn register_at(map: IntMap, area: &[u8], i: u64) -> Slot
-    requires { ⌜ IsMap (cells (now area)) map ⌝ }
+    requires { ⌜ Held (cells (now area)) map ⌝ }
     ensures { λ r. ⌜ r ≡ registerSlot (cells (now (area .entry))) map (index (intOf i)) ⌝ }
 {
     let x = intmap::judge_index(i);
     match x {
         Index::Bad(n) => Slot::Bad(n),
-        Index::At(k) => entry_at(map, area, state::REGISTERS, k),
+        Index::At(k) => state::entry_at(map, area, state::REGISTERS, k),
     }
 }
 
@@ -178,46 +161,46 @@ fn empty_at(area: &[u8], x: Slot) -> u64
 impl CursorDataType {
     // Where the head of its table is, if it has one.
     pub fn table(self, map: IntMap, area: &[u8]) -> Slot
-        requires { ⌜ IsMap (cells (now area)) map × RowWithin self ⌝ }
+        requires { ⌜ Held (cells (now area)) map × RowWithin self ⌝ }
         ensures { λ r. ⌜ FindsTable (cells (now (area .entry))) map self r ⌝ }
     {
         match self {
             CursorDataType::Bad(n) => Slot::Bad(n),
             CursorDataType::Absent => Slot::Absent,
-            CursorDataType::Normal(row) => entry_at(map, area, TABLES, row),
+            CursorDataType::Normal(row) => state::entry_at(map, area, TABLES, row),
             CursorDataType::Pseudo(_) => Slot::Absent,
         }
     }
 
     // Where the head of its columns is, a table's or that of a register's record, if it has columns.
     pub fn columns(self, map: IntMap, area: &[u8]) -> Slot
-        requires { ⌜ IsMap (cells (now area)) map × RowWithin self ⌝ }
+        requires { ⌜ Held (cells (now area)) map × RowWithin self ⌝ }
         ensures { λ r. ⌜ FindsColumns (cells (now (area .entry))) map self r ⌝ }
     {
         match self {
             CursorDataType::Bad(n) => Slot::Bad(n),
             CursorDataType::Absent => Slot::Absent,
-            CursorDataType::Normal(row) => head_at(area, entry_at(map, area, TABLES, row)),
+            CursorDataType::Normal(row) => head_at(area, state::entry_at(map, area, TABLES, row)),
             CursorDataType::Pseudo(i) => head_at(area, register_at(map, area, i)),
         }
     }
 
     // Whether it is empty. Pseudo cursors have exactly one row.
     pub fn is_empty(self, map: IntMap, area: &[u8]) -> u64
-        requires { ⌜ IsMap (cells (now area)) map × RowWithin self ⌝ }
+        requires { ⌜ Held (cells (now area)) map × RowWithin self ⌝ }
         ensures { λ r. ⌜ TellsEmpty (cells (now (area .entry))) map self r ⌝ }
     {
         match self {
             CursorDataType::Bad(_) => MAYBE_EMPTY,
             CursorDataType::Absent => MAYBE_EMPTY,
-            CursorDataType::Normal(row) => empty_at(area, entry_at(map, area, TABLES, row)),
+            CursorDataType::Normal(row) => empty_at(area, state::entry_at(map, area, TABLES, row)),
             CursorDataType::Pseudo(_) => NEVER_EMPTY,
         }
     }
 
     // Sets whether its table is empty, if it has one.
     pub fn set_empty(self, map: IntMap, area: &mut [u8], empty: u64)
-        requires { ⌜ IsMap (cells (now area)) map × RowWithin self × (empty < 3) ⌝ }
+        requires { ⌜ Held (cells (now area)) map × RowWithin self × (empty < 3) ⌝ }
         ensures { λ _. ⌜ CursorTableChanged (setEmpty (getD nullables empty none)) (cells (now (area .entry))) (cells (now (area .exit))) map self ⌝ }
     {
         let x = self.table(map, area);
@@ -277,14 +260,17 @@ fn after_delete(c: Cell) -> Cell
 
 // Delete on the table that a row opened, if there is one.
 fn delete_from(map: IntMap, area: &mut [u8], row: u64)
-    requires { ⌜ IsMap (cells (now area)) map × (row ≤ 65535) ⌝ }
+    requires { ⌜ Held (cells (now area)) map × (row ≤ 65535) ⌝ }
     ensures { λ _. ⌜ TableChanged afterDelete (cells (now (area .entry))) (cells (now (area .exit))) map row ⌝ }
 {
-    let found = map.find(area, intmap::class_key(TABLES, row));
-    let there = found.present;
-    if there {
-        let c = after_delete(area::cell_at(area, found.at));
-        area::put_cell(area, found.at, c);
+    let found = state::entry_at(map, area, TABLES, row);
+    match found {
+        Slot::Bad(_) => {}
+        Slot::Absent => {}
+        Slot::At(at) => {
+            let c = after_delete(area::cell_at(area, at));
+            area::put_cell(area, at, c);
+        }
     }
 }
 

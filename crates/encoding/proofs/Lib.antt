@@ -4,6 +4,7 @@ pub mod StateRuns
 pub mod Lengths
 pub mod Standing
 pub mod Places
+pub mod Flat
 pub mod Nesting
 pub mod Dense
 pub mod Heads

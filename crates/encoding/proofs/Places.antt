@@ -25,7 +25,7 @@ use Rattle.encoding.specs.Holds.{Holds}
 use Rattle.encoding.proofs.Packing.{column-key, register-key, cursor-key, table-key}
 
 -- the keys of cells inside a record or table are below those of entries
-abbrev Inner : List Cell → Type 0
+abbrev pub Inner : List Cell → Type 0
 Inner [] = Unit {0}
 Inner (c ∷ cs) = (keyOf c < 65536) × Inner cs
 
@@ -51,7 +51,7 @@ mutual
   inner-column (Single d n) k h s = (omega (arith, column-key k (Single d n)), tt)
   inner-column (Record cs) k h s = (omega (arith, column-key k (Record cs)), inner-columns cs 0 s)
 
-  inner-columns : (cs : Columns) (low : ℕ) → SortedColumns cs low → Inner (flatten (columnRuns cs))
+  pub inner-columns : (cs : Columns) (low : ℕ) → SortedColumns cs low → Inner (flatten (columnRuns cs))
   inner-columns end low s = tt
   inner-columns (entry k c cs) low s = inner-join (runColumn k c) (flatten (columnRuns cs)) (inner-column c k (s .1) (s .2)) (inner-columns cs (suc k) (s .3))
 
@@ -94,7 +94,7 @@ state-apart limit m good =
 
 -- ---- the cells
 
-inner-at : (cs : List Cell) (n at p : ℕ) → Inner (span cs at n) → at ≤ p → p < at + n → keyOf (getD cs p blank) < 65536
+pub inner-at : (cs : List Cell) (n at p : ℕ) → Inner (span cs at n) → at ≤ p → p < at + n → keyOf (getD cs p blank) < 65536
 unfolding span
 inner-at cs zero at p s from to = absurd (omega arith)
 inner-at cs (suc n) at p s from to = go (ℕ-discrete p at) (inner-at cs n (at + 1) p (s .1))

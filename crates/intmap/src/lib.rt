@@ -2,6 +2,7 @@
 use area::Cell;
 ghost use mathlib.Core.Path.{_≡_};
 ghost use Prim.Native.Nat.{_+_, _<_, _≤_, max};
+ghost use lib.Dec.{eqb, leb};
 ghost use lib.ListN.{length, getD};
 ghost use Rattle.area.specs.Cells.{blank, cells};
 ghost use Rattle.intmap.specs.Pack.{Parts, head, tagOf, kindOf, nullableOf, keyOf, withKey, withNullable, classKey};
@@ -63,6 +64,22 @@ pub fn key_of(c: Cell) -> u64
     ensures { λ r. ⌜ r ≡ keyOf c ⌝ }
 {
     c.head / 16777216
+}
+
+// Whether it stands under this key. The head is compared whole, since it is loaded in pieces where a part of it is asked for.
+pub fn has_key(c: Cell, key: u64) -> bool
+    requires { ⌜ key < 1099511627776 ⌝ }
+    ensures { λ r. ⌜ r ≡ eqb (keyOf c) key ⌝ }
+{
+    let low = 16777216 * key;
+    low <= c.head && c.head - low < 16777216
+}
+
+// Whether its key is an entry's: the columns inside a record or table have lower ones.
+pub fn begins(c: Cell) -> bool
+    ensures { λ r. ⌜ r ≡ leb 65536 (keyOf c) ⌝ }
+{
+    1099511627776 <= c.head
 }
 
 // The cell under another key.

@@ -19,10 +19,11 @@ use Rattle.intmap.specs.declared.IntMap.{IntMap}
 use Rattle.intmap.specs.declared.Stored.{Stored}
 use Rattle.intmap.specs.declared.Stored.the-variants as stored
 use Rattle.intmap.proofs.MapLaws.{placed-room, frame-below, frame-above}
+use Rattle.intmap.proofs.StoreLaws.{room-map}
 use Rattle.encoding.proofs.Held.{held-elsewhere, held-goTo, held-copied}
 use Rattle.rows.specs.Judged.{Judged}
 use Rattle.rows.specs.declared.Row.{Row}
-use Rattle.state.specs.Leads.{Current, HoldsMap, Tells, Stays, Leaves}
+use Rattle.state.specs.Leads.{Held, Current, HoldsMap, Tells, Stays, Leaves}
 use Rattle.state.specs.Steps.{HoldsState, Offered, TellsStep, LeavesStep}
 use Rattle.state.specs.declared.MemoryState.{MemoryState}
 use Rattle.state.specs.declared.Way.the-variants as way
@@ -53,6 +54,18 @@ module _ (limit : ℕ) (cs there : List Cell) (a : IntMap) (current : Current li
         small = copied .is .small;
       }
 
+  pub behind-held : Held there behind
+  behind-held =
+      record {
+        map = copied .is;
+        limit = limit;
+        bound = current .bound;
+        large = current .large;
+        fits = current .fits;
+        state = current .state;
+        holds = held-copied limit (current .bound) cs there _ a behind (current .state) copied (current .holds);
+      }
+
   first-same : Agree cs (a .base) there (a .base) (a .used)
   first-same = frame-below cs there _ _ (copied .frame) a (omega (arith, current .room .most))
 
@@ -64,6 +77,21 @@ module _ (limit : ℕ) (cs there : List Cell) (a : IntMap) (current : Current li
     pub state-room : HasRoom two limit a
     state-room =
         kept-room limit there two a (kept-room limit cs there a (current .room) (copied .frame .long) first-same) (first .long) second-same
+
+    map-holds : (bound : ℕ) (m : Defined) → HoldsMap limit bound cs a m → HoldsMap limit bound two a m
+    map-holds bound m h = held-elsewhere limit bound there _ _ _ m (held-elsewhere limit bound cs _ _ _ m h there _ first-same) two _ second-same
+
+    pub state-held : Held two a
+    state-held =
+        record {
+          map = room-map state-room;
+          limit = limit;
+          bound = current .bound;
+          large = current .large;
+          fits = current .fits;
+          state = current .state;
+          holds = map-holds (current .bound) (current .state) (current .holds);
+        }
 
 module _ (limit : ℕ) (cs there : List Cell) (s : MemoryState) (current : Current limit cs (s .map)) (behind : IntMap) (copied : CopiedMap cs there (s .map) (s .map .base + limit) behind) where
   base-is : behind .base ≡ s .map .base + limit
@@ -84,8 +112,7 @@ module _ (limit : ℕ) (cs there : List Cell) (s : MemoryState) (current : Curre
 
     pub state-holds : (bound : ℕ) (m : Defined) → HoldsState limit bound cs s m → HoldsState limit bound two (at (s .row + 1) (s .map)) (next m)
     state-holds bound m h =
-        held-next (s .row) (h .row)
-        (held-elsewhere limit bound there _ _ _ m (held-elsewhere limit bound cs _ _ _ m (h .map) there _ (first-same limit cs there (s .map) current behind copied)) two _ (second-same limit cs there (s .map) current behind copied two first))
+        held-next (s .row) (h .row) (map-holds limit cs there (s .map) current behind copied two first bound m (h .map))
 
     -- and left the branch's map b there; the second wrote in the state's room
     module _ (b : IntMap) (branch : Stays limit two behind b) (ds : List Cell) (second : Frame two ds (s .map .base) limit) where

@@ -11,10 +11,10 @@ ghost use Rattle.model.specs.State.{Column, Single, toNotNull};
 ghost use Rattle.encoding.specs.Decode.{nullables};
 ghost use lib.ListN.{getD};
 ghost use Rattle.area.specs.Cells.{cells};
-ghost use Rattle.intmap.specs.Map.{IsMap, HasRoom};
+ghost use Rattle.intmap.specs.Map.{HasRoom};
 ghost use Rattle.intmap.specs.Signed.{intOf};
 ghost use Rattle.rows.specs.Rows.{Operand};
-ghost use Rattle.state.specs.Leads.{Current, Leads};
+ghost use Rattle.state.specs.Leads.{Held, Current, Leads};
 ghost use Rattle.state.specs.Steps.{JumpArm};
 ghost use Rattle.jump_arms.specs.Arms.{Ready, InitTo, RowAfter, stepAfter, branchAfter, bothAfter, Knows, Puts, BothArm, IfArm, Asks, changed};
 use area::Cell;
@@ -127,7 +127,7 @@ pub enum Known {
 
 // Reads whether register i is known to hold a number.
 pub fn known_int(map: IntMap, area: &[u8], i: u64) -> Known
-    requires { ⌜ IsMap (cells (now area)) map ⌝ }
+    requires { ⌜ Held (cells (now area)) map ⌝ }
     ensures { λ r. ⌜ Knows (cells (now (area .entry))) map i r ⌝ }
 {
     let x = state::read_register(map, area, i);
@@ -285,7 +285,7 @@ pub enum Asked {
 
 // Asks register i.
 fn ask(map: IntMap, area: &[u8], i: u64) -> Asked
-    requires { ⌜ IsMap (cells (now area)) map ⌝ }
+    requires { ⌜ Held (cells (now area)) map ⌝ }
     ensures { λ r. ⌜ Asks (cells (now (area .entry))) map i r ⌝ }
 {
     let v = state::read_register(map, area, i);
@@ -326,7 +326,7 @@ pub fn put_single(
 
 // Register i at its default, if it is there. The store refuses nothing that the read did not, since a plain column is never larger.
 fn put_default(map: IntMap, area: &mut [u8], i: u64, limit: usize) -> Stored
-    requires { ⌜ HasRoom (cells (now area)) limit map ⌝ }
+    requires { ⌜ HasRoom (cells (now area)) limit map × Held (cells (now area)) map ⌝ }
     ensures { λ r. ⌜ Puts limit (cells (now (area .entry))) (cells (now (area .exit))) map r (updateRegister (intOf i) toDefault) ⌝ }
 {
     let v = state::read_register(map, area, i);
@@ -343,7 +343,7 @@ fn put_default(map: IntMap, area: &mut [u8], i: u64, limit: usize) -> Stored
 
 // Register i never null, if it is a plain column; another stays as it is.
 fn put_never(map: IntMap, area: &mut [u8], i: u64, limit: usize) -> Stored
-    requires { ⌜ HasRoom (cells (now area)) limit map ⌝ }
+    requires { ⌜ HasRoom (cells (now area)) limit map × Held (cells (now area)) map ⌝ }
     ensures { λ r. ⌜ Puts limit (cells (now (area .entry))) (cells (now (area .exit))) map r (updateRegister (intOf i) toNotNull) ⌝ }
 {
     let v = state::read_register(map, area, i);
@@ -361,7 +361,7 @@ fn put_never(map: IntMap, area: &mut [u8], i: u64, limit: usize) -> Stored
 
 // Register i at its default if it is null, else never null.
 fn put_changed(map: IntMap, area: &mut [u8], i: u64, null: bool, limit: usize) -> Stored
-    requires { ⌜ HasRoom (cells (now area)) limit map ⌝ }
+    requires { ⌜ HasRoom (cells (now area)) limit map × Held (cells (now area)) map ⌝ }
     ensures { λ r. ⌜ Puts limit (cells (now (area .entry))) (cells (now (area .exit))) map r (updateRegister (intOf i) (changed null)) ⌝ }
 {
     if null {

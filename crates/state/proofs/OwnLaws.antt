@@ -1,49 +1,120 @@
 -- A cell with an entry's key, in cells that hold a state, is the entry: what is read there is what `get` reads, and a store over it is the store of
 -- its class and index. Assumes nothing.
-use mathlib.Core.Path.{_≡_, refl, sym, ap, _∙_}
-use mathlib.Core.Bool.{true}
-use mathlib.Core.Option.{some}
+use mathlib.Core.Path.{_≡_, refl, sym, ap, subst, _∙_}
+use mathlib.Core.Logic.{_⊎_, inl, inr}
+use mathlib.Core.Bool.{Bool, true, false, _&&_, true≢false}
 use mathlib.Core.List.{List, [], _∷_}
 use Prim.Native.Nat.{ℕ, _+_, _<_, _≤_}
 use native.Mathlib.Omega.{arith}
+use lib.Dec.{eqb, leb, ltb}
 use lib.ListN.{length, getD, set, length-set}
 use lib.Seq.{getD-set-other}
-use Rattle.model.specs.Walk.{Tried, done}
+use borrow.Author.Tests.{ltb-true, lt-ltb, le-ltb, eqb-true, eq-eqb, ne-eqb, leb-true, leb-false, le-leb, lt-leb}
+use Rattle.model.specs.Walk.{Tried}
 use Rattle.model.specs.State.{MemoryState}
-use Rattle.model.specs.Access.{_>>=_}
 use Rattle.area.specs.Cells.{blank}
 use Rattle.area.specs.declared.Cell.{Cell}
 use Rattle.intmap.specs.Find.{seek}
-use Rattle.intmap.specs.Entries.{span}
-use Rattle.intmap.specs.Get.{indexOf, Judges, readRuns, Gets}
-use Rattle.intmap.specs.Map.{levels, runsAt, HasRoom, Frame}
+use Rattle.intmap.specs.Get.{indexOf, Judges, Gets}
+use Rattle.intmap.specs.Map.{levels, IsMap, HasRoom, Frame}
 use Rattle.intmap.specs.Pack.{tagOf, keyOf, withKey, classKey}
-use Rattle.intmap.specs.Runs.{size}
+use Rattle.intmap.specs.Pick.{pick}
 use Rattle.intmap.specs.Store.{Stores}
-use Rattle.intmap.specs.Swap.{lookup}
+use Rattle.intmap.specs.declared.Found.{Found}
 use Rattle.intmap.specs.declared.Index.{Index}
 use Rattle.intmap.specs.declared.Index.the-variants as index-is
 use Rattle.intmap.specs.declared.Insertion.the-variants as insertion
 use Rattle.intmap.specs.declared.IntMap.{IntMap}
+use Rattle.intmap.specs.declared.Slot.{Slot}
 use Rattle.intmap.specs.declared.Slot.the-variants as slot
 use Rattle.intmap.specs.declared.Stored.{Stored}
 use Rattle.intmap.specs.declared.Stored.the-variants as stored
+use Rattle.intmap.proofs.GetLaws.{get-absent, get-at}
 use Rattle.intmap.proofs.JudgedLaws.{store-tried}
 use Rattle.intmap.proofs.Overwritten.{alike, alike-room, overwritten}
 use Rattle.intmap.proofs.PackLaws.{keyed-tag, keyed-key}
-use Rattle.intmap.proofs.RunLaws.{size-single}
-use Rattle.intmap.proofs.Swapped.{seek-some}
 use Rattle.encoding.proofs.Places.{held-place}
-use Rattle.state.specs.Leads.{HoldsMap, Leaves, Leads}
-use Rattle.state.specs.Own.{HasKey, Own, StoresCell}
-use Rattle.state.specs.Reads.{registerIn, Reads}
-use Rattle.state.specs.declared.Register.{Register}
-use Rattle.state.proofs.ReadLaws.{read-at}
+use Rattle.state.specs.Leads.{HoldsMap, Leaves, Held, Leads}
+use Rattle.state.specs.Own.{foundSlot, entrySlot, isAt, isFlat, HasKey, Own, StoresCell}
 use Rattle.state.proofs.StoreLeads.{wider}
 
 -- what the tests of a cell tell
-pub has-key : (cs : List Cell) (a : IntMap) (key p : ℕ) (c : Cell) (k : ℕ) → c ≡ getD cs p blank → k ≡ keyOf c → k ≡ key → a .base ≤ p → p < a .base + a .used → HasKey cs a key p
-has-key cs a key p c k ce ke e low inside = record { low = low; inside = inside; is = sym (ke ∙ ap keyOf ce) ∙ e }
+module _ (cs : List Cell) (a : IntMap) (key p : ℕ) where
+  pub tests-key : p < a .base + a .used → (c : Cell) → c ≡ getD cs p blank → (r : Bool) → r ≡ eqb (keyOf c) key → r ≡ isAt cs a key p
+  unfolding isAt
+  tests-key lt c ce r re = re ∙ ap (λ x. eqb (keyOf x) key) ce ∙ ap (λ b. b && eqb (keyOf (getD cs p blank)) key) (sym (lt-ltb p (a .base + a .used) lt))
+
+  pub tests-end : a .base + a .used ≤ p → ltb p (a .base + a .used) ≡ isAt cs a key p
+  unfolding isAt
+  tests-end le = le-ltb p (a .base + a .used) le ∙ ap (λ b. b && eqb (keyOf (getD cs p blank)) key) (sym (le-ltb p (a .base + a .used) le))
+
+  pub has-key : a .base ≤ p → isAt cs a key p ≡ true → HasKey cs a key p
+  unfolding isAt
+  has-key low e = go (ltb p (a .base + a .used)) refl e
+    where
+      go : (b : Bool) → ltb p (a .base + a .used) ≡ b → b && eqb (keyOf (getD cs p blank)) key ≡ true → HasKey cs a key p
+      go true l t = record { low = low; inside = ltb-true p (a .base + a .used) l; is = eqb-true (keyOf (getD cs p blank)) key t }
+      go false l t = absurd (true≢false (sym t))
+
+module _ (cs : List Cell) (a : IntMap) (at n : ℕ) where
+  pub flat-not : a .base + a .used ≤ at + n → false ≡ isFlat cs a at n
+  unfolding isFlat
+  flat-not h = rw (le-leb (a .base + a .used) (at + n) h) refl
+
+  module _ (h : at + n < a .base + a .used) where
+    pub flat-end : at + 1 + n ≡ a .base + a .used → true ≡ isFlat cs a at n
+    unfolding isFlat
+    flat-end e = rw (lt-leb (a .base + a .used) (at + n) h, eq-eqb (at + 1 + n) (a .base + a .used) e) refl
+
+    pub flat-by : (at + 1 + n ≡ a .base + a .used → ⊥) → (c : Cell) → c ≡ getD cs (at + 1 + n) blank → (r : Bool) → r ≡ leb 65536 (keyOf c) → r ≡ isFlat cs a at n
+    unfolding isFlat
+    flat-by ne c ce r re = re ∙ ap (λ y. leb 65536 (keyOf y)) ce ∙ rw (lt-leb (a .base + a .used) (at + n) h, ne-eqb (at + 1 + n) (a .base + a .used) ne) refl
+
+  pub flat-told : isFlat cs a at n ≡ true → (at + n < a .base + a .used) × ((at + 1 + n ≡ a .base + a .used) ⊎ (65536 ≤ keyOf (getD cs (at + 1 + n) blank)))
+  unfolding isFlat
+  flat-told e = go (leb (a .base + a .used) (at + n)) refl e
+    where
+      by : (b : Bool) → eqb (at + 1 + n) (a .base + a .used) ≡ b → pick b true (leb 65536 (keyOf (getD cs (at + 1 + n) blank))) ≡ true → (at + 1 + n ≡ a .base + a .used) ⊎ (65536 ≤ keyOf (getD cs (at + 1 + n) blank))
+      by true q t = inl (eqb-true (at + 1 + n) (a .base + a .used) q)
+      by false q t = inr (leb-true 65536 (keyOf (getD cs (at + 1 + n) blank)) t)
+
+      go : (b : Bool) → leb (a .base + a .used) (at + n) ≡ b → pick b false (pick (eqb (at + 1 + n) (a .base + a .used)) true (leb 65536 (keyOf (getD cs (at + 1 + n) blank)))) ≡ true → (at + n < a .base + a .used) × ((at + 1 + n ≡ a .base + a .used) ⊎ (65536 ≤ keyOf (getD cs (at + 1 + n) blank)))
+      go true q t = absurd (true≢false (sym t))
+      go false q t = (leb-false (a .base + a .used) (at + n) q, by (eqb (at + 1 + n) (a .base + a .used)) refl t)
+
+-- ---- an entry that a search finds
+
+module _ (cs : List Cell) (a : IntMap) (class k key : ℕ) (ke : key ≡ classKey class k) where
+  module _ (w : Found) (found : w ≡ seek cs levels key (a .len) (a .base)) where
+    same-found : w ≡ seek cs levels (classKey class k) (a .len) (a .base)
+    same-found = found ∙ ap (λ n. seek cs levels n (a .len) (a .base)) ke
+
+    pub entry-there : w .present ≡ true → slot.At (w .at) ≡ entrySlot cs a class k
+    unfolding entrySlot
+    entry-there e = ap (λ b. pick b (slot.At (w .at)) slot.Absent) (sym e) ∙ ap foundSlot same-found
+
+    pub entry-none : w .present ≡ false → slot.Absent ≡ entrySlot cs a class k
+    unfolding entrySlot
+    entry-none e = ap (λ b. pick b (slot.At (w .at)) slot.Absent) (sym e) ∙ ap foundSlot same-found
+
+  -- and one that was found at once
+  pub entry-hinted : Held cs a → (p : ℕ) → HasKey cs a key p → slot.At p ≡ entrySlot cs a class k
+  entry-hinted held p has =
+      let w = held-place (held .holds) p (has .low) (has .inside) (omega (arith, has .is, ke)) in
+      let same = ap (λ n. seek cs levels n (a .len) (a .base)) (has .is) in
+      ap slot.At (sym (w .0) ∙ ap (λ f. f .at) same) ∙ entry-there (seek cs levels key (a .len) (a .base)) refl (sym (ap (λ f. f .present) same) ∙ w .1)
+
+-- by its index
+pub entry-gets : (cs : List Cell) (a : IntMap) (class i k : ℕ) (x : Index) → Judges i x → IsMap cs a → x ≡ index-is.At k → (r : Slot) → r ≡ entrySlot cs a class k → Gets cs a class i r
+unfolding entrySlot
+entry-gets cs a class i k x judges is xe r re = subst (Gets cs a class i) (sym re) (go (seek cs levels (classKey class k) (a .len) (a .base)) refl)
+  where
+    by : (w : Found) → w ≡ seek cs levels (classKey class k) (a .len) (a .base) → (b : Bool) → w .present ≡ b → Gets cs a class i (pick b (slot.At (w .at)) slot.Absent)
+    by w e true p = get-at cs a class i x (judges .answer) is k xe w e p
+    by w e false p = get-absent cs a class i x (judges .answer) is k xe w e p
+
+    go : (w : Found) → w ≡ seek cs levels (classKey class k) (a .len) (a .base) → Gets cs a class i (foundSlot w)
+    go w e = by w e (w .present) refl
 
 pub owned : (cs : List Cell) (a : IntMap) (class i k key p : ℕ) (x : Index) → Judges i x → x ≡ index-is.At k → key ≡ classKey class k → HasKey cs a key p → (c : Cell) (tag : ℕ) → c ≡ getD cs p blank → tag ≡ tagOf c → (tag ≡ 2 → ⊥) → Own cs a class i p
 owned cs a class i k key p x judges xe ke has c tag ce te plain =
@@ -64,25 +135,12 @@ module _ {cs : List Cell} {a : IntMap} {class i p : ℕ} (own : Own cs a class i
   pub own-key : (c : Cell) (k : ℕ) → c ≡ getD cs p blank → k ≡ keyOf c → k ≡ classKey class (own .place)
   own-key c k ce ke = ke ∙ ap keyOf ce ∙ own .has .is
 
-  one : 1 ≡ size cs levels p
-  one = size-single cs levels p (getD cs p blank) refl (own .plain)
-
   module _ {limit bound : ℕ} {m : MemoryState} (h : HoldsMap limit bound cs a m) where
     found : (seek cs levels key (a .len) (a .base) .at ≡ p) × (seek cs levels key (a .len) (a .base) .present ≡ true)
     found =
         let w = held-place h p (own .has .low) (own .has .inside) (omega (arith, own .has .is)) in
         let same = ap (λ k. seek cs levels k (a .len) (a .base)) (sym (own .has .is)) in
         (ap (λ f. f .at) same ∙ w .0, ap (λ f. f .present) same ∙ w .1)
-
-    pub own-gets : Gets cs a class i (slot.At p)
-    unfolding readRuns
-    own-gets =
-        record {
-          answer =
-              sym (ap (λ (t : Tried ℕ). t >>= λ k. done (lookup (classKey class k) (runsAt cs a))) (own .judged)
-              ∙ ap done (seek-some cs levels key (a .len) (a .base) (found .1) ∙ ap (λ x. some (span cs x (size cs levels x))) (found .0)));
-          place = (own .has .low, omega (arith, own .has .inside, one));
-        }
 
   -- the cell c with the key, written over it
   module _ (limit : ℕ) (c x : Cell) (has : HasRoom cs limit a) (plain : tagOf c ≡ 2 → ⊥) (xe : x ≡ withKey key c) (ds : List Cell) (e : ds ≡ set cs p x) where
@@ -121,7 +179,3 @@ map-stored limit cs ds a class i c r st = record { says = λ bound m h. st; leav
 -- what such a store leads to
 pub cell-leads : {limit : ℕ} {cs ds : List Cell} {a : IntMap} {class i : ℕ} {c : Cell} {r : Stored} {f : MemoryState → Tried MemoryState} → StoresCell limit cs ds a class i c r → (Stores cs ds limit a class i 0 (c ∷ []) r → Leads limit cs ds a r f) → Leads limit cs ds a r f
 cell-leads {limit} {cs} {ds} {a} st leads = record { says = λ bound m le h. leads (st .says bound m h) .says bound m le h; leaves = st .leaves; frame = wider cs ds (a .base) limit (st .frame) }
-
--- a register read there
-pub own-read : (cs : List Cell) (a : IntMap) (i p : ℕ) → Own cs a 0 i p → (c : Cell) (r : Register) → c ≡ getD cs p blank → r ≡ registerIn c p → Reads cs a i r
-own-read cs a i p own c r ce re = record { says = λ limit bound m h. read-at cs a i (slot.At p) (own-gets own h) p refl c r ce re .says limit bound m h }

@@ -1,24 +1,45 @@
 -- An entry of one cell found where it stands, by its key. Only what is found is told: a cell of the map with that key, which in cells that hold a
 -- state is the entry. And what a store over it gives. Assumes nothing.
 use mathlib.Core.Path.{_≡_}
+use mathlib.Core.Bool.{Bool, true, false, _&&_}
 use mathlib.Core.List.{List, [], _∷_}
 use Prim.Native.Nat.{ℕ, _+_, _-_, _<_, _≤_}
+use lib.Dec.{eqb, leb, ltb}
 use lib.ListN.{getD}
 use Rattle.model.specs.Walk.{done}
 use Rattle.model.specs.State.{MemoryState}
 use Rattle.model.specs.Access.{index}
 use Rattle.area.specs.Cells.{blank}
 use Rattle.area.specs.declared.Cell.{Cell}
-use Rattle.intmap.specs.Map.{Frame}
+use Rattle.intmap.specs.Find.{seek}
+use Rattle.intmap.specs.Map.{levels, Frame}
 use Rattle.intmap.specs.Pack.{tagOf, keyOf, classKey}
+use Rattle.intmap.specs.Pick.{pick}
 use Rattle.intmap.specs.Signed.{intOf}
 use Rattle.intmap.specs.Store.{Stores}
+use Rattle.intmap.specs.declared.Found.{Found}
 use Rattle.intmap.specs.declared.IntMap.{IntMap}
 use Rattle.intmap.specs.declared.Slot.{Slot}
 use Rattle.intmap.specs.declared.Slot.the-variants as slot
 use Rattle.intmap.specs.declared.Stored.{Stored}
 use Rattle.state.specs.Leads.{HoldsMap, Leaves}
 use Rattle.state.specs.declared.Span.{Span}
+
+-- where a search led, if it found the key
+abbrev pub foundSlot : Found → Slot
+foundSlot w = pick (w .present) (slot.At (w .at)) slot.Absent
+
+-- the entry of an index in a class
+unfoldable pub entrySlot : List Cell → IntMap → ℕ → ℕ → Slot
+entrySlot cs a class k = foundSlot (seek cs levels (classKey class k) (a .len) (a .base))
+
+-- whether the cell at p is one of the map's and has the key
+unfoldable pub isAt : List Cell → IntMap → ℕ → ℕ → Bool
+isAt cs a key p = ltb p (a .base + a .used) && eqb (keyOf (getD cs p blank)) key
+
+-- whether the n cells behind `at` are followed by an entry or by the map's end: then n columns behind a head there have one cell each
+unfoldable pub isFlat : List Cell → IntMap → ℕ → ℕ → Bool
+isFlat cs a at n = pick (leb (a .base + a .used) (at + n)) false (pick (eqb (at + 1 + n) (a .base + a .used)) true (leb 65536 (keyOf (getD cs (at + 1 + n) blank))))
 
 -- a part of a span, and a smaller one
 pub record Narrower (s r : Span) : Type 0 where

@@ -1,19 +1,20 @@
 // Accesses to the state in the area by value: a register read, and values of one cell stored.
 ghost use mathlib.Core.Path.{_≡_};
-ghost use Prim.Native.Nat.{_<_, _≤_};
+ghost use Prim.Native.Nat.{_+_, _<_, _≤_};
 ghost use lib.ListN.{length, getD};
 ghost use mathlib.Core.Option.{none};
 ghost use Rattle.model.specs.State.{Column, Single, Int, datatypeCode};
 ghost use Rattle.model.specs.Access.{storeRegister};
 ghost use Rattle.area.specs.Cells.{cells};
+ghost use Rattle.intmap.specs.Get.{Gets};
 ghost use Rattle.intmap.specs.Map.{IsMap};
 ghost use Rattle.intmap.specs.Pack.{tagOf};
 ghost use Rattle.intmap.specs.Signed.{intOf};
 ghost use Rattle.encoding.specs.Encode.{single};
 ghost use Rattle.encoding.specs.Decode.{nullables};
 ghost use Rattle.rows.specs.Rows.{Operand};
-ghost use Rattle.state.specs.Leads.{Current, Leads};
-ghost use Rattle.state.specs.Own.{Narrower, Hints, Owns, StoresCell};
+ghost use Rattle.state.specs.Leads.{Held, Current, Leads};
+ghost use Rattle.state.specs.Own.{entrySlot, isAt, isFlat, Narrower, Hints, Owns, StoresCell};
 ghost use Rattle.state.specs.Reads.{registerIn, Reads};
 use area::Cell;
 use intmap::Index;
@@ -104,14 +105,23 @@ fn part(s: Span, mid: usize, p: usize, upper: bool) -> Span
     }
 }
 
-// The nearest cell from `at` down to `low` that begins an entry, or `low`: the cells inside a record or table have lower keys than entries.
+// The nearest cell from `at` down to `low` that begins an entry, or `low`. A column inside a record tells by its key how far away the head is, if
+// none before it is absent or a record.
 fn entry_below(area: &[u8], low: usize, at: usize) -> usize
     requires { ⌜ (low ≤ at) × (at < length (cells (now area))) × (length (cells (now area)) ≤ 1048576) ⌝ }
     ensures { λ r. ⌜ (low ≤ r) × (r ≤ at) ⌝ }
 {
-    let mut p = at;
+    let c = area::cell_at(area, at);
+    if intmap::begins(c) {
+        return at;
+    }
+    let k = intmap::key_of(c);
+    if ((at - low) as u64) <= k {
+        return low;
+    }
+    let mut p = at - 1 - k as usize;
     while low < p {
-        if 65535 < intmap::key_of(area::cell_at(area, p)) {
+        if intmap::begins(area::cell_at(area, p)) {
             return p;
         }
         p -= 1;
@@ -119,63 +129,185 @@ fn entry_below(area: &[u8], low: usize, at: usize) -> usize
     low
 }
 
-// Looks for a key by halves. It says no more of a key that it does not find.
-fn by_halves(map: IntMap, area: &[u8], key: u64) -> Slot
-    requires { ⌜ IsMap (cells (now area)) map ⌝ }
-    ensures { λ r. ⌜ Hints (cells (now (area .entry))) map key r ⌝ }
+// Where a key stands if between it and the entry at p, which has key k, are the entries of all keys between, of one cell each; the map's end, if
+// that is outside.
+fn at_distance(map: IntMap, p: usize, k: u64, key: u64) -> usize
+    requires { ⌜ (map .base ≤ p) × (p ≤ map .base + map .used) × (map .base + map .used ≤ 1048576) ⌝ }
+    ensures { λ r. ⌜ (map .base ≤ r) × (r ≤ map .base + map .used) ⌝ }
 {
-    let mut s = Span {
-        low: map.base,
-        high: map.base + map.used,
-    };
+    let end = map.base + map.used;
+    if k <= key {
+        if ((end - p) as u64) <= key - k {
+            return end;
+        }
+        return p + (key - k) as usize;
+    }
+    if ((p - map.base) as u64) < k - key {
+        return end;
+    }
+    p - (k - key) as usize
+}
+
+// Whether the cell at p is one of the map's and has the key.
+fn is_at(map: IntMap, area: &[u8], p: usize, key: u64) -> bool
+    requires { ⌜ IsMap (cells (now area)) map × (key < 1099511627776) ⌝ }
+    ensures { λ r. ⌜ r ≡ isAt (cells (now (area .entry))) map key p ⌝ }
+{
+    p < map.base + map.used && intmap::has_key(area::cell_at(area, p), key)
+}
+
+// Looks for a key by halves, and at each cell for what is at the distance of its key. A place in the map, or its end: whoever asks tests it.
+fn by_halves(map: IntMap, area: &[u8], from: Span, key: u64) -> usize
+    requires { ⌜ IsMap (cells (now area)) map × (map .base ≤ from .low) × (from .high ≤ map .base + map .used) × (key < 1099511627776) ⌝ }
+    ensures { λ r. ⌜ (map .base ≤ r) × (r ≤ map .base + map .used) ⌝ }
+{
+    let mut s = from;
     while s.low < s.high {
         let mid = s.low + (s.high - s.low) / 2;
         let p = entry_below(area, s.low, mid);
         let k = intmap::key_of(area::cell_at(area, p));
-        if k == key {
-            return Slot::At(p);
+        let q = at_distance(map, p, k, key);
+        if is_at(map, area, q, key) {
+            return q;
         }
         s = part(s, mid, p, k < key);
     }
-    Slot::Absent
+    map.base + map.used
 }
 
-// Looks for a key where it stands if the entries before it have one cell each, and no key between is absent. It says no more of one that it does
-// not find.
-fn by_distance(map: IntMap, area: &[u8], key: u64) -> Slot
-    requires { ⌜ IsMap (cells (now area)) map ⌝ }
+// How many of the first and of the last entries a search tries before it goes on by halves.
+const FIRST: usize = 2;
+
+const LAST: usize = 8;
+
+// How many cells the entry that begins with c has, if each column of a record has one.
+fn flat_size(c: Cell) -> usize
+    ensures { λ r. ⌜ (1 ≤ r) × (r ≤ 65536) ⌝ }
+{
+    if intmap::tag_of(c) == intmap::RECORD {
+        if c.payload < 65536 {
+            return 1 + c.payload as usize;
+        }
+    }
+    1
+}
+
+// Looks for a key at its distance from the first entries, and then by halves.
+fn from_first(map: IntMap, area: &[u8], key: u64) -> usize
+    requires { ⌜ IsMap (cells (now area)) map × (key < 1099511627776) ⌝ }
+    ensures { λ r. ⌜ (map .base ≤ r) × (r ≤ map .base + map .used) ⌝ }
+{
+    let end = map.base + map.used;
+    let mut p = map.base;
+    let mut left: usize = FIRST;
+    while p < end {
+        if left == 0 {
+            return by_halves(map, area, Span { low: p, high: end }, key);
+        }
+        let c = area::cell_at(area, p);
+        let q = at_distance(map, p, intmap::key_of(c), key);
+        if is_at(map, area, q, key) {
+            return q;
+        }
+        p += flat_size(c);
+        left -= 1;
+    }
+    end
+}
+
+// Looks for a key among the last entries, and then by halves.
+fn from_last(map: IntMap, area: &[u8], key: u64) -> usize
+    requires { ⌜ IsMap (cells (now area)) map × (key < 1099511627776) ⌝ }
+    ensures { λ r. ⌜ (map .base ≤ r) × (r ≤ map .base + map .used) ⌝ }
+{
+    let low = map.base;
+    let mut high = map.base + map.used;
+    let mut left: usize = LAST;
+    while low < high {
+        if left == 0 {
+            return by_halves(map, area, Span { low, high }, key);
+        }
+        let p = entry_below(area, low, high - 1);
+        if intmap::key_of(area::cell_at(area, p)) <= key {
+            return p;
+        }
+        high = p;
+        left -= 1;
+    }
+    high
+}
+
+// Where to look for a key first: registers stand close, and cursors and tables are the last entries.
+fn guess(map: IntMap, area: &[u8], class: u64, key: u64) -> usize
+    requires { ⌜ IsMap (cells (now area)) map × (key < 1099511627776) ⌝ }
+    ensures { λ r. ⌜ (map .base ≤ r) × (r ≤ map .base + map .used) ⌝ }
+{
+    if class == REGISTERS {
+        return from_first(map, area, key);
+    }
+    from_last(map, area, key)
+}
+
+// Looks for a key where it may be found at once. It says no more of one that it does not find.
+fn hint(map: IntMap, area: &[u8], class: u64, key: u64) -> Slot
+    requires { ⌜ IsMap (cells (now area)) map × (key < 1099511627776) ⌝ }
     ensures { λ r. ⌜ Hints (cells (now (area .entry))) map key r ⌝ }
 {
-    if map.used == 0 {
-        return Slot::Absent;
-    }
-    let first = intmap::key_of(area::cell_at(area, map.base));
-    if key < first {
-        return Slot::Absent;
-    }
-    if (map.used as u64) <= key - first {
-        return Slot::Absent;
-    }
-    let p = map.base + (key - first) as usize;
-    if intmap::key_of(area::cell_at(area, p)) == key {
+    let p = guess(map, area, class, key);
+    if is_at(map, area, p, key) {
         return Slot::At(p);
     }
     Slot::Absent
 }
 
-// Looks for a key where it may be found at once: a register's by its distance, since they stand close, and others by halves.
-fn hint(map: IntMap, area: &[u8], class: u64, key: u64) -> Slot
-    requires { ⌜ IsMap (cells (now area)) map ⌝ }
-    ensures { λ r. ⌜ Hints (cells (now (area .entry))) map key r ⌝ }
+// Whether the n cells behind `at` are followed by an entry or by the map's end.
+pub fn is_flat(map: IntMap, area: &[u8], at: usize, n: u64) -> bool
+    requires { ⌜ IsMap (cells (now area)) map × (map .base ≤ at) × (at < map .base + map .used) ⌝ }
+    ensures { λ r. ⌜ r ≡ isFlat (cells (now (area .entry))) map at n ⌝ }
 {
-    if class == REGISTERS {
-        return by_distance(map, area, key);
+    let end = map.base + map.used;
+    if ((end - at) as u64) <= n {
+        return false;
     }
-    by_halves(map, area, key)
+    let next = at + 1 + n as usize;
+    if next == end {
+        return true;
+    }
+    intmap::begins(area::cell_at(area, next))
+}
+
+// Where the entry of a place in a class is: at once, or by a search of all entries.
+pub fn entry_at(map: IntMap, area: &[u8], class: u64, k: u64) -> Slot
+    requires { ⌜ Held (cells (now area)) map × (class < 3) × (k ≤ 65535) ⌝ }
+    ensures { λ r. ⌜ r ≡ entrySlot (cells (now (area .entry))) map class k ⌝ }
+{
+    let key = intmap::class_key(class, k);
+    let near = hint(map, area, class, key);
+    if let Slot::At(p) = near {
+        return Slot::At(p);
+    }
+    let found = map.find(area, key);
+    let there = found.present;
+    if there {
+        return Slot::At(found.at);
+    }
+    Slot::Absent
+}
+
+// Where the entry of index i in a class is.
+pub fn get(map: IntMap, area: &[u8], class: u64, i: u64) -> Slot
+    requires { ⌜ Held (cells (now area)) map × (class < 3) ⌝ }
+    ensures { λ r. ⌜ Gets (cells (now (area .entry))) map class i r ⌝ }
+{
+    let x = intmap::judge_index(i);
+    match x {
+        Index::Bad(n) => Slot::Bad(n),
+        Index::At(k) => entry_at(map, area, class, k),
+    }
 }
 
 // The cell of index i in a class, if it is found at once and is no record's. In cells that hold a state it is the entry.
-pub fn own_cell(map: IntMap, area: &[u8], class: u64, i: u64) -> Slot
+fn own_cell(map: IntMap, area: &[u8], class: u64, i: u64) -> Slot
     requires { ⌜ IsMap (cells (now area)) map × (class < 3) ⌝ }
     ensures { λ r. ⌜ Owns (cells (now (area .entry))) map class i r ⌝ }
 {
@@ -265,14 +397,10 @@ fn register_in(c: Cell, at: usize) -> Register
 
 // Reads register i.
 pub fn read_register(map: IntMap, area: &[u8], i: u64) -> Register
-    requires { ⌜ IsMap (cells (now area)) map ⌝ }
+    requires { ⌜ Held (cells (now area)) map ⌝ }
     ensures { λ r. ⌜ Reads (cells (now (area .entry))) map i r ⌝ }
 {
-    let own = own_cell(map, area, REGISTERS, i);
-    if let Slot::At(p) = own {
-        return register_in(area::cell_at(area, p), p);
-    }
-    let x = map.get(area, REGISTERS, i);
+    let x = get(map, area, REGISTERS, i);
     match x {
         Slot::Bad(n) => Register::Bad(n),
         Slot::Absent => Register::Absent,

@@ -41,7 +41,8 @@ use Rattle.rows.specs.declared.Row.{Row}
 use Rattle.state.specs.Leads.{Current, HoldsMap}
 use Rattle.state.specs.Arms.{CursorArm}
 use Rattle.cursor_arms.specs.Cursors.{TellsCursor, ReadsCursor}
-use Rattle.cursor_arms.specs.StandsFor.{entrySlot, registerSlot, headSlot, columnsSlot, FindsColumns}
+use Rattle.state.specs.Own.{entrySlot}
+use Rattle.cursor_arms.specs.StandsFor.{registerSlot, headSlot, columnsSlot, FindsColumns}
 use Rattle.cursor_arms.specs.declared.CursorDataType.{CursorDataType}
 use Rattle.cursor_arms.specs.declared.CursorDataType.the-variants as cursor
 use Rattle.cursor_arms.proofs.DupLaws.{frame-same}

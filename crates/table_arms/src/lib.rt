@@ -142,7 +142,7 @@ pub fn insert(map: IntMap, area: &mut [u8], x: Row, limit: usize) -> Stored
     requires { ⌜ Current limit (cells (now area)) map × IsRow x ⌝ }
     ensures { λ r. ⌜ ((row : ℕ) → CursorArm limit (cells (now (area .entry))) (cells (now (area .exit))) map row x opInsert r) ⌝ }
 {
-    let v = map.get(area, state::REGISTERS, x.p2);
+    let v = state::get(map, area, state::REGISTERS, x.p2);
     match v {
         Slot::Bad(n) => Stored::Refused(n),
         Slot::Absent => Stored::Done(map),

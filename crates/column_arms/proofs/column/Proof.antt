@@ -1,5 +1,6 @@
 -- `column_arms::column` reads the cursor and stores one of its columns, or the default. Assumes nothing.
 use Rattle.column_arms.proofs.ArmLaws.{head-above, head-tag, head-below, column-goes, column-default, arm-bad, arm-absent, arm-there}
+use Rattle.state.proofs.LeadsLaws.{current-held}
 use borrow.Author.Needs.{needs}
 use Rattle.column_arms.proofs.column.Statement.{statement}
 use Rattle.column_arms.proofs.column.Tie as tie
@@ -11,10 +12,10 @@ use Rattle.cursor_arms.proofs.read_cursor.Reads as read-cursor-reads
 use Rattle.state.proofs.store_single.Reads as store-single-reads
 
 read-cursor-requires : tie.Need-read-cursor-requires
-read-cursor-requires c κs = search needs
+read-cursor-requires c κs = current-held (c .before .before .pre .0)
 
 columns-requires : tie.Need-columns-requires
-columns-requires c κs = search needs
+columns-requires c κs = (current-held (c .before .before .before .before .pre .0), c .before .read-cursor .ensures .within)
 
 enum-known-columns : tie.Need-enum-known-columns
 enum-known-columns c = search needs

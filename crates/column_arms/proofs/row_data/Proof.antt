@@ -2,6 +2,7 @@
 use Rattle.column_arms.proofs.ArmLaws.{head-above, head-tag, head-below, head-place, row-goes, row-empty, row-there, arm-bad, arm-absent, arm-there}
 use mathlib.Core.Path.{sym, ap}
 use Rattle.area.specs.declared.Cell.{Cell}
+use Rattle.state.proofs.LeadsLaws.{current-held}
 use borrow.Author.Needs.{needs}
 use Rattle.column_arms.proofs.row_data.Statement.{statement}
 use Rattle.column_arms.proofs.row_data.Tie as tie
@@ -14,10 +15,10 @@ use Rattle.cursor_arms.proofs.CursorDataType.columns.Reads as columns-reads
 use Rattle.cursor_arms.proofs.read_cursor.Reads as read-cursor-reads
 
 read-cursor-requires : tie.Need-read-cursor-requires
-read-cursor-requires c κs = search needs
+read-cursor-requires c κs = current-held (c .before .before .pre .0)
 
 columns-requires : tie.Need-columns-requires
-columns-requires c κs = search needs
+columns-requires c κs = (current-held (c .before .before .before .before .pre .0), c .before .read-cursor .ensures .within)
 
 enum-known-columns : tie.Need-enum-known-columns
 enum-known-columns c = search needs

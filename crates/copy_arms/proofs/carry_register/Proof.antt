@@ -1,14 +1,14 @@
 -- `copy_arms::carry_register` looks for the register, and stores its entry once more, and then null in its place, if it moves. Assumes nothing.
 use native.Mathlib.Omega.{arith}
 use borrow.Author.Tests.{not-true, not-false}
-use Rattle.state.proofs.LeadsLaws.{reached-last}
+use Rattle.state.proofs.LeadsLaws.{reached-last, current-held}
 use Rattle.copy_arms.proofs.CopyLaws.{found-place, carry-bad, carry-absent, carry-copies, carry-stop, carry-next}
 use borrow.Author.Needs.{needs}
 use Rattle.copy_arms.proofs.carry_register.Statement.{statement}
 use Rattle.copy_arms.proofs.carry_register.Tie as tie
 
 get-requires : tie.Need-get-requires
-get-requires c κs = search needs
+get-requires c κs = (current-held (c .before .before .pre), omega arith)
 
 enum-known-x : tie.Need-enum-known-x
 enum-known-x c = search needs

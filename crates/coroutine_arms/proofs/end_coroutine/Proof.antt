@@ -1,6 +1,7 @@
 -- `coroutine_arms::end_coroutine` reads the register, and removes it where it names a Yield row. Assumes nothing.
 use mathlib.Core.Path.{sym, subst}
 use Rattle.jump_arms.specs.Arms.{Knows}
+use Rattle.state.proofs.LeadsLaws.{current-held}
 use Rattle.coroutine_arms.specs.Arms.{RowsArm}
 use Rattle.coroutine_arms.proofs.CoroutineLaws.{end-coroutine-arm, number-bad, number-unknown, end-here, end-to}
 use borrow.Author.Needs.{needs}
@@ -8,7 +9,7 @@ use Rattle.coroutine_arms.proofs.end_coroutine.Statement.{statement}
 use Rattle.coroutine_arms.proofs.end_coroutine.Tie as tie
 
 known-int-requires : tie.Need-known-int-requires
-known-int-requires c κs = search needs
+known-int-requires c κs = current-held (c .before .before .before .pre .0 .current)
 
 enum-known-v : tie.Need-enum-known-v
 enum-known-v c = search needs

@@ -1,12 +1,12 @@
 -- `cursor_arms::delete` reads the cursor, and changes its table. Assumes nothing.
-use Rattle.intmap.proofs.StoreLaws.{room-map}
+use Rattle.state.proofs.LeadsLaws.{current-held}
 use Rattle.cursor_arms.proofs.DeleteLaws.{row-within, delete-bad, delete-absent, delete-pseudo, delete-normal}
 use borrow.Author.Needs.{needs}
 use Rattle.cursor_arms.proofs.delete.Statement.{statement}
 use Rattle.cursor_arms.proofs.delete.Tie as tie
 
 read-cursor-requires : tie.Need-read-cursor-requires
-read-cursor-requires c κs = search needs
+read-cursor-requires c κs = current-held (c .before .before .pre .0 .current)
 
 enum-known-p : tie.Need-enum-known-p
 enum-known-p c = search needs
@@ -18,7 +18,7 @@ enum-known-p-2 : tie.Need-enum-known-p-2
 enum-known-p-2 c = search needs
 
 delete-from-requires : tie.Need-delete-from-requires
-delete-from-requires c κs = (room-map (c .before .before .before .before .before .before .before .pre .0 .current .room), row-within _ _ _ _ (c .before .before .before .before .read-cursor .ensures) _ (c .before .before .p2 .given .1))
+delete-from-requires c κs = (current-held (c .before .before .before .before .before .before .before .pre .0 .current), row-within _ _ _ _ (c .before .before .before .before .read-cursor .ensures) _ (c .before .before .p2 .given .1))
 
 enum-told-2 : tie.Need-enum-told-2
 enum-told-2 c = search needs

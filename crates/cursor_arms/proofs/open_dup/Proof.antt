@@ -1,11 +1,12 @@
 -- `cursor_arms::open_dup` reads a cursor, and stores it if there is one. Assumes nothing.
 use Rattle.cursor_arms.proofs.DupLaws.{dup-bad, dup-absent, dup-normal, dup-pseudo}
+use Rattle.state.proofs.LeadsLaws.{current-held}
 use borrow.Author.Needs.{needs}
 use Rattle.cursor_arms.proofs.open_dup.Statement.{statement}
 use Rattle.cursor_arms.proofs.open_dup.Tie as tie
 
 read-cursor-requires : tie.Need-read-cursor-requires
-read-cursor-requires c κs = search needs
+read-cursor-requires c κs = current-held (c .before .before .pre .0)
 
 enum-known-p : tie.Need-enum-known-p
 enum-known-p c = search needs

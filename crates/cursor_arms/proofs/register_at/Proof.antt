@@ -6,7 +6,6 @@ use Rattle.cursor_arms.proofs.register_at.Statement.{statement}
 use Rattle.cursor_arms.proofs.register_at.Tie as tie
 use Rattle.cursor_arms.proofs.register_at.Reads as reads
 use Rattle.cursor_arms.proofs.register_at.Lts as lts
-use Rattle.cursor_arms.proofs.entry_at.Reads as entry-at-reads
 use Rattle.intmap.proofs.judge_index.Reads as judge-index-reads
 
 -- src/lib.rt:133:9

@@ -1,6 +1,7 @@
 -- `ifpos_arm::if_pos` reads the register. Assumes nothing.
 use mathlib.Core.Path.{sym, subst}
 use Rattle.jump_arms.specs.Arms.{Knows}
+use Rattle.state.proofs.LeadsLaws.{current-held}
 use Rattle.ifpos_arm.specs.Arm.{IfPosArm}
 use Rattle.ifpos_arm.proofs.IfPosLaws.{again-as, pos-bad, pos-unknown, pos-on, pos-branch}
 use borrow.Author.Needs.{needs}
@@ -11,7 +12,7 @@ add-t12 : tie.Need-add-t12
 add-t12 c = search needs
 
 known-int-requires : tie.Need-known-int-requires
-known-int-requires c κs = search needs
+known-int-requires c κs = current-held (c .before .before .before .before .pre .current)
 
 enum-known-v : tie.Need-enum-known-v
 enum-known-v c = search needs

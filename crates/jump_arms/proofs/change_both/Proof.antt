@@ -1,7 +1,7 @@
 -- `jump_arms::change_both` builds the branch behind the map. Assumes nothing.
 use mathlib.Core.Path.{sym, subst}
 use Rattle.jump_arms.specs.Arms.{BothArm}
-use Rattle.jump_arms.proofs.BothLaws.{behind-room, state-room, both-refused, both-arm}
+use Rattle.jump_arms.proofs.BothLaws.{behind-room, behind-held, state-room, state-held, both-refused, both-arm}
 use Rattle.jump_arms.proofs.NullLaws.{update-row}
 use borrow.Author.Needs.{needs}
 use Rattle.jump_arms.proofs.change_both.Statement.{statement}
@@ -19,7 +19,7 @@ copy-to-requires : tie.Need-copy-to-requires
 copy-to-requires c κs = search needs
 
 put-changed-requires : tie.Need-put-changed-requires
-put-changed-requires c κs = behind-room _ _ _ _ (c .before .before .before .before .before .before .before .before .pre .current) _ (c .before .before .before .copy-to .ensures)
+put-changed-requires c κs = (behind-room _ _ _ _ (c .before .before .before .before .before .before .before .before .pre .current) _ (c .before .before .before .copy-to .ensures), behind-held _ _ _ _ (c .before .before .before .before .before .before .before .before .pre .current) _ (c .before .before .before .copy-to .ensures))
 
 enum-known-there : tie.Need-enum-known-there
 enum-known-there c = search needs
@@ -28,7 +28,7 @@ enum-known-there-2 : tie.Need-enum-known-there-2
 enum-known-there-2 c = search needs
 
 put-changed-requires-2 : tie.Need-put-changed-requires-2
-put-changed-requires-2 c κs = state-room _ _ _ _ (c .before .before .before .before .before .before .before .before .before .before .before .before .before .before .before .pre .current) _ (c .before .before .before .before .before .before .before .before .before .before .copy-to .ensures) _ (c .before .before .before .before .before .before .put-changed .ensures .frame)
+put-changed-requires-2 c κs = (state-room _ _ _ _ (c .before .before .before .before .before .before .before .before .before .before .before .before .before .before .before .pre .current) _ (c .before .before .before .before .before .before .before .before .before .before .copy-to .ensures) _ (c .before .before .before .before .before .before .put-changed .ensures .frame), state-held _ _ _ _ (c .before .before .before .before .before .before .before .before .before .before .before .before .before .before .before .pre .current) _ (c .before .before .before .before .before .before .before .before .before .before .copy-to .ensures) _ (c .before .before .before .before .before .before .put-changed .ensures .frame))
 
 add-branch-and-go : tie.Need-add-branch-and-go
 add-branch-and-go c = search needs

@@ -1,5 +1,6 @@
 -- `jump_arms::if_` asks whether the number is known. Assumes nothing.
 use mathlib.Core.Path.{subst}
+use Rattle.state.proofs.LeadsLaws.{current-held}
 use Rattle.jump_arms.specs.Arms.{Knows}
 use Rattle.jump_arms.proofs.IfLaws.{if-bad, if-unknown, if-int}
 use borrow.Author.Needs.{needs}
@@ -7,7 +8,7 @@ use Rattle.jump_arms.proofs.if_.Statement.{statement}
 use Rattle.jump_arms.proofs.if_.Tie as tie
 
 known-int-requires : tie.Need-known-int-requires
-known-int-requires c κs = search needs
+known-int-requires c κs = current-held (c .before .before .before .pre .current)
 
 enum-known-v : tie.Need-enum-known-v
 enum-known-v c = search needs

@@ -1,5 +1,6 @@
 -- `jump_arms::is_null` asks the register. Assumes nothing.
 use mathlib.Core.Path.{subst}
+use Rattle.state.proofs.LeadsLaws.{current-held}
 use Rattle.jump_arms.specs.Arms.{Asks}
 use Rattle.jump_arms.proofs.NullLaws.{change-bad, change-ends, change-both, is-null-arm, decided-null}
 use borrow.Author.Needs.{needs}
@@ -11,7 +12,7 @@ use Rattle.jump_arms.proofs.ask.Reads as ask-reads
 use Rattle.jump_arms.proofs.change_both.Reads as change-both-reads
 
 ask-requires : tie.Need-ask-requires
-ask-requires c κs = search needs
+ask-requires c κs = current-held (c .before .before .before .pre .current)
 
 enum-known-v : tie.Need-enum-known-v
 enum-known-v c = search needs

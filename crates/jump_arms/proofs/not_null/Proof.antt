@@ -1,6 +1,7 @@
 -- `jump_arms::not_null` asks the register. Assumes nothing.
 use mathlib.Core.Path.{sym, subst}
 use Rattle.state.specs.Steps.{JumpArm}
+use Rattle.state.proofs.LeadsLaws.{current-held}
 use Rattle.jump_arms.specs.Arms.{Asks}
 use Rattle.jump_arms.proofs.NullLaws.{change-bad, change-ends, change-branches, change-stays, change-both, not-null-arm, decided-kind}
 use borrow.Author.Needs.{needs}
@@ -8,7 +9,7 @@ use Rattle.jump_arms.proofs.not_null.Statement.{statement}
 use Rattle.jump_arms.proofs.not_null.Tie as tie
 
 ask-requires : tie.Need-ask-requires
-ask-requires c κs = search needs
+ask-requires c κs = current-held (c .before .before .before .pre .current)
 
 enum-known-v : tie.Need-enum-known-v
 enum-known-v c = search needs
@@ -20,7 +21,7 @@ enum-told-2 : tie.Need-enum-told-2
 enum-told-2 c = search needs
 
 put-never-requires : tie.Need-put-never-requires
-put-never-requires c κs = search needs
+put-never-requires c κs = (c .before .before .before .before .before .before .before .pre .current .room, current-held (c .before .before .before .before .before .before .before .pre .current))
 
 branch-at-requires : tie.Need-branch-at-requires
 branch-at-requires c κs = search needs
@@ -29,7 +30,7 @@ enum-told-3 : tie.Need-enum-told-3
 enum-told-3 c = search needs
 
 put-default-requires : tie.Need-put-default-requires
-put-default-requires c κs = search needs
+put-default-requires c κs = (c .before .before .before .before .before .before .before .pre .current .room, current-held (c .before .before .before .before .before .before .before .pre .current))
 
 add-go-on : tie.Need-add-go-on
 add-go-on c = search needs

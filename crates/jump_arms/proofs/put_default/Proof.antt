@@ -58,7 +58,7 @@ same-length-2 c = search needs
 
 -- src/lib.rt:327:1
 returns-2 : tie.Need-returns-2
-returns-2 c = put-absent _ _ _ _ _ (c .before .before .read-register .ensures) (c .before .before .before .before .before .pre) _ (c .enum-told .given .1)
+returns-2 c = put-absent _ _ _ _ _ (c .before .before .read-register .ensures) (c .before .before .before .before .before .pre .0) _ (c .enum-told .given .1)
 
 -- src/lib.rt:327:1
 same-length-3 : tie.Need-same-length-3

@@ -55,7 +55,7 @@ same-length-2 c = search needs
 
 -- src/lib.rt:344:1
 returns-2 : tie.Need-returns-2
-returns-2 c = put-absent _ _ _ _ _ (c .before .before .read-register .ensures) (c .before .before .before .before .before .pre) _ (c .enum-told .given .1)
+returns-2 c = put-absent _ _ _ _ _ (c .before .before .read-register .ensures) (c .before .before .before .before .before .pre .0) _ (c .enum-told .given .1)
 
 -- src/lib.rt:344:1
 same-length-3 : tie.Need-same-length-3
@@ -71,7 +71,7 @@ same-length-4 c = search needs
 
 -- src/lib.rt:344:1
 returns-4 : tie.Need-returns-4
-returns-4 c = never-record _ _ _ _ _ (c .before .before .read-register .ensures) (c .before .before .before .before .before .pre) _ (c .enum-told3 .given .1)
+returns-4 c = never-record _ _ _ _ _ (c .before .before .read-register .ensures) (c .before .before .before .before .before .pre .0) _ (c .enum-told3 .given .1)
 
 -- src/lib.rt:344:1
 same-length-5 : tie.Need-same-length-5
@@ -79,7 +79,7 @@ same-length-5 c = search needs
 
 -- src/lib.rt:344:1
 returns-5 : tie.Need-returns-5
-returns-5 c = never-int _ _ _ _ _ (c .before .before .read-register .ensures) (c .before .before .before .before .before .pre) _ (c .enum-told4 .given .1)
+returns-5 c = never-int _ _ _ _ _ (c .before .before .read-register .ensures) (c .before .before .before .before .before .pre .0) _ (c .enum-told4 .given .1)
 
 pub put-never-spec : {M : Type 1} → statement M
 put-never-spec =

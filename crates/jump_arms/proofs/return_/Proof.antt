@@ -1,6 +1,7 @@
 -- `jump_arms::return_` removes the register and goes to the row after its number. Assumes nothing.
 use mathlib.Core.Path.{sym, subst}
 use Rattle.state.specs.Steps.{JumpArm}
+use Rattle.state.proofs.LeadsLaws.{current-held}
 use Rattle.jump_arms.specs.Arms.{Knows}
 use Rattle.jump_arms.proofs.ReturnLaws.{return-bad, return-on, return-ends, return-to}
 use borrow.Author.Needs.{needs}
@@ -8,7 +9,7 @@ use Rattle.jump_arms.proofs.return_.Statement.{statement}
 use Rattle.jump_arms.proofs.return_.Tie as tie
 
 known-int-requires : tie.Need-known-int-requires
-known-int-requires c κs = search needs
+known-int-requires c κs = current-held (c .before .before .before .pre .current)
 
 enum-known-v : tie.Need-enum-known-v
 enum-known-v c = search needs

@@ -2,6 +2,7 @@
 use mathlib.Core.Path.{refl}
 use denote.Enum.Declared
 use Rattle.state.proofs.Register
+use Rattle.state.proofs.LeadsLaws.{current-held}
 use Rattle.register_arms.proofs.ValueLaws.{not-bad}
 use Rattle.register_arms.proofs.RegisterLaws.{refuses-leads, leads-where, first-refused, second-refused, operands-stored}
 use borrow.Author.Needs.{needs}
@@ -9,7 +10,7 @@ use Rattle.register_arms.proofs.arithmetic.Statement.{statement}
 use Rattle.register_arms.proofs.arithmetic.Tie as tie
 
 read-register-requires : tie.Need-read-register-requires
-read-register-requires c κs = search needs
+read-register-requires c κs = current-held (c .before .before .pre .0)
 
 enum-known-a : tie.Need-enum-known-a
 enum-known-a c = search needs
@@ -21,7 +22,7 @@ returns : tie.Need-returns
 returns c = record { leads = λ meaning l s j. refuses-leads _ _ _ _ _ (λ bound m h. first-refused _ meaning l _ s j _ _ _ (c .before .before .before .read-register .result) (c .before .before .before .read-register .ensures) bound m h _ (c .before .a .given .1)) }
 
 read-register-requires-2 : tie.Need-read-register-requires-2
-read-register-requires-2 c κs = search needs
+read-register-requires-2 c κs = current-held (c .before .before .before .before .before .pre .0)
 
 enum-known-b : tie.Need-enum-known-b
 enum-known-b c = search needs

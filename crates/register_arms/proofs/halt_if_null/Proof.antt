@@ -1,4 +1,5 @@
 -- `register_arms::halt_if_null` reads P3, and stores a plain column there again, as never null. Assumes nothing.
+use Rattle.state.proofs.LeadsLaws.{current-held}
 use borrow.Author.Needs.{needs}
 use Rattle.register_arms.proofs.RegisterLaws.{refuses-leads, same-leads, leads-where}
 use Rattle.register_arms.proofs.ChangeLaws.{halt-refused, halt-nothing, halt-record, halt-int, halt-stored}
@@ -6,7 +7,7 @@ use Rattle.register_arms.proofs.halt_if_null.Statement.{statement}
 use Rattle.register_arms.proofs.halt_if_null.Tie as tie
 
 read-register-requires : tie.Need-read-register-requires
-read-register-requires c κs = search needs
+read-register-requires c κs = current-held (c .before .before .pre .0)
 
 enum-known-n : tie.Need-enum-known-n
 enum-known-n c = search needs

@@ -1,5 +1,6 @@
 -- `rewind_arm::rewind` reads the cursor, where P2 is not 0. Assumes nothing.
 use Rattle.cursor_arms.proofs.DeleteLaws.{row-within}
+use Rattle.state.proofs.LeadsLaws.{current-held}
 use Rattle.rewind_arm.proofs.RewindLaws.{rewind-on, rewind-bad, rewind-absent, rewind-normal, rewind-pseudo}
 use borrow.Author.Needs.{needs}
 use Rattle.rewind_arm.proofs.rewind.Statement.{statement}
@@ -19,7 +20,7 @@ returns c = rewind-on _ _ _ _ (c .before .before .before .before .before .pre .c
 
 -- src/lib.rt:58:9
 read-cursor-requires : tie.Need-read-cursor-requires
-read-cursor-requires c κs = search needs
+read-cursor-requires c κs = current-held (c .before .before .before .before .before .before .pre .current)
 
 -- src/lib.rt:60:29
 enum-known-p : tie.Need-enum-known-p

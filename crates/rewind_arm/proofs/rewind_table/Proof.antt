@@ -1,4 +1,7 @@
 -- `rewind_arm::rewind_table` goes by whether the table is empty. Assumes nothing.
+use native.Mathlib.Omega.{arith}
+use Rattle.state.proofs.LeadsLaws.{current-held}
+use Rattle.jump_arms.proofs.BothLaws.{behind-held}
 use Rattle.rewind_arm.proofs.RewindLaws.{table-full, table-empty, table-unknown}
 use borrow.Author.Needs.{needs}
 use Rattle.rewind_arm.proofs.rewind_table.Statement.{statement}
@@ -11,7 +14,7 @@ use Rattle.intmap.proofs.IntMap.copy_to.Reads as copy-to-reads
 
 -- src/lib.rt:23:9
 is-empty-requires : tie.Need-is-empty-requires
-is-empty-requires c κs = search needs
+is-empty-requires c κs = (current-held (c .before .before .before .pre .0 .current), c .before .before .before .pre .1)
 
 -- src/lib.rt:25:14
 add-t13 : tie.Need-add-t13
@@ -43,7 +46,7 @@ copy-to-requires c κs = search needs
 
 -- src/lib.rt:35:5
 set-empty-requires : tie.Need-set-empty-requires
-set-empty-requires c κs = search needs
+set-empty-requires c κs = (behind-held _ _ _ _ (c .before .before .before .before .before .before .before .before .before .before .before .before .before .pre .0 .current) _ (c .before .before .before .copy-to .ensures), c .before .before .before .before .before .before .before .before .before .before .before .before .before .pre .1, omega arith)
 
 -- src/lib.rt:17:1
 same-length-3 : tie.Need-same-length-3

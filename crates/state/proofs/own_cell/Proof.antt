@@ -24,7 +24,7 @@ class-key-requires : tie.Need-class-key-requires
 class-key-requires c κs = (c .before .before .before .before .before .pre .1, subst Within (c .before .x .given .1) (c .before .before .before .judge-index .ensures .small))
 
 hint-requires : tie.Need-hint-requires
-hint-requires c κs = search needs
+hint-requires c κs = (c .before .before .before .before .before .before .pre .0, omega (arith, c .class-key .ensures, c .before .before .before .before .before .before .pre .1, subst Within (c .before .before .x .given .1) (c .before .before .before .before .judge-index .ensures .small)))
 
 enum-known-found : tie.Need-enum-known-found
 enum-known-found c = search needs

@@ -1,5 +1,7 @@
 -- `table_arms::insert` looks for the register. Assumes nothing.
 use Rattle.table_arms.proofs.InsertLaws.{got-inside, insert-bad, insert-absent, insert-there}
+use Rattle.state.proofs.LeadsLaws.{current-held}
+use native.Mathlib.Omega.{arith}
 use borrow.Author.Needs.{needs}
 use Rattle.table_arms.proofs.insert.Statement.{statement}
 use Rattle.table_arms.proofs.insert.Tie as tie
@@ -10,7 +12,7 @@ use Rattle.table_arms.proofs.insert_from.Reads as insert-from-reads
 
 -- src/lib.rt:144:9
 get-requires : tie.Need-get-requires
-get-requires c κs = search needs
+get-requires c κs = (current-held (c .before .before .pre .0), omega arith)
 
 -- src/lib.rt:146:19
 enum-known-v : tie.Need-enum-known-v

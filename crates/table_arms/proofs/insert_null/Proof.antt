@@ -1,5 +1,7 @@
 -- `table_arms::insert_null` sets the emptiness of the cursor's table. Assumes nothing.
 use Rattle.table_arms.proofs.InsertLaws.{null-bad, null-absent, null-normal, null-pseudo}
+use Rattle.state.proofs.LeadsLaws.{current-held}
+use native.Mathlib.Omega.{arith}
 use borrow.Author.Needs.{needs}
 use Rattle.table_arms.proofs.insert_null.Statement.{statement}
 use Rattle.table_arms.proofs.insert_null.Tie as tie
@@ -10,7 +12,7 @@ use Rattle.cursor_arms.proofs.read_cursor.Reads as read-cursor-reads
 
 -- src/lib.rt:109:9
 read-cursor-requires : tie.Need-read-cursor-requires
-read-cursor-requires c κs = search needs
+read-cursor-requires c κs = current-held (c .before .before .pre)
 
 -- src/lib.rt:111:29
 enum-known-p : tie.Need-enum-known-p
@@ -26,7 +28,7 @@ enum-told-2 c = search needs
 
 -- src/lib.rt:114:13
 set-empty-requires : tie.Need-set-empty-requires
-set-empty-requires c κs = search needs
+set-empty-requires c κs = (current-held (c .before .before .before .before .before .before .pre), c .before .before .before .read-cursor .ensures .within, omega arith)
 
 -- src/lib.rt:117:38
 enum-told-3 : tie.Need-enum-told-3

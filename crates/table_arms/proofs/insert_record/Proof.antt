@@ -2,6 +2,7 @@
 use native.Mathlib.Omega.{arith}
 use Rattle.cursor_arms.proofs.DeleteLaws.{row-within}
 use Rattle.table_arms.proofs.InsertLaws.{record-bad, record-absent, record-pseudo, table-bad, table-absent, table-there}
+use Rattle.state.proofs.LeadsLaws.{current-held}
 use borrow.Author.Needs.{needs}
 use Rattle.table_arms.proofs.insert_record.Statement.{statement}
 use Rattle.table_arms.proofs.insert_record.Tie as tie
@@ -13,7 +14,7 @@ use Rattle.table_arms.proofs.store_table.Reads as store-table-reads
 
 -- src/lib.rt:88:9
 read-cursor-requires : tie.Need-read-cursor-requires
-read-cursor-requires c κs = search needs
+read-cursor-requires c κs = current-held (c .before .before .pre .0)
 
 -- src/lib.rt:90:29
 enum-known-p : tie.Need-enum-known-p
@@ -29,7 +30,7 @@ enum-known-p-2 c = search needs
 
 -- src/lib.rt:93:17
 table-requires : tie.Need-table-requires
-table-requires c κs = let room = c .before .before .before .before .before .before .before .pre .0 .room in (record { used = room .used; inside = omega (arith, room .most, room .room); small = room .small }, row-within _ _ _ _ (c .before .before .before .before .read-cursor .ensures) _ (c .before .before .p2 .given .1))
+table-requires c κs = (current-held (c .before .before .before .before .before .before .before .pre .0), row-within _ _ _ _ (c .before .before .before .before .read-cursor .ensures) _ (c .before .before .p2 .given .1))
 
 -- src/lib.rt:95:27
 enum-known-table : tie.Need-enum-known-table

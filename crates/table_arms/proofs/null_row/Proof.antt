@@ -2,6 +2,7 @@
 use Rattle.intmap.proofs.StoreLaws.{room-map}
 use Rattle.table_arms.proofs.NullLaws.{null-bad, null-absent, head-within, columns-within, null-there}
 use native.Mathlib.Omega.{arith}
+use Rattle.state.proofs.LeadsLaws.{current-held}
 use borrow.Author.Needs.{needs}
 use Rattle.table_arms.proofs.null_row.Statement.{statement}
 use Rattle.table_arms.proofs.null_row.Tie as tie
@@ -14,11 +15,11 @@ use Rattle.table_arms.proofs.null_columns.Reads as null-columns-reads
 
 -- src/lib.rt:52:9
 read-cursor-requires : tie.Need-read-cursor-requires
-read-cursor-requires c κs = search needs
+read-cursor-requires c κs = current-held (c .before .before .pre .0 .current)
 
 -- src/lib.rt:53:9
 columns-requires : tie.Need-columns-requires
-columns-requires c κs = (room-map (c .before .before .before .before .pre .0 .current .room), c .before .read-cursor .ensures .within)
+columns-requires c κs = (current-held (c .before .before .before .before .pre .0 .current), c .before .read-cursor .ensures .within)
 
 -- src/lib.rt:55:19
 enum-known-columns : tie.Need-enum-known-columns

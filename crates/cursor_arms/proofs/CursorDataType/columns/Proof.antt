@@ -6,7 +6,6 @@ use Rattle.cursor_arms.proofs.CursorDataType.columns.Statement.{stateme
 use Rattle.cursor_arms.proofs.CursorDataType.columns.Tie as tie
 use Rattle.cursor_arms.proofs.CursorDataType.columns.Reads as reads
 use Rattle.cursor_arms.proofs.CursorDataType.columns.Lts as lts
-use Rattle.cursor_arms.proofs.entry_at.Reads as entry-at-reads
 use Rattle.cursor_arms.proofs.head_at.Reads as head-at-reads
 use Rattle.cursor_arms.proofs.register_at.Reads as register-at-reads
 
@@ -28,7 +27,7 @@ entry-at-requires c κs = (c .before .before .before .before .pre .0, omega arit
 
 -- src/lib.rt:191:44
 head-at-requires : tie.Need-head-at-requires
-head-at-requires c κs = (entry-within _ _ _ _ (c .before .before .before .before .before .pre .0) _ (c .entry-at .ensures), c .before .before .before .before .before .pre .0 .small)
+head-at-requires c κs = (entry-within _ _ _ _ (c .before .before .before .before .before .pre .0 .map) _ (c .entry-at .ensures), c .before .before .before .before .before .pre .0 .map .small)
 
 -- src/lib.rt:192:36
 enum-known-self-3 : tie.Need-enum-known-self-3
@@ -40,7 +39,7 @@ register-at-requires c κs = search needs
 
 -- src/lib.rt:192:42
 head-at-requires-2 : tie.Need-head-at-requires-2
-head-at-requires-2 c κs = (register-within _ _ (c .before .before .before .before .before .pre .0) _ _ (c .register-at .ensures), c .before .before .before .before .before .pre .0 .small)
+head-at-requires-2 c κs = (register-within _ _ (c .before .before .before .before .before .pre .0 .map) _ _ (c .register-at .ensures), c .before .before .before .before .before .pre .0 .map .small)
 
 -- src/lib.rt:184:5
 returns : tie.Need-returns

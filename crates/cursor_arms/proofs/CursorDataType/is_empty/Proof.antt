@@ -7,7 +7,6 @@ use Rattle.cursor_arms.proofs.CursorDataType.is_empty.Tie as tie
 use Rattle.cursor_arms.proofs.CursorDataType.is_empty.Reads as reads
 use Rattle.cursor_arms.proofs.CursorDataType.is_empty.Lts as lts
 use Rattle.cursor_arms.proofs.empty_at.Reads as empty-at-reads
-use Rattle.cursor_arms.proofs.entry_at.Reads as entry-at-reads
 
 -- src/lib.rt:202:39
 enum-told : tie.Need-enum-told
@@ -27,7 +26,7 @@ entry-at-requires c κs = (c .before .before .before .before .pre .0, omega arit
 
 -- src/lib.rt:204:44
 empty-at-requires : tie.Need-empty-at-requires
-empty-at-requires c κs = (entry-within _ _ _ _ (c .before .before .before .before .before .pre .0) _ (c .entry-at .ensures), c .before .before .before .before .before .pre .0 .small)
+empty-at-requires c κs = (entry-within _ _ _ _ (c .before .before .before .before .before .pre .0 .map) _ (c .entry-at .ensures), c .before .before .before .before .before .pre .0 .map .small)
 
 -- src/lib.rt:205:42
 enum-told-3 : tie.Need-enum-told-3

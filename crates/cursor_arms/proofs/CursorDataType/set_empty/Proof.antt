@@ -27,7 +27,7 @@ enum-known-x c = search needs
 
 -- src/lib.rt:221:47
 cell-at-requires : tie.Need-cell-at-requires
-cell-at-requires c κs = record { within = omega (arith, empty-within _ _ _ _ (c .before .before .before .before .table .ensures) _ (c .before .before .x .given .1) (c .before .before .before .before .before .before .before .pre .0), c .before .before .before .before .before .before .before .pre .0 .inside); small = c .before .before .before .before .before .before .before .pre .0 .small }
+cell-at-requires c κs = record { within = omega (arith, empty-within _ _ _ _ (c .before .before .before .before .table .ensures) _ (c .before .before .x .given .1) (c .before .before .before .before .before .before .before .pre .0 .map), c .before .before .before .before .before .before .before .pre .0 .map .inside); small = c .before .before .before .before .before .before .before .pre .0 .map .small }
 
 -- src/lib.rt:221:21
 with-nullable-requires : tie.Need-with-nullable-requires
@@ -35,7 +35,7 @@ with-nullable-requires c κs = search needs
 
 -- src/lib.rt:222:17
 put-cell-requires : tie.Need-put-cell-requires
-put-cell-requires c κs = record { within = omega (arith, empty-within _ _ _ _ (c .before .before .before .before .before .before .before .table .ensures) _ (c .before .before .before .before .before .x .given .1) (c .before .before .before .before .before .before .before .before .before .before .pre .0), c .before .before .before .before .before .before .before .before .before .before .pre .0 .inside); small = c .before .before .before .before .before .before .before .before .before .before .pre .0 .small }
+put-cell-requires c κs = record { within = omega (arith, empty-within _ _ _ _ (c .before .before .before .before .before .before .before .table .ensures) _ (c .before .before .before .before .before .x .given .1) (c .before .before .before .before .before .before .before .before .before .before .pre .0 .map), c .before .before .before .before .before .before .before .before .before .before .pre .0 .map .inside); small = c .before .before .before .before .before .before .before .before .before .before .pre .0 .map .small }
 
 -- src/lib.rt:212:5
 same-length : tie.Need-same-length
@@ -59,7 +59,7 @@ same-length-3 c = search needs
 
 -- src/lib.rt:212:5
 returns-3 : tie.Need-returns-3
-returns-3 c = empty-set _ _ _ _ (c .before .before .before .before .before .before .before .before .before .before .table .ensures) _ (c .before .before .before .before .before .before .before .before .x .given .1) (c .before .before .before .before .before .before .before .before .before .before .before .before .before .pre .0) _ (c .before .before .before .before .before .before .before .before .before .before .before .before .before .pre .2) _ _ _ (c .before .before .before .before .before .cell-at .ensures) (c .before .before .before .before .with-nullable .ensures) (c .before .before .put-cell .ensures .cells)
+returns-3 c = empty-set _ _ _ _ (c .before .before .before .before .before .before .before .before .before .before .table .ensures) _ (c .before .before .before .before .before .before .before .before .x .given .1) (c .before .before .before .before .before .before .before .before .before .before .before .before .before .pre .0 .map) _ (c .before .before .before .before .before .before .before .before .before .before .before .before .before .pre .2) _ _ _ (c .before .before .before .before .before .cell-at .ensures) (c .before .before .before .before .with-nullable .ensures) (c .before .before .put-cell .ensures .cells)
 
 pub set-empty-spec : {M : Type 1} → statement M
 set-empty-spec =

@@ -6,7 +6,6 @@ use Rattle.cursor_arms.proofs.CursorDataType.table.Statement.{statement
 use Rattle.cursor_arms.proofs.CursorDataType.table.Tie as tie
 use Rattle.cursor_arms.proofs.CursorDataType.table.Reads as reads
 use Rattle.cursor_arms.proofs.CursorDataType.table.Lts as lts
-use Rattle.cursor_arms.proofs.entry_at.Reads as entry-at-reads
 
 -- src/lib.rt:176:33
 enum-known-self : tie.Need-enum-known-self
