@@ -4,10 +4,12 @@ use mathlib.Core.Path.{_≡_}
 use mathlib.Core.List.{List}
 use Prim.Native.Nat.{ℕ, _+_, _%_, _<_, _≤_}
 use lib.ListN.{length, getD}
+use Rattle.model.specs.State.{MemoryState as Defined}
 use Rattle.area.specs.Cells.{cell, blank, cells}
 use Rattle.area.specs.Counts.{count as countAt}
 use Rattle.area.specs.declared.Cell.{Cell}
 use Rattle.intmap.specs.Map.{runsAt, IsMap}
+use Rattle.state.specs.Steps.{HoldsState}
 use Rattle.state.specs.declared.MemoryState.{MemoryState}
 use Rattle.branches.specs.Header.{half, sizesWord, sizesAt, child, usedAt, nextAt, stateAt}
 use Rattle.branches.specs.Entries.{countCells, Remembering}
@@ -16,10 +18,13 @@ use Rattle.branches.specs.declared.BranchList.{BranchList}
 use Rattle.branches.specs.declared.Popped.{Popped}
 use Rattle.branches.specs.declared.Popped.the-variants as popped
 
--- a state can be pushed, with the counts of n rows below the remembered states
+-- a state can be pushed, with the counts of n rows below the remembered states: cells that hold none are never offered, and each list of counts
+-- is that of some past
 pub record Pushable (limit n counts : ℕ) (xs : List ℕ) (b : BranchList) (s : MemoryState) : Type 0 where
   pub remembering : Remembering limit n xs b
   pub offers : Offers limit (cells xs) b s
+  pub state : Defined
+  pub holds : HoldsState limit (remembering .bound) (cells xs) s state
   pub rows : n ≤ 2048
   pub below : counts + countCells n ≤ b .first
 

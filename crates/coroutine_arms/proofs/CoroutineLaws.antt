@@ -28,7 +28,7 @@ use Rattle.jump_arms.specs.Arms.{stepAfter, Knows}
 use Rattle.jump_arms.specs.declared.Known.the-variants as known
 use Rattle.jump_arms.proofs.StepLaws.{unchanged, held-at, ends-here}
 use Rattle.jump_arms.proofs.StoreSteps.{goes-after, leaves-after}
-use Rattle.jump_arms.proofs.ReturnLaws.{small-word, remove-row}
+use Rattle.jump_arms.proofs.ReturnLaws.{remove-row}
 use Rattle.jump_arms.proofs.NullLaws.{update-row}
 use Rattle.coroutine_arms.specs.Arms.{targetOf, Targets, Follows, RowsArm}
 use Rattle.coroutine_arms.specs.declared.Target.{Target}
@@ -121,10 +121,9 @@ module _ (limit : ℕ) (cs : List Cell) (s : MemoryState) (x : Row) (from n : �
     yield-to row follows ds r leads =
         record {
           says = λ rows have len l j bound m le h.
-              (let small = small-word bound w (h .map .small .bounded) (knows .says limit bound m (h .map) .small) in
-              let i = rowAfterYield (yieldTarget (rowAt rows (intOf w))) (intOf w) in
+              (let i = rowAfterYield (yieldTarget (rowAt rows (intOf w))) (intOf w) in
               subst (TellsStep limit bound ds (stepAfter row r)) (sym (is rows l j bound m h))
-              (goes-after r row bound (goTo i m) le (number-stored ds r (intOf (s .row)) leads) (update-row _ _ _) (held-at row i (follows .says rows have len small) (h .map))));
+              (goes-after r row bound (goTo i m) le (number-stored ds r (intOf (s .row)) leads) (update-row _ _ _) (held-at row i (follows .says rows have len) (h .map))));
           leaves = leaves-after s r row leads;
           frame = leads .frame;
         }

@@ -5,9 +5,9 @@ use mathlib.Core.Option.{Option, none, some}
 use mathlib.Core.List.{List, [], _∷_}
 use Prim.Native.Nat.{ℕ, zero, suc, _+_, _-_, _<_, _≤_}
 use native.Mathlib.Omega.{arith}
-use lib.Dec.{eqb}
+use lib.Dec.{eqb, ltb}
 use lib.ListN.{length, getD, getElem?}
-use borrow.Author.Tests.{eq-eqb, ne-eqb, eqb-true}
+use borrow.Author.Tests.{eq-eqb, ne-eqb, eqb-true, ltb-true, ltb-false}
 use Rattle.type_info.specs.Ascii.{ascii, equals}
 use Rattle.type_info.proofs.Tables.{passes, passes-at}
 use Rattle.model.specs.Row.{Row as Listed}
@@ -27,7 +27,7 @@ use Rattle.rows.specs.Rows.{rowIn}
 use Rattle.rows.specs.Judged.{Judged, HaveRows}
 use Rattle.rows.specs.declared.Row.{Row}
 use Rattle.jump_arms.specs.Arms.{RowAfter}
-use Rattle.coroutine_arms.specs.Arms.{targetOf, Targets, Follows}
+use Rattle.coroutine_arms.specs.Arms.{RowsInside, targetOf, Targets, Follows}
 use Rattle.coroutine_arms.specs.declared.Target.{Target}
 use Rattle.coroutine_arms.specs.declared.Target.the-variants as target
 
@@ -153,11 +153,19 @@ module _ (cs : List Cell) (from n w : ℕ) where
   -- the row after it
   pub follows-it : (t : Target) → Targets cs from n w t → t ≡ target.NoYield → Follows cs from n w w
   follows-it t told e =
-      record { says = λ rows have len lt. ap (λ o. rowAfterYield o (intOf w)) (ap targetOf (sym e) ∙ told .says rows have len) }
+      record { says = λ rows have len. ap (λ o. rowAfterYield o (intOf w)) (ap targetOf (sym e) ∙ told .says rows have len) }
 
-  pub follows-next : (t : Target) (p r : ℕ) → Targets cs from n w t → t ≡ target.To p → RowAfter w r → Follows cs from n w r
-  follows-next t p r told e after =
+  -- a word that names a Yield row is not the last word
+  named-low : RowsInside cs from n → (t : Target) (p : ℕ) → Targets cs from n w t → t ≡ target.To p → (rows : List Listed) → HaveRows cs from rows → length rows ≡ n → w < 18446744073709551615
+  named-low inside t p told e rows have len =
+      cases (ltb w 18446744073709551615) (ltb-true w 18446744073709551615)
+      (λ f.
+      let high = ltb-false w 18446744073709551615 f in
+      absurd (never (sym (ap targetOf (sym e) ∙ told .says rows have len ∙ ap yieldTarget (row-above w rows (omega (arith, high)) ∙ past-none rows (w - offset) (omega (arith, high, len, inside .small, inside .held .inside)))))))
+
+  pub follows-next : RowsInside cs from n → (t : Target) (p r : ℕ) → Targets cs from n w t → t ≡ target.To p → RowAfter w r → Follows cs from n w r
+  follows-next inside t p r told e after =
       record {
-        says = λ rows have len lt.
-            ap intOf (after .next lt) ∙ sym (int-suc w) ∙ ap (λ o. rowAfterYield o (intOf w)) (ap targetOf (sym e) ∙ told .says rows have len);
+        says = λ rows have len.
+            ap intOf (after .next (named-low inside t p told e rows have len)) ∙ sym (int-suc w) ∙ ap (λ o. rowAfterYield o (intOf w)) (ap targetOf (sym e) ∙ told .says rows have len);
       }

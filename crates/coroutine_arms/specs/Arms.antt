@@ -3,7 +3,7 @@
 use mathlib.Core.Path.{_≡_}
 use mathlib.Core.Option.{Option, none, some}
 use mathlib.Core.List.{List}
-use Prim.Native.Nat.{ℕ, _+_, _<_, _≤_}
+use Prim.Native.Nat.{ℕ, _+_, _≤_}
 use lib.IntN.{ℤ}
 use lib.ListN.{length}
 use Rattle.model.specs.Row.{Row as Listed}
@@ -14,7 +14,7 @@ use Rattle.model.specs.JumpArms.{yieldTarget, rowAfterYield, jumpArm}
 use Rattle.area.specs.declared.Cell.{Cell}
 use Rattle.intmap.specs.Map.{Frame}
 use Rattle.intmap.specs.Signed.{intOf}
-use Rattle.rows.specs.Judged.{Judged, HaveRows}
+use Rattle.rows.specs.Judged.{Judged, HaveRows, SomeRows}
 use Rattle.rows.specs.declared.Row.{Row}
 use Rattle.state.specs.Leads.{operands}
 use Rattle.state.specs.Steps.{HoldsState, TellsStep, LeavesStep}
@@ -23,9 +23,9 @@ use Rattle.state.specs.declared.Step.{Step}
 use Rattle.coroutine_arms.specs.declared.Target.{Target}
 use Rattle.coroutine_arms.specs.declared.Target.the-variants as target
 
--- the rows' cells lie within the area
+-- the listing's rows lie within the area
 pub record RowsInside (cs : List Cell) (from n : ℕ) : Type 0 where
-  pub inside : from + n ≤ length cs
+  pub held : SomeRows cs from n
   pub small : length cs ≤ 1048576
 
 abbrev pub targetOf : Target → Option ℤ
@@ -38,7 +38,7 @@ pub record Targets (cs : List Cell) (from n w : ℕ) (r : Target) : Type 0 where
 
 -- the row that follows a Yield, where its register says w
 pub record Follows (cs : List Cell) (from n w r : ℕ) : Type 0 where
-  pub says : (rows : List Listed) → HaveRows cs from rows → length rows ≡ n → w < 18446744073709551615 → intOf r ≡ rowAfterYield (yieldTarget (rowAt rows (intOf w))) (intOf w)
+  pub says : (rows : List Listed) → HaveRows cs from rows → length rows ≡ n → intOf r ≡ rowAfterYield (yieldTarget (rowAt rows (intOf w))) (intOf w)
 
 -- as `JumpArm`, of the listing that lies in the area
 pub record RowsArm (limit : ℕ) (cs ds : List Cell) (s : MemoryState) (x : Row) (from n : ℕ) (o : JumpOperation) (r : Step) : Type 0 where

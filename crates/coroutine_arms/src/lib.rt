@@ -1,9 +1,8 @@
 // The arms of `explain` that look at another row of the listing: sqlx-sqlite 0.9.0, src/connection/explain.rs. The listing's n rows lie in the
 // cells from `from` on.
-ghost use Prim.Native.Nat.{_+_, _≤_};
-ghost use lib.ListN.{length};
 ghost use Rattle.model.specs.Operation.{opEndCoroutine, opYield};
 ghost use Rattle.area.specs.Cells.{cells};
+ghost use Rattle.rows.specs.Judged.{SomeRows};
 ghost use Rattle.jump_arms.specs.Arms.{Ready};
 ghost use Rattle.coroutine_arms.specs.Arms.{RowsInside, Targets, Follows, RowsArm};
 use jump_arms::Known;
@@ -46,7 +45,7 @@ pub fn end_coroutine(
     n: usize,
     limit: usize,
 ) -> Step
-    requires { ⌜ Ready limit (cells (now area)) s x × (from + n ≤ length (cells (now area))) ⌝ }
+    requires { ⌜ Ready limit (cells (now area)) s x × SomeRows (cells (now area)) from n ⌝ }
     ensures { λ r. ⌜ RowsArm limit (cells (now (area .entry))) (cells (now (area .exit))) s x from n opEndCoroutine r ⌝ }
 {
     let map = s.map;
@@ -80,7 +79,7 @@ fn row_after_yield(area: &[u8], from: usize, n: usize, w: u64) -> u64
 
 // Yield. The store refuses nothing that the read did not, since the register has a number already.
 pub fn yield_(s: MemoryState, area: &mut [u8], x: Row, from: usize, n: usize, limit: usize) -> Step
-    requires { ⌜ Ready limit (cells (now area)) s x × (from + n ≤ length (cells (now area))) ⌝ }
+    requires { ⌜ Ready limit (cells (now area)) s x × SomeRows (cells (now area)) from n ⌝ }
     ensures { λ r. ⌜ RowsArm limit (cells (now (area .entry))) (cells (now (area .exit))) s x from n opYield r ⌝ }
 {
     let map = s.map;

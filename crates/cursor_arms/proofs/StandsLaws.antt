@@ -1,5 +1,6 @@
 -- What a cursor stands for, by the entry that the search finds. Assumes nothing.
 use mathlib.Core.Path.{_≡_, refl, sym, ap, subst, _∙_}
+use mathlib.Core.Logic.{_⊎_}
 use mathlib.Core.Bool.{Bool, true, false}
 use mathlib.Core.Option.{Option, none, some}
 use mathlib.Core.List.{List, _∷_}
@@ -13,18 +14,18 @@ use Rattle.model.specs.Walk.{Tried, refused, done}
 use Rattle.model.specs.IntMap.{get}
 use Rattle.model.specs.State.{Single, Record, RegDataType, Column, Int, CursorDataType as Cursor, Normal, Pseudo, TableDataType, MemoryState}
 use Rattle.model.specs.Cells.{columnDepth, registerDepth}
-use Rattle.model.specs.Access.{_>>=_, index, readRegister}
+use Rattle.model.specs.Access.{_>>=_, index, readRegister, readCursor}
 use Rattle.model.specs.Cursor.{recordOf, tableColumns, cursorColumns, tableIsEmpty, cursorIsEmpty}
 use Rattle.model.specs.Good.{SortedColumn, GoodRegister}
 use Rattle.model.proofs.Tried.{Kept, value}
 use Rattle.model.proofs.Access.{index-small}
 use Rattle.area.specs.Cells.{cell, blank}
 use Rattle.area.specs.declared.Cell.{Cell}
-use Rattle.intmap.specs.Entries.{span}
+use Rattle.intmap.specs.Entries.{span, entries, total}
 use Rattle.intmap.specs.Find.{seek}
 use Rattle.intmap.specs.Get.{indexOf, Within, Judges}
 use Rattle.intmap.specs.Map.{levels, IsMap}
-use Rattle.intmap.specs.Pack.{head, tagOf, nullableOf, classKey}
+use Rattle.intmap.specs.Pack.{head, tagOf, keyOf, nullableOf, classKey}
 use Rattle.intmap.specs.Pick.{pick}
 use Rattle.intmap.specs.Runs.{size, sizes}
 use Rattle.intmap.specs.Signed.{intOf}
@@ -34,12 +35,12 @@ use Rattle.intmap.specs.declared.Index.the-variants as index-is
 use Rattle.intmap.specs.declared.IntMap.{IntMap}
 use Rattle.intmap.specs.declared.Slot.{Slot}
 use Rattle.intmap.specs.declared.Slot.the-variants as slot
-use Rattle.intmap.proofs.EntryLaws.{length-span}
+use Rattle.intmap.proofs.EntryLaws.{length-span, total-sizes}
 use Rattle.intmap.proofs.FindLaws.{found-within, found-whole}
 use Rattle.intmap.proofs.PackLaws.{head-nullable}
 use Rattle.intmap.proofs.RunLaws.{size-pos, size-record}
 use Rattle.intmap.proofs.Swapped.{seek-some, seek-none}
-use Rattle.encoding.specs.Encode.{nullableCode, count, runColumn, runColumns, runRegister, runTable}
+use Rattle.encoding.specs.Encode.{nullableCode, count, runColumn, columnRuns, runColumns, runRegister, runTable}
 use Rattle.encoding.specs.Holds.{SmallRegister}
 use Rattle.encoding.proofs.Accesses.{apart}
 use Rattle.encoding.proofs.BySearch.{search-no-table}
@@ -47,10 +48,13 @@ use Rattle.encoding.proofs.Reading.{register-record}
 use Rattle.encoding.proofs.HeldRead.{Value, told-register-at, told-table}
 use Rattle.encoding.proofs.Injective.{first-is}
 use Rattle.encoding.proofs.Packing.{nullable-small}
-use Rattle.encoding.proofs.Standing.{stands-head, stands-rest}
-use Rattle.state.specs.Leads.{HoldsMap}
-use Rattle.state.specs.Own.{entrySlot}
-use Rattle.cursor_arms.specs.Cursors.{TellsCursor, RowWithin}
+use Rattle.encoding.proofs.Lengths.{length-flatten, count-runs}
+use Rattle.encoding.proofs.Flat.{sizes-many, columns-flat}
+use Rattle.encoding.proofs.Standing.{stands-head, stands-rest, entries-stand, columns-whole}
+use Rattle.state.specs.Leads.{HoldsMap, Held}
+use Rattle.state.specs.Own.{entrySlot, isFlat}
+use Rattle.state.proofs.OwnLaws.{flat-told}
+use Rattle.cursor_arms.specs.Cursors.{TellsCursor, RowWithin, ReadsCursor}
 use Rattle.cursor_arms.specs.StandsFor.{registerSlot, headSlot, tableSlot, columnsSlot, emptyIn, SlotWithin, cursorTable, IsTable, TellsTable, HasColumns, TellsColumns, emptinessOf, FindsTable, FindsColumns, TellsEmpty}
 use Rattle.cursor_arms.specs.declared.CursorDataType.{CursorDataType}
 use Rattle.cursor_arms.specs.declared.CursorDataType.the-variants as cursor
@@ -411,3 +415,22 @@ module _ (cs : List Cell) (a : IntMap) (is : IsMap cs a) (p : ℕ) where
       go cursor.Absent h = absurd (omega (arith, ap case h))
       go (cursor.Normal row) h = head-led 2 row (entrySlot cs a 2 row) refl h
       go (cursor.Pseudo w) h = register (index (intOf w)) h
+
+-- ---- columns of one cell each
+
+module _ (cs : List Cell) (a : IntMap) (held : Held cs a) (i : ℕ) (c : CursorDataType) (reads : ReadsCursor cs a i c) (r : Slot) (finds : FindsColumns cs a c r) (p : ℕ) (e : r ≡ slot.At p) where
+  has : HasColumns cs a p (readCursor (intOf i) (held .state) >>= λ o. cursorColumns o (held .state))
+  has =
+      subst (λ s. TellsColumns cs a s (readCursor (intOf i) (held .state) >>= λ o. cursorColumns o (held .state))) e
+      (finds .says (held .limit) (held .bound) (held .state) (held .holds) (readCursor (intOf i) (held .state)) (reads .says (held .limit) (held .bound) (held .state) (held .holds)))
+
+  pub flat-there : (b : Cell) → b ≡ getD cs p blank → isFlat cs a p (b .payload) ≡ true → sizes (size cs 8) (b .payload) (p + 1) ≡ b .payload
+  flat-there b be flat =
+      let x = has .columns in
+      let n : b .payload ≡ count x = ap (λ (y : Cell). y .payload) be ∙ has .number in
+      let runs : entries cs 8 (count x) (p + 1) ≡ columnRuns x = ap (λ k. entries cs 8 k (p + 1)) (sym (count-runs x)) ∙ entries-stand 8 (columnRuns x) (columns-whole x 8 (has .depth)) cs (p + 1) (has .stands) in
+      let long : sizes (size cs 8) (count x) (p + 1) ≡ length (runColumns x) = total-sizes cs 8 (count x) (p + 1) ∙ ap total runs ∙ sym (length-flatten (columnRuns x)) in
+      let told = subst (λ k. (p + 1 + k ≡ a .base + a .used) ⊎ (65536 ≤ keyOf (getD cs (p + 1 + k) blank))) n (flat-told cs a p (b .payload) flat .1) in
+      ap (λ k. sizes (size cs 8) k (p + 1)) n ∙ long
+      ∙ columns-flat x (has .sorted) cs (p + 1) (count x) (a .base + a .used) (has .stands) (omega (arith, long, sizes-many cs 8 (count x) (p + 1))) (omega (arith, has .below)) told
+      ∙ sym n

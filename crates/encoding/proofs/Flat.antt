@@ -59,7 +59,7 @@ module _ (cs : List Cell) (d : ℕ) where
       let here : p + 0 ≡ p = omega arith in
       let w = seek-here cs d (keyOf (getD cs p blank)) (suc n) p (getD cs p blank) (omega arith) refl (omega arith) in
       let c = subst (λ q. (low ≤ keyOf (getD cs q blank)) × (seek cs d (keyOf (getD cs q blank)) (suc n) p .at ≡ q) × (seek cs d (keyOf (getD cs q blank)) (suc n) p .present ≡ true)) (sym here)
-          (omega (arith, rise .0, first-key p (size cs d p) (size-pos cs d p)), sym (ap (λ x. x .at) w), sym (ap (λ x. x .present) w) ∙ eq-eqb (keyOf (getD cs p blank)) (keyOf (getD cs p blank)) refl) in
+      (omega (arith, rise .0, first-key p (size cs d p) (size-pos cs d p)), sym (ap (λ x. x .at) w), sym (ap (λ x. x .present) w) ∙ eq-eqb (keyOf (getD cs p blank)) (keyOf (getD cs p blank)) refl) in
       record { from = c .0; at = c .1; present = c .2 }
   direct (suc n) p low (suc r) flat rise lt =
       let z = size cs d p in

@@ -3,9 +3,9 @@ ghost use mathlib.Core.Path.{_≡_};
 ghost use mathlib.Core.Bool.{Bool, false};
 ghost use mathlib.Core.List.{List};
 ghost use Prim.Native.Nat.{ℕ, _+_, _<_, _≤_};
-ghost use lib.ListN.{length};
 ghost use Rattle.area.specs.Cells.{cells};
 ghost use Rattle.rows.specs.Rows.{Fits};
+ghost use Rattle.rows.specs.Judged.{SomeRows};
 ghost use Rattle.jump_arms.specs.Arms.{Ready, stepAfter};
 ghost use Rattle.explain.specs.Handles.{Handles};
 ghost use Rattle.root_block.specs.Blocks.{IsBlocks};
@@ -61,7 +61,7 @@ fn jump(
     n: usize,
     limit: usize,
 ) -> Step
-    requires { ⌜ Ready limit (cells (now area)) s x × (from + n ≤ length (cells (now area))) × (1 ≤ op) × (op ≤ 14) × (op ≡ 13 → ⊥) ⌝ }
+    requires { ⌜ Ready limit (cells (now area)) s x × SomeRows (cells (now area)) from n × (1 ≤ op) × (op ≤ 14) × (op ≡ 13 → ⊥) ⌝ }
     ensures { λ r. ⌜ ((blocks : List ℕ) → NumberArm limit from n (cells (now (area .entry))) (cells (now (area .exit))) blocks s x op r) ⌝ }
 {
     match op {
@@ -176,7 +176,7 @@ pub fn handle(
     n: usize,
     limit: usize,
 ) -> Handling
-    requires { ⌜ Ready limit (cells (now area)) s x × (from + n ≤ length (cells (now area))) × (limit ≤ 65535) × IsBlocks (now blocks) ⌝ }
+    requires { ⌜ Ready limit (cells (now area)) s x × SomeRows (cells (now area)) from n × (limit ≤ 65535) × IsBlocks (now blocks) ⌝ }
     ensures { λ r. ⌜ Handles limit from n (cells (now (area .entry))) (cells (now (area .exit))) (now (blocks .entry)) s x again r ⌝ }
 {
     let map = s.map;

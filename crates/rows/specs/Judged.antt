@@ -5,9 +5,9 @@ use mathlib.Core.Path.{_≡_}
 use mathlib.Core.Bool.{true, false}
 use mathlib.Core.Option.{some}
 use mathlib.Core.List.{List}
-use Prim.Native.Nat.{ℕ, _+_}
+use Prim.Native.Nat.{ℕ, _+_, _≤_}
 use lib.Dec.{eqb}
-use lib.ListN.{getD, getElem?}
+use lib.ListN.{length, getD, getElem?}
 use Rattle.type_info.specs.Utf8.{isUtf8}
 use Rattle.model.specs.Row.{Row as Listed}
 use Rattle.model.specs.Operation.{operationOf}
@@ -45,3 +45,10 @@ pub record IsRow (r : Row) : Type 0 where
 -- the cells from `from` on have the listing's rows
 abbrev pub HaveRows : List Cell → ℕ → List Listed → Type 0
 HaveRows cs from rows = (i : ℕ) (x : Listed) → getElem? rows i ≡ some x → Judged x (rowIn (getD cs (from + i) blank))
+
+-- the n cells from `from` on are there, and have the rows of some listing
+pub record SomeRows (cs : List Cell) (from n : ℕ) : Type 0 where
+  pub inside : from + n ≤ length cs
+  pub rows : List Listed
+  pub have : HaveRows cs from rows
+  pub size : length rows ≡ n

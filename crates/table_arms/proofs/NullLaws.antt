@@ -8,7 +8,7 @@ use native.Mathlib.Omega.{arith}
 use lib.Dec.{eqb}
 use lib.IntN.{ℤ}
 use lib.ListN.{length, getD, set, length-set}
-use lib.Seq.{getD-set-same, getD-set-other}
+use lib.Seq.{getD-set-same, getD-set-other, set-getD}
 use borrow.Author.Tests.{eq-eqb, ne-eqb, eqb-true, eqb-false}
 use Rattle.model.specs.Walk.{Tried, refused, done}
 use Rattle.model.specs.Row.{Row as Listed}
@@ -19,10 +19,10 @@ use Rattle.model.specs.Cursor.{nullTable, nullRecord, nullColumns}
 use Rattle.model.specs.Meaning.{Meaning}
 use Rattle.model.specs.Operation.{opNullRow}
 use Rattle.model.specs.CursorArms.{cursorArm}
-use Rattle.area.specs.Cells.{blank}
+use Rattle.area.specs.Cells.{cell, blank}
 use Rattle.area.specs.declared.Cell.{Cell}
 use Rattle.intmap.specs.Map.{levels, IsMap, HasRoom, Frame}
-use Rattle.intmap.specs.Pack.{tagOf, withNullable}
+use Rattle.intmap.specs.Pack.{tagOf, nullableOf, withNullable}
 use Rattle.intmap.specs.Pick.{pick}
 use Rattle.intmap.specs.Runs.{size, sizes, AreColumns, Agree}
 use Rattle.intmap.specs.Signed.{intOf}
@@ -35,6 +35,7 @@ use Rattle.intmap.proofs.SameCells.{size-same, sizes-same}
 use Rattle.encoding.specs.Heads.{singleNullable, onHeads, nullHeads}
 use Rattle.encoding.specs.Holds.{HeldNext}
 use Rattle.encoding.proofs.BySearch.{search-kept, search-null, search-plain, search-table-kept, search-table-null}
+use Rattle.encoding.proofs.Flat.{sizes-many}
 use Rattle.encoding.proofs.Heads.{heads-length, heads-below, heads-above}
 use Rattle.rows.specs.Judged.{Judged}
 use Rattle.rows.specs.declared.Row.{Row}
@@ -71,6 +72,20 @@ head-load c = go (eqb (tagOf c) 1)
     go : (b : Bool) → pick b (withNullable 2 c) c .payload ≡ c .payload
     go true = refl
     go false = refl
+
+pub already-head : (c : Cell) → tagOf c ≡ 1 → nullableOf c ≡ 2 → c ≡ singleNullable 2 c
+already-head c t n = sym (sym (plain-head c t) ∙ same)
+  where
+    same : withNullable 2 c ≡ c
+    same = ap (λ h. cell h (c .payload)) (omega (arith, n))
+
+-- a cell that stays, and one that is written
+module _ (cs : List Cell) (p : ℕ) (c : Cell) (ce : c ≡ getD cs p blank) where
+  pub cell-kept : c ≡ singleNullable 2 c → cs ≡ set cs p (singleNullable 2 (getD cs p blank))
+  cell-kept e = sym (ap (set cs p) (sym (ap (λ y. singleNullable 2 y) ce) ∙ sym e ∙ ce) ∙ set-getD cs p blank)
+
+  pub cell-written : (x : Cell) → x ≡ singleNullable 2 c → set cs p x ≡ set cs p (singleNullable 2 (getD cs p blank))
+  cell-written x xe = ap (set cs p) (xe ∙ ap (λ y. singleNullable 2 y) ce)
 
 -- ---- one head changed
 
@@ -118,6 +133,20 @@ module _ (now after : List Cell) (left p r : ℕ) (c x : Cell) (lt : 0 < left) (
 
   pub null-room : (most : ℕ) → p + sizes (size now 8) left p ≤ most → p + r + sizes (size after 8) (left - 1) (p + r) ≤ most
   null-room most le = rw (after-is, re) (omega (arith, changed-sizes (singleNullable 2) 8 now p (left - 1), sizes-step (size now 8) left p lt))
+
+-- columns of one cell
+module _ (now after : List Cell) (left p : ℕ) (lt : 0 < left) (w : after ≡ set now p (singleNullable 2 (getD now p blank))) (flat : sizes (size now 8) left p ≡ left) where
+  pub null-long : length after ≡ length now
+  null-long = ap length w ∙ length-set now p (singleNullable 2 (getD now p blank))
+
+  pub null-one : 1 ≡ size now 8 p
+  null-one = omega (arith, flat, sizes-step (size now 8) left p lt, size-pos now 8 p, sizes-many now 8 (left - 1) (p + size now 8 p))
+
+  pub null-flat : sizes (size after 8) (left - 1) (p + 1) ≡ left - 1
+  null-flat =
+      ap₂ (λ (l : List Cell) (q : ℕ). sizes (size l 8) (left - 1) (p + q)) w null-one
+      ∙ changed-sizes (singleNullable 2) 8 now p (left - 1)
+      ∙ omega (arith, flat, sizes-step (size now 8) left p lt, null-one)
 
 pub null-done : (cs ds : List Cell) (n at left p : ℕ) → left ≤ 0 → onHeads (singleNullable 2) 8 ds left p ≡ onHeads (singleNullable 2) 8 cs n at → Nulled cs ds n at
 unfolding onHeads

@@ -2,15 +2,15 @@
 ghost use mathlib.Core.Path.{_≡_};
 ghost use Prim.Native.Nat.{ℕ, _+_, _≤_};
 ghost use Rattle.model.specs.Operation.{opNullRow, opInsert};
-ghost use Rattle.area.specs.Cells.{cells};
+ghost use Rattle.area.specs.Cells.{cells, Inside};
 ghost use Rattle.intmap.specs.Map.{levels};
-ghost use Rattle.intmap.specs.Runs.{size, AreColumns};
+ghost use Rattle.intmap.specs.Runs.{size, sizes, AreColumns};
 ghost use Rattle.intmap.specs.Signed.{intOf};
 ghost use Rattle.encoding.specs.Heads.{singleNullable};
 ghost use Rattle.rows.specs.Judged.{IsRow};
 ghost use Rattle.state.specs.Leads.{Current, SomeCurrent, Leads};
 ghost use Rattle.state.specs.Arms.{CursorArm};
-ghost use Rattle.table_arms.specs.Nulled.{Nulled};
+ghost use Rattle.table_arms.specs.Nulled.{NulledCell, Nulled};
 ghost use Rattle.table_arms.specs.Inserted.{fillTable, StoresTable, InsertsRecord, InsertsFrom};
 use area::Cell;
 use cursor_arms::CursorDataType;
@@ -49,6 +49,35 @@ fn null_columns(area: &mut [u8], from: usize, n: u64)
     }
 }
 
+// The column in the cell at p may be null now, if it is plain. One that may already is not written.
+fn null_cell(area: &mut [u8], p: usize)
+    requires { ⌜ Inside (now area) p 1 ⌝ }
+    ensures { λ _. ⌜ NulledCell (now (area .entry)) (now (area .exit)) p ⌝ }
+{
+    let c = area::cell_at(area, p);
+    if intmap::tag_of(c) != intmap::SINGLE {
+        return;
+    }
+    if intmap::nullable_of(c) == state::NULLABLE {
+        return;
+    }
+    area::put_cell(area, p, intmap::with_nullable(c, state::NULLABLE));
+}
+
+// As `null_columns`, where each of the columns has one cell.
+fn null_cells(area: &mut [u8], from: usize, n: u64)
+    requires { ⌜ AreColumns (cells (now area)) 8 n from × (sizes (size (cells (now area)) 8) n from ≡ n) ⌝ }
+    ensures { λ _. ⌜ Nulled (cells (now (area .entry))) (cells (now (area .exit))) n from ⌝ }
+{
+    let mut p = from;
+    let mut left = n;
+    while 0 < left {
+        null_cell(area, p);
+        p += 1;
+        left -= 1;
+    }
+}
+
 // NullRow: every plain column of cursor P1 may be null.
 pub fn null_row(map: IntMap, area: &mut [u8], x: Row) -> Stored
     requires { ⌜ SomeCurrent (cells (now area)) map × IsRow x ⌝ }
@@ -61,6 +90,10 @@ pub fn null_row(map: IntMap, area: &mut [u8], x: Row) -> Stored
         Slot::Absent => Stored::Done(map),
         Slot::At(at) => {
             let c = area::cell_at(area, at);
+            if state::is_flat(map, area, at, c.payload) {
+                null_cells(area, at + 1, c.payload);
+                return Stored::Done(map);
+            }
             null_columns(area, at + 1, c.payload);
             Stored::Done(map)
         }

@@ -243,6 +243,8 @@ may-push p xs w s h o =
     record {
       remembering = record { bound = boundOf w; all = h .holds .all; wait = h .holds .wait; remembers = h .holds .remembers };
       offers = o .below;
+      state = o .state;
+      holds = o .holds;
       rows = h .holds .few;
       below = omega (arith, h .holds .first);
     }

@@ -27,7 +27,7 @@ use Rattle.intmap.proofs.SameCells.{size-same, sizes-same}
 use Rattle.intmap.proofs.StoreLaws.{room-map}
 use Rattle.encoding.proofs.Held.{held-elsewhere, held-more}
 use Rattle.rows.specs.Rows.{rowIn}
-use Rattle.rows.specs.Judged.{Judged}
+use Rattle.rows.specs.Judged.{Judged, SomeRows}
 use Rattle.rows.specs.declared.Row.{Row}
 use Rattle.state.specs.Steps.{HoldsState, TellsWay, Lies, LiesAt, StaysAt}
 use Rattle.state.specs.declared.MemoryState.{MemoryState}
@@ -231,8 +231,9 @@ module _ {p : Program} {g : Given} {blocks xs cols : List ℕ} {w : Walk} {s : M
           below = omega (arith, r .at, r .within, r .walk .list .few);
         }
 
-    pub rows-fit : rowsFrom p + p .size ≤ length (cells ys)
-    rows-fit = omega (arith, fits-inside raised-list)
+    pub some-rows : SomeRows (cells ys) (rowsFrom p) (p .size)
+    some-rows =
+        record { inside = omega (arith, fits-inside raised-list); rows = g .rows; have = raised-list .rows; size = r .walk .list .size }
 
     pub limit-fits : p .limit ≤ 65535
     limit-fits = raised-list .remembers .limited

@@ -20,7 +20,7 @@ returns : tie.Need-returns
 returns c = follows-it _ _ _ _ _ (c .before .before .yield-target .ensures) (c .enum-told .given .1)
 
 returns-2 : tie.Need-returns-2
-returns-2 c = follows-next _ _ _ _ _ _ _ (c .before .before .before .yield-target .ensures) (c .before .enum-told2 .given .1) (c .row-after .ensures)
+returns-2 c = follows-next _ _ _ _ (c .before .before .before .before .before .pre) _ _ _ (c .before .before .before .yield-target .ensures) (c .before .enum-told2 .given .1) (c .row-after .ensures)
 
 pub row-after-yield-spec : {M : Type 1} → statement M
 row-after-yield-spec =

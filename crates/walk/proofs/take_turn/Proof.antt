@@ -1,7 +1,7 @@
 -- `walk::take_turn`: charged, closed or handled, and followed. Assumes nothing.
 use native.Mathlib.Omega.{arith}
 use mathlib.Core.Path.{sym, _∙_}
-use Rattle.walk.proofs.TurnLaws.{may-charge, may-count, row-inside, is-ready, is-blocks, rows-fit, limit-fits, may-stop, closed-walking, turns-closed, handled-turning, handled-may, turns-handled, turns-stays}
+use Rattle.walk.proofs.TurnLaws.{may-charge, may-count, row-inside, is-ready, is-blocks, some-rows, limit-fits, may-stop, closed-walking, turns-closed, handled-turning, handled-may, turns-handled, turns-stays}
 use borrow.Author.Needs.{needs}
 use Rattle.walk.proofs.take_turn.Statement.{statement}
 use Rattle.walk.proofs.take_turn.Tie as tie
@@ -53,7 +53,7 @@ row-at-requires : tie.Need-row-at-requires
 row-at-requires c κs = row-inside (c .before .before .before .before .before .before .before .before .before .before .before .before .before .before .before .before .pre .holds) _ (c .before .before .before .before .before .before .before .before .before .before .before .before .before .before .before .slice-known .given) (c .before .slice-known4 .given) (c .before .before .before .raise-count .ensures)
 
 handle-requires : tie.Need-handle-requires
-handle-requires c κs = (is-ready (c .before .before .before .before .before .before .before .before .before .before .before .before .before .before .before .before .before .before .pre .holds) _ (c .before .before .before .before .before .before .before .before .before .before .before .before .before .before .before .before .before .slice-known .given) (c .before .before .before .slice-known4 .given) (c .before .before .before .before .before .raise-count .ensures) _ (c .before .row-at .ensures), rows-fit (c .before .before .before .before .before .before .before .before .before .before .before .before .before .before .before .before .before .before .pre .holds) _ (c .before .before .before .before .before .before .before .before .before .before .before .before .before .before .before .before .before .slice-known .given) (c .before .before .before .slice-known4 .given) (c .before .before .before .before .before .raise-count .ensures), limit-fits (c .before .before .before .before .before .before .before .before .before .before .before .before .before .before .before .before .before .before .pre .holds) _ (c .before .before .before .before .before .before .before .before .before .before .before .before .before .before .before .before .before .slice-known .given) (c .before .before .before .slice-known4 .given) (c .before .before .before .before .before .raise-count .ensures), is-blocks (c .before .before .before .before .before .before .before .before .before .before .before .before .before .before .before .before .before .before .pre .holds))
+handle-requires c κs = (is-ready (c .before .before .before .before .before .before .before .before .before .before .before .before .before .before .before .before .before .before .pre .holds) _ (c .before .before .before .before .before .before .before .before .before .before .before .before .before .before .before .before .before .slice-known .given) (c .before .before .before .slice-known4 .given) (c .before .before .before .before .before .raise-count .ensures) _ (c .before .row-at .ensures), some-rows (c .before .before .before .before .before .before .before .before .before .before .before .before .before .before .before .before .before .before .pre .holds) _ (c .before .before .before .before .before .before .before .before .before .before .before .before .before .before .before .before .before .slice-known .given) (c .before .before .before .slice-known4 .given) (c .before .before .before .before .before .raise-count .ensures), limit-fits (c .before .before .before .before .before .before .before .before .before .before .before .before .before .before .before .before .before .before .pre .holds) _ (c .before .before .before .before .before .before .before .before .before .before .before .before .before .before .before .before .before .slice-known .given) (c .before .before .before .slice-known4 .given) (c .before .before .before .before .before .raise-count .ensures), is-blocks (c .before .before .before .before .before .before .before .before .before .before .before .before .before .before .before .before .before .before .pre .holds))
 
 alone-requires : tie.Need-alone-requires
 alone-requires c κs = search needs
