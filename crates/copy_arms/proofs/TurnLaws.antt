@@ -30,11 +30,11 @@ use Rattle.copy_arms.proofs.PlaceLaws.{leading-next}
 
 -- ---- turns of the definition's loop
 
-bind-same : {A B : Type 0} (t : Tried A) (f g : A → Tried B) → ((v : A) → f v ≡ g v) → t >>= f ≡ t >>= g
+pub bind-same : {A B : Type 0} (t : Tried A) (f g : A → Tried B) → ((v : A) → f v ≡ g v) → t >>= f ≡ t >>= g
 bind-same (refused n) f g e = refl
 bind-same (done v) f g e = e v
 
-bind-done : {A : Type 0} (t : Tried A) (f : A → Tried A) → ((v : A) → f v ≡ done v) → t >>= f ≡ t
+pub bind-done : {A : Type 0} (t : Tried A) (f : A → Tried A) → ((v : A) → f v ≡ done v) → t >>= f ≡ t
 bind-done (refused n) f e = refl
 bind-done (done v) f e = e v
 

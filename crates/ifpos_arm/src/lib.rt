@@ -5,6 +5,7 @@ ghost use Rattle.area.specs.Cells.{cells};
 ghost use Rattle.intmap.specs.Map.{HasRoom};
 ghost use Rattle.intmap.specs.Signed.{intOf};
 ghost use Rattle.jump_arms.specs.Arms.{Ready, Puts};
+ghost use Rattle.state.specs.Leads.{Held};
 ghost use Rattle.ifpos_arm.specs.Arm.{IfPosArm, KnowsInt, PutsInt, WordBefore, forgetIf};
 use area::Cell;
 use intmap::IntMap;
@@ -45,7 +46,7 @@ fn put_int(map: IntMap, area: &mut [u8], i: u64, value: u64, limit: usize) -> St
 
 // Makes register i an unknown Integer, if w is the word of a number of 1 or more.
 fn forget(map: IntMap, area: &mut [u8], i: u64, w: u64, limit: usize) -> Stored
-    requires { ⌜ HasRoom (cells (now area)) limit map ⌝ }
+    requires { ⌜ HasRoom (cells (now area)) limit map × Held (cells (now area)) map ⌝ }
     ensures { λ r. ⌜ Puts limit (cells (now (area .entry))) (cells (now (area .exit))) map r (forgetIf (isPositive (intOf w)) limit (intOf i)) ⌝ }
 {
     if intmap::ZERO < w {

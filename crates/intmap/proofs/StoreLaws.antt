@@ -346,3 +346,7 @@ removed-room cs ds limit m key r has d =
       room = omega (arith, has .room, d .base, d .frame .long);
       small = omega (arith, has .small, d .frame .long);
     }
+
+-- room where a search led, which is told otherwise
+pub opened-as : (cs ds : List Cell) (limit : ℕ) (m : IntMap) (n : ℕ) (p : Place) (w v : Found) → w ≡ v → Opens cs ds limit m w n p → Opens cs ds limit m v n p
+opened-as cs ds limit m n p w v e o = subst (λ x. Opens cs ds limit m x n p) e o

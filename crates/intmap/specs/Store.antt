@@ -16,6 +16,7 @@ use Rattle.intmap.specs.Pick.{pick}
 use Rattle.intmap.specs.Runs.{size}
 use Rattle.intmap.specs.Entries.{Runs, keyRun, total}
 use Rattle.intmap.specs.Swap.{swap}
+use Rattle.intmap.specs.Find.{seek}
 use Rattle.intmap.specs.Map.{levels, runsAt, IsMap, HasRoom, Frame}
 use Rattle.intmap.specs.Change.{rekey}
 use Rattle.intmap.specs.Signed.{intOf}
@@ -55,6 +56,11 @@ oldCells cs w = pick (w .present) (size cs levels (w .at)) 0
 
 abbrev pub newLen : ℕ → Found → ℕ
 newLen n w = pick (w .present) n (n + 1)
+
+-- a search of the map led there
+pub record IsFound (cs : List Cell) (m : IntMap) (w : Found) : Type 0 where
+  pub key : ℕ
+  pub is : w ≡ seek cs levels key (m .len) (m .base)
 
 -- room for n cells where a search led
 abbrev pub Opens : List Cell → List Cell → ℕ → IntMap → Found → ℕ → Place → Type 0

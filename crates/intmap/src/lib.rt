@@ -10,7 +10,7 @@ ghost use Rattle.intmap.specs.Runs.{size, sizes, IsColumn, AreColumns, e
 ghost use Rattle.intmap.specs.Depth.{nesting};
 ghost use Rattle.intmap.specs.Find.{seek};
 ghost use Rattle.intmap.specs.Map.{levels, empty, IsMap, HasRoom, Compares, CopiedMap};
-ghost use Rattle.intmap.specs.Store.{RoomMade, Opens, Inserts, RunAbove, Removes, asStored, Stores, RemovesAt};
+ghost use Rattle.intmap.specs.Store.{RoomMade, IsFound, Opens, Inserts, RunAbove, Removes, asStored, Stores, RemovesAt};
 ghost use Rattle.intmap.specs.Get.{Judges, Gets};
 ghost use Rattle.intmap.specs.Change.{rekey, Writable, FromElem};
 ghost use Rattle.intmap.specs.Entries.{span};
@@ -429,12 +429,11 @@ impl IntMap {
         Place::At(at, IntMap { base, len, used })
     }
 
-    // Makes room for an entry of n cells at a key, in the place of the one that is there, unless that makes more than `limit` cells.
-    fn room_for(self, area: &mut [u8], key: u64, n: usize, limit: usize) -> Place
-        requires { ⌜ HasRoom (cells (now area)) limit self × (n ≤ 1048576) ⌝ }
-        ensures { λ r. ⌜ Opens (cells (now (area .entry))) (cells (now (area .exit))) limit self (seek (cells (now (area .entry))) levels key (self .len) (self .base)) n r ⌝ }
+    // Makes room for an entry of n cells where a search led, in the place of the one that is there, unless that makes more than `limit` cells.
+    fn room_at(self, area: &mut [u8], found: Found, n: usize, limit: usize) -> Place
+        requires { ⌜ HasRoom (cells (now area)) limit self × (n ≤ 1048576) × IsFound (cells (now area)) self found ⌝ }
+        ensures { λ r. ⌜ Opens (cells (now (area .entry))) (cells (now (area .exit))) limit self found n r ⌝ }
     {
-        let found = self.find(area, key);
         let at = found.at;
         let there = found.present;
         if there {
@@ -443,6 +442,15 @@ impl IntMap {
             return self.make_room(area, at, old, n, self.len, limit);
         }
         self.make_room(area, at, 0, n, self.len + 1, limit)
+    }
+
+    // The same for an entry at a key.
+    fn room_for(self, area: &mut [u8], key: u64, n: usize, limit: usize) -> Place
+        requires { ⌜ HasRoom (cells (now area)) limit self × (n ≤ 1048576) ⌝ }
+        ensures { λ r. ⌜ Opens (cells (now (area .entry))) (cells (now (area .exit))) limit self (seek (cells (now (area .entry))) levels key (self .len) (self .base)) n r ⌝ }
+    {
+        let found = self.find(area, key);
+        self.room_at(area, found, n, limit)
     }
 
     // Puts a cell that is no record under its key.
@@ -460,7 +468,32 @@ impl IntMap {
         }
     }
 
-    // Puts the run of n cells at `from`, above the map's room, under a key. The run there keeps its own key.
+    // Puts the run of n cells at `from`, above the map's room, under a key, where a search for it led. The run there keeps its own key.
+    pub fn insert_run_at(
+        self,
+        area: &mut [u8],
+        found: Found,
+        key: u64,
+        from: usize,
+        n: usize,
+        limit: usize,
+    ) -> Insertion
+        requires { ⌜ HasRoom (cells (now area)) limit self × RunAbove (cells (now area)) limit self from n × (key < 1099511627776) × (found ≡ seek (cells (now area)) levels key (self .len) (self .base)) ⌝ }
+        ensures { λ r. ⌜ Inserts (cells (now (area .entry))) (cells (now (area .exit))) limit self (rekey key (span (cells (now (area .entry))) from n)) r ⌝ }
+    {
+        let c = area::cell_at(area, from);
+        let p = self.room_at(area, found, n, limit);
+        match p {
+            Place::Full => Insertion::Full,
+            Place::At(at, r) => {
+                area::move_cells(area, from, at, n);
+                area::put_cell(area, at, with_key(c, key));
+                Insertion::Done(r)
+            }
+        }
+    }
+
+    // The same after a search.
     pub fn insert_run(
         self,
         area: &mut [u8],
@@ -472,16 +505,8 @@ impl IntMap {
         requires { ⌜ HasRoom (cells (now area)) limit self × RunAbove (cells (now area)) limit self from n × (key < 1099511627776) ⌝ }
         ensures { λ r. ⌜ Inserts (cells (now (area .entry))) (cells (now (area .exit))) limit self (rekey key (span (cells (now (area .entry))) from n)) r ⌝ }
     {
-        let c = area::cell_at(area, from);
-        let p = self.room_for(area, key, n, limit);
-        match p {
-            Place::Full => Insertion::Full,
-            Place::At(at, r) => {
-                area::move_cells(area, from, at, n);
-                area::put_cell(area, at, with_key(c, key));
-                Insertion::Done(r)
-            }
-        }
+        let found = self.find(area, key);
+        self.insert_run_at(area, found, key, from, n, limit)
     }
 
     // Takes the entry with a key out.

@@ -318,7 +318,7 @@ pub fn put_single(
     nullable: u64,
     limit: usize,
 ) -> Stored
-    requires { ⌜ HasRoom (cells (now area)) limit map × (nullable < 3) ⌝ }
+    requires { ⌜ HasRoom (cells (now area)) limit map × (nullable < 3) × Held (cells (now area)) map ⌝ }
     ensures { λ r. ⌜ Puts limit (cells (now (area .entry))) (cells (now (area .exit))) map r (storeRegister limit (intOf i) (Column (Single d (getD nullables nullable none)))) ⌝ }
 {
     map.store_cell(area, state::REGISTERS, i, state::single(d, nullable), limit)

@@ -29,7 +29,8 @@ pub fn open_table(
     ensures { λ r. ⌜ OpensTable limit (cells (now (area .entry))) (cells (now (area .exit))) map row i from n r ⌝ }
 {
     let key = intmap::class_key(cursor_arms::TABLES, row);
-    let x = map.insert_run(area, key, from, n, limit);
+    let found = state::place_of(map, area, cursor_arms::TABLES, row);
+    let x = map.insert_run_at(area, found, key, from, n, limit);
     match x {
         Insertion::Full => Stored::Refused(8),
         Insertion::Done(m) => cursor_arms::store_normal(m, area, i, row, limit),

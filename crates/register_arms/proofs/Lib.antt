@@ -1,4 +1,5 @@
 pub mod ValueLaws
 pub mod RegisterLaws
 pub mod NullLaws
+pub mod RunLaws
 pub mod ChangeLaws

@@ -46,12 +46,12 @@ join cs ds es base other n e f g =
       above = λ j h. g .above j (omega (arith, e)) ∙ f .above j h;
     }
 
-null-turn : (limit left : ℕ) (i : ℤ) (m : MemoryState) → 0 < left → nullMany limit left i m ≡ (storeRegister limit i (Column null) m >>= λ s. nullMany limit (left - 1) (sucℤ i) s)
+pub null-turn : (limit left : ℕ) (i : ℤ) (m : MemoryState) → 0 < left → nullMany limit left i m ≡ (storeRegister limit i (Column null) m >>= λ s. nullMany limit (left - 1) (sucℤ i) s)
 unfolding nullMany
 null-turn limit zero i m h = absurd (omega arith)
 null-turn limit (suc left) i m h = let z : suc left - 1 ≡ left = omega arith in rw z
 
-null-none : (limit left : ℕ) (i : ℤ) (m : MemoryState) → (0 < left → ⊥) → nullMany limit left i m ≡ done m
+pub null-none : (limit left : ℕ) (i : ℤ) (m : MemoryState) → (0 < left → ⊥) → nullMany limit left i m ≡ done m
 unfolding nullMany
 null-none limit zero i m h = refl
 null-none limit (suc left) i m h = absurd (h (omega arith))

@@ -16,8 +16,10 @@ ghost use Rattle.encoding.specs.Decode.{datatypes, nullables};
 ghost use Rattle.rows.specs.Judged.{IsRow};
 ghost use Rattle.state.specs.Leads.{Current, Leads};
 ghost use Rattle.state.specs.Arms.{RegisterArm};
+ghost use Rattle.register_arms.specs.Nulls.{NullsRun};
 ghost use Rattle.register_arms.specs.Values.{IsDatatype, IsNullable, AreNullable, isAbsent};
 use intmap::IntMap;
+use intmap::Slot;
 use intmap::Stored;
 use rows::Row;
 use state::Register;
@@ -296,15 +298,36 @@ pub fn agg_final(map: IntMap, area: &mut [u8], x: Row, limit: usize) -> Stored
     Stored::Done(map)
 }
 
-// Null in n registers from `from` on; a refusal ends it. Each turn leaves one more register of the range present, which is at least a cell, so
-// that the turns are at most one more than the limit, however many n are.
+// Null in the registers from `from` on where they stand side by side as plain cells, at most n. Gives how many.
+fn null_run(map: IntMap, area: &mut [u8], from: u64, n: u64, limit: usize) -> u64
+    requires { ⌜ Current limit (cells (now area)) map × (from + n < 18446744073709551616) ⌝ }
+    ensures { λ r. ⌜ NullsRun limit (cells (now (area .entry))) (cells (now (area .exit))) map from n r ⌝ }
+{
+    let x = state::get(map, area, state::REGISTERS, from);
+    let Slot::At(p) = x else {
+        return 0;
+    };
+    let c = state::single(DataType::Null, state::NULLABLE);
+    let mut done: u64 = 0;
+    while done < n {
+        if !state::overwrite(map, area, p + done as usize, from + done, c) {
+            return done;
+        }
+        done += 1;
+    }
+    done
+}
+
+// Null in n registers from `from` on, first those that stand side by side; a refusal ends it. Each turn leaves one more register of the range
+// present, which is at least a cell, so that the turns are at most one more than the limit, however many n are.
 fn null_many(map: IntMap, area: &mut [u8], from: u64, n: u64, limit: usize) -> Stored
     requires { ⌜ Current limit (cells (now area)) map × (from + n < 18446744073709551616) ⌝ }
     ensures { λ r. ⌜ Leads limit (cells (now (area .entry))) (cells (now (area .exit))) map r (nullMany limit n (intOf from)) ⌝ }
 {
+    let first = null_run(map, area, from, n, limit);
     let mut held = map;
-    let mut i = from;
-    let mut left = n;
+    let mut i = from + first;
+    let mut left = n - first;
     while 0 < left {
         let s = state::store_single(held, area, i, DataType::Null, state::NULLABLE, limit);
         match s {

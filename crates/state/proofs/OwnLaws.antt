@@ -1,20 +1,22 @@
 -- A cell with an entry's key, in cells that hold a state, is the entry: what is read there is what `get` reads, and a store over it is the store of
 -- its class and index. Assumes nothing.
-use mathlib.Core.Path.{_≡_, refl, sym, ap, subst, _∙_}
+use mathlib.Core.Path.{_≡_, refl, sym, ap, ap₂, subst, _∙_}
 use mathlib.Core.Logic.{_⊎_, inl, inr}
 use mathlib.Core.Bool.{Bool, true, false, _&&_, true≢false}
 use mathlib.Core.List.{List, [], _∷_}
 use Prim.Native.Nat.{ℕ, _+_, _<_, _≤_}
 use native.Mathlib.Omega.{arith}
+use native.Mathlib.Decide.{ℕ-discrete}
 use lib.Dec.{eqb, leb, ltb}
 use lib.ListN.{length, getD, set, length-set}
 use lib.Seq.{getD-set-other}
 use borrow.Author.Tests.{ltb-true, lt-ltb, le-ltb, eqb-true, eq-eqb, ne-eqb, leb-true, leb-false, le-leb, lt-leb}
-use Rattle.model.specs.Walk.{Tried}
+use Rattle.model.specs.Walk.{Tried, refused, done}
 use Rattle.model.specs.State.{MemoryState}
 use Rattle.area.specs.Cells.{blank}
 use Rattle.area.specs.declared.Cell.{Cell}
-use Rattle.intmap.specs.Find.{seek}
+use Rattle.intmap.specs.Find.{place, seek}
+use Rattle.intmap.specs.Runs.{size}
 use Rattle.intmap.specs.Get.{indexOf, Judges, Gets}
 use Rattle.intmap.specs.Map.{levels, IsMap, HasRoom, Frame}
 use Rattle.intmap.specs.Pack.{tagOf, keyOf, withKey, classKey}
@@ -29,13 +31,16 @@ use Rattle.intmap.specs.declared.Slot.{Slot}
 use Rattle.intmap.specs.declared.Slot.the-variants as slot
 use Rattle.intmap.specs.declared.Stored.{Stored}
 use Rattle.intmap.specs.declared.Stored.the-variants as stored
+use Rattle.intmap.proofs.FindLaws.{found-whole}
+use Rattle.intmap.proofs.RunLaws.{size-pos, size-record}
 use Rattle.intmap.proofs.GetLaws.{get-absent, get-at}
 use Rattle.intmap.proofs.JudgedLaws.{store-tried}
 use Rattle.intmap.proofs.Overwritten.{alike, alike-room, overwritten}
 use Rattle.intmap.proofs.PackLaws.{keyed-tag, keyed-key}
-use Rattle.encoding.proofs.Places.{held-place}
+use Rattle.encoding.proofs.Flat.{sizes-many}
+use Rattle.encoding.proofs.Places.{held-place, held-behind}
 use Rattle.state.specs.Leads.{HoldsMap, Leaves, Held, Leads}
-use Rattle.state.specs.Own.{foundSlot, entrySlot, isAt, isFlat, HasKey, Own, StoresCell}
+use Rattle.state.specs.Own.{foundSlot, entrySlot, isAt, isFlat, FlatSize, LastBelow, HasKey, Own, StoresCell, Overwrites}
 use Rattle.state.proofs.StoreLeads.{wider}
 
 -- what the tests of a cell tell
@@ -104,6 +109,30 @@ module _ (cs : List Cell) (a : IntMap) (class k key : ℕ) (ke : key ≡ classKe
       let same = ap (λ n. seek cs levels n (a .len) (a .base)) (has .is) in
       ap slot.At (sym (w .0) ∙ ap (λ f. f .at) same) ∙ entry-there (seek cs levels key (a .len) (a .base)) refl (sym (ap (λ f. f .present) same) ∙ w .1)
 
+-- a key above that of the last entry belongs at the map's end
+module _ (cs : List Cell) (a : IntMap) (held : Held cs a) (key : ℕ) (below : LastBelow cs a key) where
+  abbrev p : ℕ
+  p = below .last
+
+  at-p : (seek cs levels (keyOf (getD cs p blank)) (a .len) (a .base) .at ≡ p) × (seek cs levels (keyOf (getD cs p blank)) (a .len) (a .base) .present ≡ true)
+  at-p = held-place (held .holds) p (below .low) (below .inside) (below .begins)
+
+  within : p + size cs levels p ≤ a .base + a .used
+  within =
+      let w = found-whole cs levels (keyOf (getD cs p blank)) (a .len) (a .base) _ refl (at-p .1) in
+      let e : seek cs levels (keyOf (getD cs p blank)) (a .len) (a .base) .at + size cs levels (seek cs levels (keyOf (getD cs p blank)) (a .len) (a .base) .at) ≡ p + size cs levels p = ap (λ q. q + size cs levels q) (at-p .0) in
+      omega (arith, w, e, held .map .used)
+
+  least : below .size ≤ size cs levels p
+  least = go (ℕ-discrete (tagOf (getD cs p blank)) 2)
+    where
+      go : Dec (tagOf (getD cs p blank) ≡ 2) → below .size ≤ size cs levels p
+      go (yes t) = omega (arith, below .flat .most .0 t, size-record cs 9 p (getD cs p blank) refl (omega arith) t, sizes-many cs 8 (getD cs p blank .payload) (p + 1))
+      go (no t) = omega (arith, below .flat .most .1 t, size-pos cs levels p)
+
+  pub place-behind : place (a .base + a .used) 0 false ≡ seek cs levels key (a .len) (a .base)
+  place-behind = sym (held-behind (held .holds) p key (below .low) (below .inside) (below .begins) (below .less) (omega (arith, within, least, below .reaches)))
+
 -- by its index
 pub entry-gets : (cs : List Cell) (a : IntMap) (class i k : ℕ) (x : Index) → Judges i x → IsMap cs a → x ≡ index-is.At k → (r : Slot) → r ≡ entrySlot cs a class k → Gets cs a class i r
 unfolding entrySlot
@@ -168,6 +197,42 @@ module _ {cs : List Cell} {a : IntMap} {class i p : ℕ} (own : Own cs a class i
           frame = frame;
         }
 
+-- at a place that was asked for
+abbrev Answers : Tried ℕ → Type 0
+Answers (refused n) = ⊥
+Answers (done k) = Unit {0}
+
+abbrev answer : ℕ → Tried ℕ → ℕ
+answer k (refused n) = k
+answer k (done j) = j
+
+-- why a cell is not a register's own
+module _ (cs : List Cell) (a : IntMap) (p i : ℕ) (x : Index) (judges : Judges i x) where
+  pub bad-own : (n : ℕ) → x ≡ index-is.Bad n → Own cs a 0 i p → ⊥
+  bad-own n e own = subst Answers (sym (own .judged) ∙ sym (judges .answer) ∙ ap indexOf e) tt
+
+  pub other-own : (k key : ℕ) → x ≡ index-is.At k → key ≡ classKey 0 k → (r : Bool) → r ≡ isAt cs a key p → r ≡ false → Own cs a 0 i p → ⊥
+  unfolding isAt
+  other-own k key e ke r re rf own =
+      let place-is : own .place ≡ k = ap (answer k) (sym (own .judged) ∙ sym (judges .answer) ∙ ap indexOf e) in
+      let key-is : keyOf (getD cs p blank) ≡ key = own .has .is ∙ ap (classKey 0) place-is ∙ sym ke in
+      true≢false (sym (ap₂ (λ s t. s && t) (lt-ltb p (a .base + a .used) (own .has .inside)) (eq-eqb (keyOf (getD cs p blank)) key key-is)) ∙ sym re ∙ rf)
+
+pub record-own : (cs : List Cell) (a : IntMap) (p i : ℕ) (c : Cell) (t : ℕ) → c ≡ getD cs p blank → t ≡ tagOf c → t ≡ 2 → Own cs a 0 i p → ⊥
+record-own cs a p i c t ce te is own = own .plain (ap tagOf (sym ce) ∙ sym te ∙ is)
+
+pub overwrites-not : (cs : List Cell) (a : IntMap) (p i : ℕ) (c : Cell) → (Own cs a 0 i p → ⊥) → Overwrites cs cs a p i c false
+overwrites-not cs a p i c none = record { own = λ o. absurd (none o); inside = λ e. absurd (true≢false (sym e)); yes = λ e. absurd (true≢false (sym e)); no = λ e. refl }
+
+pub overwrites-own : {cs : List Cell} {a : IntMap} {p i : ℕ} → Own cs a 0 i p → (c x : Cell) → (tagOf c ≡ 2 → ⊥) → (k : ℕ) → k ≡ keyOf (getD cs p blank) → x ≡ withKey k c → (ds : List Cell) → ds ≡ set cs p x → Overwrites cs ds a p i c true
+overwrites-own own c x plain k ke xe ds e =
+    record {
+      own = λ _. refl;
+      inside = λ _. own-within own;
+      yes = λ _ limit has. own-stored own limit c x has plain (xe ∙ ap (λ n. withKey n c) (ke ∙ own .has .is)) ds e;
+      no = λ e. absurd (true≢false e);
+    }
+
 -- by the map
 pub map-stored : (limit : ℕ) (cs ds : List Cell) (a : IntMap) (class i : ℕ) (c : Cell) (r : Stored) → Stores cs ds limit a class i 0 (c ∷ []) r → StoresCell limit cs ds a class i c r
 map-stored limit cs ds a class i c r st = record { says = λ bound m h. st; leaves = left r st; frame = st .frame }
@@ -179,3 +244,20 @@ map-stored limit cs ds a class i c r st = record { says = λ bound m h. st; leav
 -- what such a store leads to
 pub cell-leads : {limit : ℕ} {cs ds : List Cell} {a : IntMap} {class i : ℕ} {c : Cell} {r : Stored} {f : MemoryState → Tried MemoryState} → StoresCell limit cs ds a class i c r → (Stores cs ds limit a class i 0 (c ∷ []) r → Leads limit cs ds a r f) → Leads limit cs ds a r f
 cell-leads {limit} {cs} {ds} {a} st leads = record { says = λ bound m le h. leads (st .says bound m h) .says bound m le h; leaves = st .leaves; frame = wider cs ds (a .base) limit (st .frame) }
+
+-- what the tests of the last entry tell
+pub last-below : (cs : List Cell) (a : IntMap) (key p : ℕ) → a .base ≤ p → p < a .base + a .used → (c : Cell) → c ≡ getD cs p blank → (b : Bool) → b ≡ leb 65536 (keyOf c) → b ≡ true → (k : ℕ) → k ≡ keyOf c → k < key → (n : ℕ) → FlatSize c n → p + n ≡ a .base + a .used → LastBelow cs a key
+last-below cs a key p low inside c ce b be bt k ke less n flat reaches =
+    record {
+      last = p;
+      low = low;
+      inside = inside;
+      begins = subst (λ y. 65536 ≤ keyOf y) ce (leb-true 65536 (keyOf c) (sym be ∙ bt));
+      less = subst (λ y. keyOf y < key) ce (subst (λ x. x < key) ke less);
+      size = n;
+      flat = subst (λ y. FlatSize y n) ce flat;
+      reaches = reaches;
+    }
+
+pub key-as : (cs : List Cell) (a : IntMap) (key k : ℕ) (w : Found) → key ≡ k → w ≡ seek cs levels key (a .len) (a .base) → w ≡ seek cs levels k (a .len) (a .base)
+key-as cs a key k w e f = f ∙ ap (λ n. seek cs levels n (a .len) (a .base)) e

@@ -12,7 +12,7 @@ use Rattle.model.specs.Access.{index}
 use Rattle.area.specs.Cells.{blank}
 use Rattle.area.specs.declared.Cell.{Cell}
 use Rattle.intmap.specs.Find.{seek}
-use Rattle.intmap.specs.Map.{levels, Frame}
+use Rattle.intmap.specs.Map.{levels, HasRoom, Frame}
 use Rattle.intmap.specs.Pack.{tagOf, keyOf, classKey}
 use Rattle.intmap.specs.Pick.{pick}
 use Rattle.intmap.specs.Signed.{intOf}
@@ -22,6 +22,7 @@ use Rattle.intmap.specs.declared.IntMap.{IntMap}
 use Rattle.intmap.specs.declared.Slot.{Slot}
 use Rattle.intmap.specs.declared.Slot.the-variants as slot
 use Rattle.intmap.specs.declared.Stored.{Stored}
+use Rattle.intmap.specs.declared.Stored.the-variants as stored
 use Rattle.state.specs.Leads.{HoldsMap, Leaves}
 use Rattle.state.specs.declared.Span.{Span}
 
@@ -46,6 +47,23 @@ pub record Narrower (s r : Span) : Type 0 where
   pub low : s .low ≤ r .low
   pub high : r .high ≤ s .high
   pub less : r .high - r .low < s .high - s .low
+
+-- how many cells the entry that begins with c has, if each column of a record has one: never more than it has
+pub record FlatSize (c : Cell) (r : ℕ) : Type 0 where
+  pub some : 1 ≤ r
+  pub few : r ≤ 65536
+  pub most : (tagOf c ≡ 2 → r ≤ 1 + c .payload) × ((tagOf c ≡ 2 → ⊥) → r ≡ 1)
+
+-- the last entry, which as many cells reach to the map's end, has a lower key
+pub record LastBelow (cs : List Cell) (a : IntMap) (key : ℕ) : Type 0 where
+  pub last : ℕ
+  pub low : a .base ≤ last
+  pub inside : last < a .base + a .used
+  pub begins : 65536 ≤ keyOf (getD cs last blank)
+  pub less : keyOf (getD cs last blank) < key
+  pub size : ℕ
+  pub flat : FlatSize (getD cs last blank) size
+  pub reaches : last + size ≡ a .base + a .used
 
 -- a cell of the map has the key
 pub record HasKey (cs : List Cell) (a : IntMap) (key p : ℕ) : Type 0 where
@@ -75,3 +93,10 @@ pub record StoresCell (limit : ℕ) (cs ds : List Cell) (a : IntMap) (class i : 
   pub says : (bound : ℕ) (m : MemoryState) → HoldsMap limit bound cs a m → Stores cs ds limit a class i 0 (c ∷ []) r
   pub leaves : Leaves limit ds a r
   pub frame : Frame cs ds (a .base) limit
+
+-- the cell at p was register i's own, and a store of c was made there; or nothing has changed
+pub record Overwrites (cs ds : List Cell) (a : IntMap) (p i : ℕ) (c : Cell) (r : Bool) : Type 0 where
+  pub own : Own cs a 0 i p → r ≡ true
+  pub inside : r ≡ true → p < a .base + a .used
+  pub yes : r ≡ true → (limit : ℕ) → HasRoom cs limit a → StoresCell limit cs ds a 0 i c (stored.Done a)
+  pub no : r ≡ false → ds ≡ cs

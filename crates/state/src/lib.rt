@@ -1,5 +1,6 @@
 // Accesses to the state in the area by value: a register read, and values of one cell stored.
 ghost use mathlib.Core.Path.{_≡_};
+ghost use mathlib.Core.Bool.{true};
 ghost use Prim.Native.Nat.{_+_, _<_, _≤_};
 ghost use lib.ListN.{length, getD};
 ghost use mathlib.Core.Option.{none};
@@ -7,16 +8,18 @@ ghost use Rattle.model.specs.State.{Column, Single, Int, datatypeCode};
 ghost use Rattle.model.specs.Access.{storeRegister};
 ghost use Rattle.area.specs.Cells.{cells};
 ghost use Rattle.intmap.specs.Get.{Gets};
-ghost use Rattle.intmap.specs.Map.{IsMap};
-ghost use Rattle.intmap.specs.Pack.{tagOf};
+ghost use Rattle.intmap.specs.Find.{seek};
+ghost use Rattle.intmap.specs.Map.{levels, IsMap};
+ghost use Rattle.intmap.specs.Pack.{tagOf, classKey};
 ghost use Rattle.intmap.specs.Signed.{intOf};
 ghost use Rattle.encoding.specs.Encode.{single};
 ghost use Rattle.encoding.specs.Decode.{nullables};
 ghost use Rattle.rows.specs.Rows.{Operand};
 ghost use Rattle.state.specs.Leads.{Held, Current, Leads};
-ghost use Rattle.state.specs.Own.{entrySlot, isAt, isFlat, Narrower, Hints, Owns, StoresCell};
+ghost use Rattle.state.specs.Own.{entrySlot, isAt, isFlat, Narrower, FlatSize, LastBelow, Hints, Owns, StoresCell, Overwrites};
 ghost use Rattle.state.specs.Reads.{registerIn, Reads};
 use area::Cell;
+use intmap::Found;
 use intmap::Index;
 use intmap::IntMap;
 use intmap::Slot;
@@ -182,7 +185,7 @@ const LAST: usize = 8;
 
 // How many cells the entry that begins with c has, if each column of a record has one.
 fn flat_size(c: Cell) -> usize
-    ensures { λ r. ⌜ (1 ≤ r) × (r ≤ 65536) ⌝ }
+    ensures { λ r. ⌜ FlatSize c r ⌝ }
 {
     if intmap::tag_of(c) == intmap::RECORD {
         if c.payload < 65536 {
@@ -294,6 +297,42 @@ pub fn entry_at(map: IntMap, area: &[u8], class: u64, k: u64) -> Slot
     Slot::Absent
 }
 
+// Whether the last entry has a lower key than this, so that an entry of it belongs at the map's end.
+fn is_behind(map: IntMap, area: &[u8], key: u64) -> bool
+    requires { ⌜ IsMap (cells (now area)) map ⌝ }
+    ensures { λ r. ⌜ (r ≡ true → LastBelow (cells (now (area .entry))) map key) ⌝ }
+{
+    if map.used == 0 {
+        return false;
+    }
+    let end = map.base + map.used;
+    let p = entry_below(area, map.base, end - 1);
+    let c = area::cell_at(area, p);
+    if !intmap::begins(c) {
+        return false;
+    }
+    if key <= intmap::key_of(c) {
+        return false;
+    }
+    p + flat_size(c) == end
+}
+
+// Where a place in a class is or belongs: at the map's end, if its key is above all, or by a search of all entries.
+pub fn place_of(map: IntMap, area: &[u8], class: u64, k: u64) -> Found
+    requires { ⌜ Held (cells (now area)) map × (class < 3) × (k ≤ 65535) ⌝ }
+    ensures { λ r. ⌜ r ≡ seek (cells (now (area .entry))) levels (classKey class k) (map .len) (map .base) ⌝ }
+{
+    let key = intmap::class_key(class, k);
+    if is_behind(map, area, key) {
+        return Found {
+            at: map.base + map.used,
+            left: 0,
+            present: false,
+        };
+    }
+    map.find(area, key)
+}
+
 // Where the entry of index i in a class is.
 pub fn get(map: IntMap, area: &[u8], class: u64, i: u64) -> Slot
     requires { ⌜ Held (cells (now area)) map × (class < 3) ⌝ }
@@ -337,6 +376,26 @@ pub fn store_cell(map: IntMap, area: &mut [u8], class: u64, i: u64, c: Cell, lim
     let key = intmap::key_of(area::cell_at(area, p));
     area::put_cell(area, p, intmap::with_key(c, key));
     Stored::Done(map)
+}
+
+// Writes c over the cell at p, if that is register i's own and no record's. Says whether it was.
+pub fn overwrite(map: IntMap, area: &mut [u8], p: usize, i: u64, c: Cell) -> bool
+    requires { ⌜ Held (cells (now area)) map × (map .base ≤ p) × (tagOf c ≡ 2 → ⊥) ⌝ }
+    ensures { λ r. ⌜ Overwrites (cells (now (area .entry))) (cells (now (area .exit))) map p i c r ⌝ }
+{
+    let x = intmap::judge_index(i);
+    let Index::At(k) = x else {
+        return false;
+    };
+    let key = intmap::class_key(REGISTERS, k);
+    if !is_at(map, area, p, key) {
+        return false;
+    }
+    if intmap::tag_of(area::cell_at(area, p)) == intmap::RECORD {
+        return false;
+    }
+    area::put_cell(area, p, intmap::with_key(c, key));
+    true
 }
 
 // Stores a plain column in register i.

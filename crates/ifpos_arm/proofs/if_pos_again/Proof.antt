@@ -1,6 +1,6 @@
 -- `ifpos_arm::if_pos_again` builds the branch behind the map. Assumes nothing.
 use mathlib.Core.Path.{sym, subst}
-use Rattle.jump_arms.proofs.BothLaws.{behind-room, state-room}
+use Rattle.jump_arms.proofs.BothLaws.{behind-room, state-room, state-held}
 use Rattle.ifpos_arm.specs.Arm.{IfPosArm}
 use Rattle.ifpos_arm.proofs.IfPosLaws.{again-refused, again-arm}
 use borrow.Author.Needs.{needs}
@@ -26,7 +26,7 @@ enum-known-there-2 : tie.Need-enum-known-there-2
 enum-known-there-2 c = search needs
 
 forget-requires : tie.Need-forget-requires
-forget-requires c κs = state-room _ _ _ _ (c .before .before .before .before .before .before .before .before .before .before .before .before .before .before .before .before .pre .0 .current) _ (c .before .before .before .before .before .before .before .before .before .before .before .copy-to .ensures) _ (c .before .before .before .before .before .before .put-int .ensures .frame)
+forget-requires c κs = (state-room _ _ _ _ (c .before .before .before .before .before .before .before .before .before .before .before .before .before .before .before .before .pre .0 .current) _ (c .before .before .before .before .before .before .before .before .before .before .before .copy-to .ensures) _ (c .before .before .before .before .before .before .put-int .ensures .frame), state-held _ _ _ _ (c .before .before .before .before .before .before .before .before .before .before .before .before .before .before .before .before .pre .0 .current) _ (c .before .before .before .before .before .before .before .before .before .before .before .copy-to .ensures) _ (c .before .before .before .before .before .before .put-int .ensures .frame))
 
 add-branch-and-go : tie.Need-add-branch-and-go
 add-branch-and-go c = search (needs, c .before .before .before .before .before .before .before .before .before .before .before .before .before .before .before .before .before .before .before .before .pre .0 .below)

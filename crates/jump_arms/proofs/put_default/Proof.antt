@@ -1,5 +1,6 @@
 -- `jump_arms::put_default` stores the default where something is. Assumes nothing.
 use Rattle.jump_arms.proofs.NullLaws.{put-bad, put-absent, default-single, default-record, default-int}
+use native.Mathlib.Omega.{arith}
 use borrow.Author.Needs.{needs}
 use Rattle.jump_arms.proofs.put_default.Statement.{statement}
 use Rattle.jump_arms.proofs.put_default.Tie as tie
@@ -26,7 +27,7 @@ enum-told-2 c = search needs
 
 -- src/lib.rt:336:13
 put-single-requires : tie.Need-put-single-requires
-put-single-requires c κs = search needs
+put-single-requires c κs = (c .before .before .before .before .before .before .pre .0, omega arith, c .before .before .before .before .before .before .pre .1)
 
 -- src/lib.rt:338:48
 enum-told-3 : tie.Need-enum-told-3
@@ -34,7 +35,7 @@ enum-told-3 c = search needs
 
 -- src/lib.rt:338:32
 put-single-requires-2 : tie.Need-put-single-requires-2
-put-single-requires-2 c κs = search needs
+put-single-requires-2 c κs = (c .before .before .before .before .before .before .pre .0, omega arith, c .before .before .before .before .before .before .pre .1)
 
 -- src/lib.rt:339:45
 enum-told-4 : tie.Need-enum-told-4
@@ -42,7 +43,7 @@ enum-told-4 c = search needs
 
 -- src/lib.rt:339:29
 put-single-requires-3 : tie.Need-put-single-requires-3
-put-single-requires-3 c κs = search needs
+put-single-requires-3 c κs = (c .before .before .before .before .before .before .pre .0, omega arith, c .before .before .before .before .before .before .pre .1)
 
 -- src/lib.rt:327:1
 same-length : tie.Need-same-length

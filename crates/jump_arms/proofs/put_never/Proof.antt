@@ -1,5 +1,6 @@
 -- `jump_arms::put_never` stores a plain column that is never null. Assumes nothing.
 use Rattle.jump_arms.proofs.NullLaws.{put-bad, put-absent, never-single, never-record, never-int}
+use native.Mathlib.Omega.{arith}
 use borrow.Author.Needs.{needs}
 use Rattle.jump_arms.proofs.put_never.Statement.{statement}
 use Rattle.jump_arms.proofs.put_never.Tie as tie
@@ -31,7 +32,7 @@ map-to-datatype-requires c κs = search needs
 
 -- src/lib.rt:354:13
 put-single-requires : tie.Need-put-single-requires
-put-single-requires c κs = search needs
+put-single-requires c κs = (c .before .before .before .before .before .before .before .pre .0, omega arith, c .before .before .before .before .before .before .before .pre .1)
 
 -- src/lib.rt:356:32
 enum-told-3 : tie.Need-enum-told-3
