@@ -55,7 +55,7 @@ use Rattle.state.specs.Leads.{HoldsMap, Held}
 use Rattle.state.specs.Own.{entrySlot, isFlat}
 use Rattle.state.proofs.OwnLaws.{flat-told}
 use Rattle.cursor_arms.specs.Cursors.{TellsCursor, RowWithin, ReadsCursor}
-use Rattle.cursor_arms.specs.StandsFor.{registerSlot, headSlot, tableSlot, columnsSlot, emptyIn, SlotWithin, cursorTable, IsTable, TellsTable, HasColumns, TellsColumns, emptinessOf, FindsTable, FindsColumns, TellsEmpty}
+use Rattle.cursor_arms.specs.StandsFor.{registerSlot, headSlot, tableSlot, columnsSlot, emptyIn, emptyCode, SlotWithin, cursorTable, IsTable, TellsTable, HasColumns, TellsColumns, emptinessOf, FindsTable, FindsColumns, TellsEmpty}
 use Rattle.cursor_arms.specs.declared.CursorDataType.{CursorDataType}
 use Rattle.cursor_arms.specs.declared.CursorDataType.the-variants as cursor
 
@@ -288,13 +288,6 @@ module _ {limit bound : ℕ} {cs : List Cell} {a : IntMap} {m : MemoryState} (h 
       go (refused n) le = refl
       go (done k) (value le) = record-tells k le (entrySlot cs a 0 k) refl
 
--- which of a cursor's cases it is, as a number
-abbrev variant : CursorDataType → ℕ
-variant (cursor.Bad n) = 0
-variant cursor.Absent = 1
-variant (cursor.Normal row) = 2
-variant (cursor.Pseudo w) = 3
-
 pub row-small : (c : CursorDataType) (row : ℕ) → c ≡ cursor.Normal row → RowWithin c → row ≤ 65535
 row-small c row e h = subst RowWithin e h
 
@@ -357,11 +350,11 @@ module _ (cs : List Cell) (a : IntMap) (c : CursorDataType) where
       }
 
   pub empty-bad : (n : ℕ) → c ≡ cursor.Bad n → TellsEmpty cs a c 0
-  empty-bad n e = record { says = λ limit bound m h o told. absurd (apart n o (sym (told-as bound (done o) (cursor.Bad n) e told))); refused = λ k f. refl }
+  empty-bad n e = record { says = λ limit bound m h o told. absurd (apart n o (sym (told-as bound (done o) (cursor.Bad n) e told))); code = ap (emptyCode cs a) (sym e) }
 
   pub empty-absent : c ≡ cursor.Absent → TellsEmpty cs a c 0
   empty-absent e =
-      record { says = λ limit bound m h o told. ap (λ u. nullableCode (emptinessOf u m)) (sym (done-same (told-as bound (done o) cursor.Absent e told))); refused = λ k f. refl }
+      record { says = λ limit bound m h o told. ap (λ u. nullableCode (emptinessOf u m)) (sym (done-same (told-as bound (done o) cursor.Absent e told))); code = ap (emptyCode cs a) (sym e) }
 
   pub empty-normal : (row : ℕ) → c ≡ cursor.Normal row → (s : Slot) → s ≡ entrySlot cs a 2 row → (r : ℕ) → r ≡ emptyIn cs s → TellsEmpty cs a c r
   unfolding cursorIsEmpty
@@ -369,7 +362,7 @@ module _ (cs : List Cell) (a : IntMap) (c : CursorDataType) where
       record {
         says = λ limit bound m h o told.
             re ∙ empty-tells h row s (sym se) ∙ ap (λ u. nullableCode (emptinessOf u m)) (sym (done-same (told-as bound (done o) (cursor.Normal row) e told .answer)));
-        refused = λ k f. absurd (omega (arith, ap variant (sym e ∙ f)));
+        code = re ∙ ap (emptyIn cs) se ∙ ap (emptyCode cs a) (sym e);
       }
 
   pub empty-pseudo : (w : ℕ) → c ≡ cursor.Pseudo w → TellsEmpty cs a c 1
@@ -377,7 +370,7 @@ module _ (cs : List Cell) (a : IntMap) (c : CursorDataType) where
   empty-pseudo w e =
       record {
         says = λ limit bound m h o told. ap (λ u. nullableCode (emptinessOf u m)) (sym (done-same (told-as bound (done o) (cursor.Pseudo w) e told .answer)));
-        refused = λ k f. absurd (omega (arith, ap variant (sym e ∙ f)));
+        code = ap (emptyCode cs a) (sym e);
       }
 
 -- ---- where the columns lie

@@ -62,6 +62,13 @@ emptyIn cs (slot.Bad n) = 0
 emptyIn cs slot.Absent = 2
 emptyIn cs (slot.At p) = nullableOf (getD cs p blank)
 
+-- and what a cursor says: none and a bad one 0, one on a register, which has exactly one row, 1
+abbrev pub emptyCode : List Cell → IntMap → CursorDataType → ℕ
+emptyCode cs a (cursor.Bad n) = 0
+emptyCode cs a cursor.Absent = 0
+emptyCode cs a (cursor.Normal row) = emptyIn cs (entrySlot cs a 2 row)
+emptyCode cs a (cursor.Pseudo w) = 1
+
 -- a place is among the cells
 abbrev pub SlotWithin : List Cell → Slot → Type 0
 SlotWithin cs (slot.Bad n) = Unit {0}
@@ -123,8 +130,8 @@ pub record FindsColumns (cs : List Cell) (a : IntMap) (c : CursorDataType) (r : 
 
 -- 0 not known, 1 not empty, 2 empty
 pub record TellsEmpty (cs : List Cell) (a : IntMap) (c : CursorDataType) (r : ℕ) : Type 0 where
+  pub code : r ≡ emptyCode cs a c
   pub says : (limit bound : ℕ) (m : MemoryState) → HoldsMap limit bound cs a m → (o : Option Cursor) → TellsCursor bound c (done o) → r ≡ nullableCode (emptinessOf o m)
-  pub refused : (n : ℕ) → c ≡ cursor.Bad n → r ≡ 0
 
 -- its table is changed by f where it stands, if it has one; the map takes the same cells. What is no cursor on a table changes nothing
 pub record CursorTableChanged (f : TableDataType → TableDataType) (cs ds : List Cell) (a : IntMap) (c : CursorDataType) : Type 0 where
