@@ -35,7 +35,8 @@ use Rattle.encoding.specs.Holds.{Stands}
 use Rattle.encoding.proofs.Lengths.{length-flatten, count-runs}
 use Rattle.encoding.proofs.Standing.{entries-stand, column-whole, columns-whole}
 use Rattle.encoding.proofs.StateRuns.{get-column}
-use Rattle.encoding.proofs.Flat.{Rise, rise-columns, sizes-many, direct, columns-flat}
+use Rattle.encoding.proofs.Flat.{Rise, rise-columns, direct, flat-sizes}
+use Rattle.encoding.proofs.Places.{sizes-many}
 use Rattle.state.specs.Own.{isFlat}
 use Rattle.state.proofs.OwnLaws.{flat-told}
 use Rattle.column_arms.specs.Columns.{columnsIn, counted, ColumnsAt, DirectAt, IsColumnAt, FindsColumn}
@@ -207,18 +208,14 @@ module _ (cs : List Cell) (a : IntMap) (p key : ℕ) (is : IsColumn cs levels p)
   own-size : size cs 9 q ≡ 1
   own-size = sym (size-single cs 9 q (getD cs q blank) refl (near .plain))
 
-  -- each has one cell
-  flat-sizes : (x : Columns) → ColumnsAt cs p x → sizes (size cs 8) n (p + 1) ≡ n
-  flat-sizes x at =
-      let told = flat-told cs a p (c .payload) (near .flat) in
-      let long = behind-size cs p x at tag in
-      let whole = behind cs p is tag c ce in
-      let same : 1 + sizes (size cs 8) n (p + 1) ≡ 1 + length (runColumns x) = ap (λ k. 1 + sizes (size cs 8) k (p + 1)) (sym same-n) ∙ whole ∙ long in
-      omega (arith, same, columns-flat x (at .sorted) cs (p + 1) n (a .base + a .used) (at .stands) (omega (arith, same, sizes-many cs 8 n (p + 1))) (omega (arith, long, inside)) (subst (λ k. (p + 1 + k ≡ a .base + a .used) ⊎ (65536 ≤ keyOf (getD cs (p + 1 + k) blank))) same-n (told .1)))
+  one-each : (x : Columns) → ColumnsAt cs p x → sizes (size cs 8) n (p + 1) ≡ n
+  one-each x at =
+      flat-sizes x (at .depth) (at .sorted) cs (p + 1) n (a .base + a .used) (at .stands) (at .number) (omega (arith, behind-size cs p x at tag, inside))
+      (subst (λ k. (p + 1 + k ≡ a .base + a .used) ⊎ (65536 ≤ keyOf (getD cs (p + 1 + k) blank))) same-n (flat-told cs a p (c .payload) (near .flat) .1))
 
   sought-there : (x : Columns) → ColumnsAt cs p x → (seek cs 8 key n (p + 1) .at ≡ q) × (seek cs 8 key n (p + 1) .present ≡ true)
   sought-there x at =
-      let found = direct cs 8 n (p + 1) 0 key (flat-sizes x at) (subst (Rise 0) (sym (behind-runs cs p x at)) (rise-columns x 0 (at .sorted))) (omega (arith, near .below, same-n)) in
+      let found = direct cs 8 n (p + 1) 0 key (one-each x at) (subst (Rise 0) (sym (behind-runs cs p x at)) (rise-columns x 0 (at .sorted))) (omega (arith, near .below, same-n)) in
       subst (λ k. (seek cs 8 k n (p + 1) .at ≡ q) × (seek cs 8 k n (p + 1) .present ≡ true)) (near .is) (found .at, found .present)
 
   pub column-direct : FindsColumn cs p key (slot.At q)

@@ -1,6 +1,5 @@
 -- What a cursor stands for, by the entry that the search finds. Assumes nothing.
 use mathlib.Core.Path.{_≡_, refl, sym, ap, subst, _∙_}
-use mathlib.Core.Logic.{_⊎_}
 use mathlib.Core.Bool.{Bool, true, false}
 use mathlib.Core.Option.{Option, none, some}
 use mathlib.Core.List.{List, _∷_}
@@ -21,11 +20,11 @@ use Rattle.model.proofs.Tried.{Kept, value}
 use Rattle.model.proofs.Access.{index-small}
 use Rattle.area.specs.Cells.{cell, blank}
 use Rattle.area.specs.declared.Cell.{Cell}
-use Rattle.intmap.specs.Entries.{span, entries, total}
+use Rattle.intmap.specs.Entries.{span}
 use Rattle.intmap.specs.Find.{seek}
 use Rattle.intmap.specs.Get.{indexOf, Within, Judges}
 use Rattle.intmap.specs.Map.{levels, IsMap}
-use Rattle.intmap.specs.Pack.{head, tagOf, keyOf, nullableOf, classKey}
+use Rattle.intmap.specs.Pack.{head, tagOf, nullableOf, classKey}
 use Rattle.intmap.specs.Pick.{pick}
 use Rattle.intmap.specs.Runs.{size, sizes}
 use Rattle.intmap.specs.Signed.{intOf}
@@ -35,12 +34,12 @@ use Rattle.intmap.specs.declared.Index.the-variants as index-is
 use Rattle.intmap.specs.declared.IntMap.{IntMap}
 use Rattle.intmap.specs.declared.Slot.{Slot}
 use Rattle.intmap.specs.declared.Slot.the-variants as slot
-use Rattle.intmap.proofs.EntryLaws.{length-span, total-sizes}
+use Rattle.intmap.proofs.EntryLaws.{length-span}
 use Rattle.intmap.proofs.FindLaws.{found-within, found-whole}
 use Rattle.intmap.proofs.PackLaws.{head-nullable}
 use Rattle.intmap.proofs.RunLaws.{size-pos, size-record}
 use Rattle.intmap.proofs.Swapped.{seek-some, seek-none}
-use Rattle.encoding.specs.Encode.{nullableCode, count, runColumn, columnRuns, runColumns, runRegister, runTable}
+use Rattle.encoding.specs.Encode.{nullableCode, count, runColumn, runColumns, runRegister, runTable}
 use Rattle.encoding.specs.Holds.{SmallRegister}
 use Rattle.encoding.proofs.Accesses.{apart}
 use Rattle.encoding.proofs.BySearch.{search-no-table}
@@ -48,9 +47,8 @@ use Rattle.encoding.proofs.Reading.{register-record}
 use Rattle.encoding.proofs.HeldRead.{Value, told-register-at, told-table}
 use Rattle.encoding.proofs.Injective.{first-is}
 use Rattle.encoding.proofs.Packing.{nullable-small}
-use Rattle.encoding.proofs.Lengths.{length-flatten, count-runs}
-use Rattle.encoding.proofs.Flat.{sizes-many, columns-flat}
-use Rattle.encoding.proofs.Standing.{stands-head, stands-rest, entries-stand, columns-whole}
+use Rattle.encoding.proofs.Flat.{flat-sizes}
+use Rattle.encoding.proofs.Standing.{stands-head, stands-rest}
 use Rattle.state.specs.Leads.{HoldsMap, Held}
 use Rattle.state.specs.Own.{entrySlot, isFlat}
 use Rattle.state.proofs.OwnLaws.{flat-told}
@@ -419,11 +417,4 @@ module _ (cs : List Cell) (a : IntMap) (held : Held cs a) (i : ℕ) (c : CursorD
 
   pub flat-there : (b : Cell) → b ≡ getD cs p blank → isFlat cs a p (b .payload) ≡ true → sizes (size cs 8) (b .payload) (p + 1) ≡ b .payload
   flat-there b be flat =
-      let x = has .columns in
-      let n : b .payload ≡ count x = ap (λ (y : Cell). y .payload) be ∙ has .number in
-      let runs : entries cs 8 (count x) (p + 1) ≡ columnRuns x = ap (λ k. entries cs 8 k (p + 1)) (sym (count-runs x)) ∙ entries-stand 8 (columnRuns x) (columns-whole x 8 (has .depth)) cs (p + 1) (has .stands) in
-      let long : sizes (size cs 8) (count x) (p + 1) ≡ length (runColumns x) = total-sizes cs 8 (count x) (p + 1) ∙ ap total runs ∙ sym (length-flatten (columnRuns x)) in
-      let told = subst (λ k. (p + 1 + k ≡ a .base + a .used) ⊎ (65536 ≤ keyOf (getD cs (p + 1 + k) blank))) n (flat-told cs a p (b .payload) flat .1) in
-      ap (λ k. sizes (size cs 8) k (p + 1)) n ∙ long
-      ∙ columns-flat x (has .sorted) cs (p + 1) (count x) (a .base + a .used) (has .stands) (omega (arith, long, sizes-many cs 8 (count x) (p + 1))) (omega (arith, has .below)) told
-      ∙ sym n
+      flat-sizes (has .columns) (has .depth) (has .sorted) cs (p + 1) (b .payload) (a .base + a .used) (has .stands) (ap (λ (y : Cell). y .payload) be ∙ has .number) (omega (arith, has .below)) (flat-told cs a p (b .payload) flat .1)

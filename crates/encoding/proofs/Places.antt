@@ -103,6 +103,21 @@ inner-at cs (suc n) at p s from to = go (ℕ-discrete p at) (inner-at cs n (at +
     go (yes e) ih = subst (λ q. keyOf (getD cs q blank) < 65536) (sym e) (s .0)
     go (no n) ih = ih (omega (arith, n)) (omega arith)
 
+-- the first cell of a run, and the others
+pub first-key : (cs : List Cell) (at z : ℕ) → 1 ≤ z → keyRun (span cs at z) ≡ keyOf (getD cs at blank)
+first-key cs at zero h = absurd (omega arith)
+first-key cs at (suc z) h = unfold keyRun span in refl
+
+other-key : (cs : List Cell) (at p z : ℕ) → 1 ≤ z → Within (span cs at z) → at < p → p < at + z → keyOf (getD cs p blank) < 65536
+other-key cs at p zero h s lo hi = absurd (omega arith)
+other-key cs at p (suc z) h s lo hi = inner-at cs z (at + 1) p (unfold span in s) (omega arith) (omega arith)
+
+-- each run has a cell
+pub sizes-many : (cs : List Cell) (d n p : ℕ) → n ≤ sizes (size cs d) n p
+unfolding sizes
+sizes-many cs d zero p = omega arith
+sizes-many cs d (suc n) p = omega (arith, size-pos cs d p, sizes-many cs d n (p + size cs d p))
+
 -- the cell at p, of the entries from `at` on, begins one
 record Begins (cs : List Cell) (d key n at low p : ℕ) : Type 0 where
   from : low ≤ key
@@ -118,14 +133,6 @@ module _ (cs : List Cell) (d p : ℕ) (outer : 65536 ≤ keyOf (getD cs p blank)
   begins zero at low s from to = absurd (omega arith)
   begins (suc n) at low s from to = go (size cs d at) refl (size-pos cs d at) s (begins n (at + size cs d at) (suc (keyRun (span cs at (size cs d at)))))
     where
-      first : (z : ℕ) → 1 ≤ z → keyRun (span cs at z) ≡ keyOf (getD cs at blank)
-      first zero h = absurd (omega arith)
-      first (suc z) h = unfold keyRun span in refl
-
-      within : (z : ℕ) → 1 ≤ z → Within (span cs at z) → at < p → p < at + z → keyOf (getD cs p blank) < 65536
-      within zero h s lo hi = absurd (omega arith)
-      within (suc z) h s lo hi = inner-at cs z (at + 1) p (unfold span in s) (omega arith) (omega arith)
-
       go : (z : ℕ) → size cs d at ≡ z → 1 ≤ z → (low ≤ keyRun (span cs at z)) × Within (span cs at z) × Apart (suc (keyRun (span cs at z))) (entries cs d n (at + z))
           → (Apart (suc (keyRun (span cs at (size cs d at)))) (entries cs d n (at + size cs d at)) → at + size cs d at ≤ p → p < at + size cs d at + sizes (size cs d) n (at + size cs d at) → Begins cs d key n (at + size cs d at) (suc (keyRun (span cs at (size cs d at)))) p)
           → Begins cs d key (suc n) at low p
@@ -135,13 +142,13 @@ module _ (cs : List Cell) (d p : ℕ) (outer : 65536 ≤ keyOf (getD cs p blank)
           by (yes q) t f =
               let same : keyOf (getD cs at blank) ≡ key = ap (λ x. keyOf (getD cs x blank)) (sym q) in
               let w = seek-here cs d key (suc n) at (getD cs at blank) (omega arith) refl (omega (arith, same)) in
-              record { from = omega (arith, s .0, first z pos, same); here = ap (λ x. x .at) (sym w) ∙ sym q; present = ap (λ x. x .present) (sym w) ∙ eq-eqb (keyOf (getD cs at blank)) key same }
-          by (no n) true f = absurd (omega (arith, outer, within z pos (s .1) (omega (arith, n)) (ltb-true p (at + z) f)))
+              record { from = omega (arith, s .0, first-key cs at z pos, same); here = ap (λ x. x .at) (sym w) ∙ sym q; present = ap (λ x. x .present) (sym w) ∙ eq-eqb (keyOf (getD cs at blank)) key same }
+          by (no n) true f = absurd (omega (arith, outer, other-key cs at p z pos (s .1) (omega (arith, n)) (ltb-true p (at + z) f)))
           by (no ne) false f =
               let b = ih (subst (λ x. Apart (suc (keyRun (span cs at x))) (entries cs d n (at + x))) (sym e) (s .2)) (omega (arith, e, ltb-false p (at + z) f)) (omega arith) in
-              let low : keyOf (getD cs at blank) < key = omega (arith, b .from, first (size cs d at) (size-pos cs d at)) in
+              let low : keyOf (getD cs at blank) < key = omega (arith, b .from, first-key cs at (size cs d at) (size-pos cs d at)) in
               let w = seek-past cs d key n at low in
-              record { from = omega (arith, s .0, first z pos, low); here = ap (λ x. x .at) w ∙ b .here; present = ap (λ x. x .present) w ∙ b .present }
+              record { from = omega (arith, s .0, first-key cs at z pos, low); here = ap (λ x. x .at) w ∙ b .here; present = ap (λ x. x .present) w ∙ b .present }
 
 -- the cell at p begins the last of the entries from `at` on, and a key above its own belongs behind them
 record Ends (cs : List Cell) (d key n at low p : ℕ) : Type 0 where
@@ -154,40 +161,27 @@ module _ (cs : List Cell) (d p key : ℕ) (outer : 65536 ≤ keyOf (getD cs p bl
   none-left zero q e = refl
   none-left (suc n) q e = absurd (omega (arith, e))
 
-  many : (n q : ℕ) → n ≤ sizes (size cs d) n q
-  unfolding sizes
-  many zero q = omega arith
-  many (suc n) q = omega (arith, size-pos cs d q, many n (q + size cs d q))
-
   ends : (n at low : ℕ) → Apart low (entries cs d n at) → at ≤ p → p < at + sizes (size cs d) n at → p + size cs d p ≡ at + sizes (size cs d) n at → Ends cs d key n at low p
   unfolding entries sizes
   ends zero at low s from to last = absurd (omega arith)
   ends (suc n) at low s from to last = by (ℕ-discrete p at) (ltb p (at + size cs d at)) refl (ends n (at + size cs d at) (suc (keyRun (span cs at (size cs d at)))))
     where
-      first : (z : ℕ) → 1 ≤ z → keyRun (span cs at z) ≡ keyOf (getD cs at blank)
-      first zero h = absurd (omega arith)
-      first (suc z) h = unfold keyRun span in refl
-
-      within : (z : ℕ) → 1 ≤ z → Within (span cs at z) → at < p → p < at + z → keyOf (getD cs p blank) < 65536
-      within zero h s lo hi = absurd (omega arith)
-      within (suc z) h s lo hi = inner-at cs z (at + 1) p (unfold span in s) (omega arith) (omega arith)
-
       by : Dec (p ≡ at) → (t : Bool) → ltb p (at + size cs d at) ≡ t
           → (Apart (suc (keyRun (span cs at (size cs d at)))) (entries cs d n (at + size cs d at)) → at + size cs d at ≤ p → p < at + size cs d at + sizes (size cs d) n (at + size cs d at) → p + size cs d p ≡ at + size cs d at + sizes (size cs d) n (at + size cs d at) → Ends cs d key n (at + size cs d at) (suc (keyRun (span cs at (size cs d at)))) p)
           → Ends cs d key (suc n) at low p
       by (yes q) t f ih =
           let same : keyOf (getD cs at blank) ≡ keyOf (getD cs p blank) = ap (λ x. keyOf (getD cs x blank)) (sym q) in
           let size-same : size cs d p ≡ size cs d at = ap (size cs d) q in
-          let none : n ≡ 0 = omega (arith, last, q, size-same, many n (at + size cs d at)) in
+          let none : n ≡ 0 = omega (arith, last, q, size-same, sizes-many cs d n (at + size cs d at)) in
           let rest : sizes (size cs d) n (at + size cs d at) ≡ 0 = omega (arith, last, q, size-same) in
           let w = seek-past cs d key n at (omega (arith, same, less)) ∙ none-left n (at + size cs d at) none in
-          record { from = omega (arith, s .0, first (size cs d at) (size-pos cs d at), same); behind = w ∙ ap (λ k. place k 0 false) (omega (arith, rest)) }
-      by (no ne) true f ih = absurd (omega (arith, outer, within (size cs d at) (size-pos cs d at) (s .1) (omega (arith, ne)) (ltb-true p (at + size cs d at) f)))
+          record { from = omega (arith, s .0, first-key cs at (size cs d at) (size-pos cs d at), same); behind = w ∙ ap (λ k. place k 0 false) (omega (arith, rest)) }
+      by (no ne) true f ih = absurd (omega (arith, outer, other-key cs at p (size cs d at) (size-pos cs d at) (s .1) (omega (arith, ne)) (ltb-true p (at + size cs d at) f)))
       by (no ne) false f ih =
           let b = ih (s .2) (ltb-false p (at + size cs d at) f) (omega arith) (omega (arith, last)) in
-          let low-key : keyOf (getD cs at blank) < keyOf (getD cs p blank) = omega (arith, b .from, first (size cs d at) (size-pos cs d at)) in
+          let low-key : keyOf (getD cs at blank) < keyOf (getD cs p blank) = omega (arith, b .from, first-key cs at (size cs d at) (size-pos cs d at)) in
           let w = seek-past cs d key n at (omega (arith, low-key, less)) in
-          record { from = omega (arith, s .0, first (size cs d at) (size-pos cs d at), low-key); behind = w ∙ b .behind ∙ ap (λ k. place k 0 false) (omega arith) }
+          record { from = omega (arith, s .0, first-key cs at (size cs d at) (size-pos cs d at), low-key); behind = w ∙ b .behind ∙ ap (λ k. place k 0 false) (omega arith) }
 
 -- a key above that of the last entry, whose run reaches the map's end, belongs there
 pub held-behind : {limit bound : ℕ} {cs : List Cell} {base len used : ℕ} {m : MemoryState} → Holds limit bound cs base len used m

@@ -37,8 +37,7 @@ use Rattle.intmap.proofs.GetLaws.{get-absent, get-at}
 use Rattle.intmap.proofs.JudgedLaws.{store-tried}
 use Rattle.intmap.proofs.Overwritten.{alike, alike-room, overwritten}
 use Rattle.intmap.proofs.PackLaws.{keyed-tag, keyed-key}
-use Rattle.encoding.proofs.Flat.{sizes-many}
-use Rattle.encoding.proofs.Places.{held-place, held-behind}
+use Rattle.encoding.proofs.Places.{sizes-many, held-place, held-behind}
 use Rattle.state.specs.Leads.{HoldsMap, Leaves, Held, Leads}
 use Rattle.state.specs.Own.{foundSlot, entrySlot, isAt, isFlat, FlatSize, LastBelow, HasKey, Own, StoresCell, Overwrites}
 use Rattle.state.proofs.StoreLeads.{wider}

@@ -1,5 +1,5 @@
--- An entry of one cell found where it stands, by its key. Only what is found is told: a cell of the map with that key, which in cells that hold a
--- state is the entry. And what a store over it gives. Assumes nothing.
+-- Where an entry is, and what tells it at once: a cell of the map with its key, which in cells that hold a state is the entry; what follows a
+-- record of so many columns; the last entry. And what a store over a register's or cursor's own cell gives. Assumes nothing.
 use mathlib.Core.Path.{_≡_}
 use mathlib.Core.Bool.{Bool, true, false, _&&_}
 use mathlib.Core.List.{List, [], _∷_}

@@ -35,7 +35,7 @@ use Rattle.intmap.proofs.SameCells.{size-same, sizes-same}
 use Rattle.encoding.specs.Heads.{singleNullable, onHeads, nullHeads}
 use Rattle.encoding.specs.Holds.{HeldNext}
 use Rattle.encoding.proofs.BySearch.{search-kept, search-null, search-plain, search-table-kept, search-table-null}
-use Rattle.encoding.proofs.Flat.{sizes-many}
+use Rattle.encoding.proofs.Places.{sizes-many}
 use Rattle.encoding.proofs.Heads.{heads-length, heads-below, heads-above}
 use Rattle.rows.specs.Judged.{Judged}
 use Rattle.rows.specs.declared.Row.{Row}
