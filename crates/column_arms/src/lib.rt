@@ -102,19 +102,30 @@ fn find_column(map: IntMap, area: &[u8], at: usize, key: u64) -> Slot
     Slot::Bad(9)
 }
 
-// Stores the run at `at` of the map in register j, with c for its head. A cell alone is stored as it is. A store may move a longer run, so that
-// goes to the room behind the map first.
-fn store_from(map: IntMap, area: &mut [u8], at: usize, c: Cell, j: u64, limit: usize) -> Stored
+// Stores the run at `at` of the map in register j, with c for its head. A store may move the run, so it goes to the room behind the map first.
+fn store_record(map: IntMap, area: &mut [u8], at: usize, c: Cell, j: u64, limit: usize) -> Stored
     requires { ⌜ Current limit (cells (now area)) map × (map .base ≤ at) × (at + size (cells (now area)) levels at ≤ map .base + map .used) × (tagOf c ≡ tagOf (getD (cells (now area)) at blank)) × (c .payload ≡ getD (cells (now area)) at blank .payload) ⌝ }
     ensures { λ r. ⌜ StoresRun limit (cells (now (area .entry))) (cells (now (area .exit))) map at c j r ⌝ }
 {
-    if intmap::tag_of(c) != intmap::RECORD {
-        return state::store_cell(map, area, state::REGISTERS, j, c, limit);
-    }
     cursor_arms::run_behind(map, area, at, state::UNKNOWN, limit);
     let to = map.base + limit;
     area::put_cell(area, to, c);
     map.store_run(area, state::REGISTERS, j, to, limit)
+}
+
+// The same, where a cell alone is stored as it is: most often over the register's own cell, and then nothing is handed to another function and
+// back.
+fn store_from(map: IntMap, area: &mut [u8], at: usize, c: Cell, j: u64, limit: usize) -> Stored
+    requires { ⌜ Current limit (cells (now area)) map × (map .base ≤ at) × (at + size (cells (now area)) levels at ≤ map .base + map .used) × (tagOf c ≡ tagOf (getD (cells (now area)) at blank)) × (c .payload ≡ getD (cells (now area)) at blank .payload) ⌝ }
+    ensures { λ r. ⌜ StoresRun limit (cells (now (area .entry))) (cells (now (area .exit))) map at c j r ⌝ }
+{
+    if intmap::tag_of(c) == intmap::RECORD {
+        return store_record(map, area, at, c, j, limit);
+    }
+    if state::overwrite_own(map, area, state::REGISTERS, j, c) {
+        return Stored::Done(map);
+    }
+    map.store_cell(area, state::REGISTERS, j, c, limit)
 }
 
 // Stores an empty record in register j. It has one cell, and where there is room for none, it is refused before it is written.
@@ -189,7 +200,7 @@ pub fn row_data(map: IntMap, area: &mut [u8], x: Row, limit: usize) -> Stored
             let c = area::cell_at(area, at);
             let head = intmap::RECORD;
             let payload = c.payload;
-            store_from(map, area, at, Cell { head, payload }, x.p2, limit)
+            store_record(map, area, at, Cell { head, payload }, x.p2, limit)
         }
     }
 }

@@ -33,6 +33,10 @@ use Rattle.state.specs.declared.Way.the-variants as way
 use Rattle.explain.specs.declared.Handling.{Handling}
 use Rattle.explain.specs.declared.Handling.the-variants as handling
 
+-- the state on a row, with the map of these numbers
+abbrev pub stateOf : ℕ → ℕ → ℕ → ℕ → MemoryState
+stateOf row base len used = record { map = record { base = base; len = len; used = used }; row = row }
+
 -- what the rows mean: this limit of cells, this catalogue, and the built-in functions
 abbrev pub meaningOf : ℕ → List CatalogueRecord → Meaning
 meaningOf limit records = record { cellLimit = limit; columnsFor = columnsAt records; functionFor = functionIn builtIn }

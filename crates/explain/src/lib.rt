@@ -7,9 +7,10 @@ ghost use Rattle.area.specs.Cells.{cells};
 ghost use Rattle.rows.specs.Rows.{Fits};
 ghost use Rattle.rows.specs.Judged.{SomeRows};
 ghost use Rattle.jump_arms.specs.Arms.{Ready, stepAfter};
-ghost use Rattle.explain.specs.Handles.{Handles};
+ghost use Rattle.explain.specs.Handles.{stateOf, Handles};
 ghost use Rattle.root_block.specs.Blocks.{IsBlocks};
 ghost use Rattle.explain.specs.Numbers.{NumberArm, asHandling};
+use intmap::IntMap;
 use intmap::Stored;
 use result_arm::Columns;
 use rows::Row;
@@ -164,10 +165,14 @@ fn result_row(s: MemoryState, area: &[u8], x: Row, limit: usize) -> Handling
     }
 }
 
-// Handles a row x at the state s; `again` where its lineage has handled it before. The listing's n rows are in the cells from `from` on. An
-// operation without an arm, number 0, does nothing.
+// Handles a row x at the state that stands on `at` with the map of these numbers; `again` where its lineage has handled it before. The listing's n
+// rows are in the cells from `from` on. An operation without an arm, number 0, does nothing. The state is given in words: a struct would be
+// written in words and read back in pairs.
 pub fn handle(
-    s: MemoryState,
+    at: u64,
+    base: usize,
+    len: u64,
+    used: usize,
     area: &mut [u8],
     blocks: &[u8],
     x: Row,
@@ -176,10 +181,11 @@ pub fn handle(
     n: usize,
     limit: usize,
 ) -> Handling
-    requires { ⌜ Ready limit (cells (now area)) s x × SomeRows (cells (now area)) from n × (limit ≤ 65535) × IsBlocks (now blocks) ⌝ }
-    ensures { λ r. ⌜ Handles limit from n (cells (now (area .entry))) (cells (now (area .exit))) (now (blocks .entry)) s x again r ⌝ }
+    requires { ⌜ Ready limit (cells (now area)) (stateOf at base len used) x × SomeRows (cells (now area)) from n × (limit ≤ 65535) × IsBlocks (now blocks) ⌝ }
+    ensures { λ r. ⌜ Handles limit from n (cells (now (area .entry))) (cells (now (area .exit))) (now (blocks .entry)) (stateOf at base len used) x again r ⌝ }
 {
-    let map = s.map;
+    let map = IntMap { base, len, used };
+    let s = MemoryState { map, row: at };
     let op = number(x);
     if op == 0 {
         return falls_through(Stored::Done(map), s.row);

@@ -6,7 +6,7 @@ use Prim.Native.Nat.{ℕ, zero, suc, _+_, _-_, _<_, _≤_}
 use native.Mathlib.Omega.{arith}
 use lib.ListN.{getD}
 use lib.Dec.{eqb, ltb}
-use borrow.Author.Tests.{lt-ltb, le-ltb}
+use borrow.Author.Tests.{lt-ltb, le-ltb, eqb-true}
 use Rattle.area.specs.Cells.{blank}
 use Rattle.area.specs.declared.Cell.{Cell}
 use Rattle.intmap.specs.Pack.{keyOf}
@@ -64,6 +64,15 @@ module _ (cs : List Cell) (d key : ℕ) where
       go true h ih = omega (arith, ih h)
       go false h ih = omega arith
 
+  pub seek-key : (n p : ℕ) → seek cs d key n p .present ≡ true → keyOf (getD cs (seek cs d key n p .at) blank) ≡ key
+  unfolding seek
+  seek-key zero p h = absurd (false≢true h)
+  seek-key (suc n) p h = go (ltb (keyOf (getD cs p blank)) key) h (seek-key n (p + size cs d p))
+    where
+      go : (t : Bool) → pick t (seek cs d key n (p + size cs d p)) (place p (suc n) (eqb (keyOf (getD cs p blank)) key)) .present ≡ true → (seek cs d key n (p + size cs d p) .present ≡ true → keyOf (getD cs (seek cs d key n (p + size cs d p) .at) blank) ≡ key) → keyOf (getD cs (pick t (seek cs d key n (p + size cs d p)) (place p (suc n) (eqb (keyOf (getD cs p blank)) key)) .at) blank) ≡ key
+      go true h ih = ih h
+      go false h ih = eqb-true (keyOf (getD cs p blank)) key h
+
 pub seek-pos : (cs : List Cell) (d key n p : ℕ) → seek cs d key n p .present ≡ true → 0 < n
 unfolding seek
 seek-pos cs d key zero p h = absurd (false≢true h)
@@ -75,3 +84,6 @@ found-within cs d key n p w e = rw e (seek-from cs d key n p, seek-upto cs d key
 
 pub found-whole : (cs : List Cell) (d key n p : ℕ) (w : Found) → w ≡ seek cs d key n p → w .present ≡ true → w .at + size cs d (w .at) ≤ p + sizes (size cs d) n p
 found-whole cs d key n p w e h = rw e (seek-whole cs d key n p (rw e at h))
+
+pub found-key : (cs : List Cell) (d key n p : ℕ) (w : Found) → w ≡ seek cs d key n p → w .present ≡ true → keyOf (getD cs (w .at) blank) ≡ key
+found-key cs d key n p w e h = rw e (seek-key cs d key n p (rw e at h))

@@ -16,7 +16,7 @@ use Rattle.model.specs.State.{MemoryState}
 use Rattle.area.specs.Cells.{blank}
 use Rattle.area.specs.declared.Cell.{Cell}
 use Rattle.intmap.specs.Find.{place, seek}
-use Rattle.intmap.specs.Runs.{size}
+use Rattle.intmap.specs.Runs.{size, sizes}
 use Rattle.intmap.specs.Get.{indexOf, Judges, Gets}
 use Rattle.intmap.specs.Map.{levels, IsMap, HasRoom, Frame}
 use Rattle.intmap.specs.Pack.{tagOf, keyOf, withKey, classKey}
@@ -31,7 +31,7 @@ use Rattle.intmap.specs.declared.Slot.{Slot}
 use Rattle.intmap.specs.declared.Slot.the-variants as slot
 use Rattle.intmap.specs.declared.Stored.{Stored}
 use Rattle.intmap.specs.declared.Stored.the-variants as stored
-use Rattle.intmap.proofs.FindLaws.{found-whole}
+use Rattle.intmap.proofs.FindLaws.{found-within, found-whole, found-key}
 use Rattle.intmap.proofs.RunLaws.{size-pos, size-record}
 use Rattle.intmap.proofs.GetLaws.{get-absent, get-at}
 use Rattle.intmap.proofs.JudgedLaws.{store-tried}
@@ -39,26 +39,55 @@ use Rattle.intmap.proofs.Overwritten.{alike, alike-room, overwritten}
 use Rattle.intmap.proofs.PackLaws.{keyed-tag, keyed-key}
 use Rattle.encoding.proofs.Places.{sizes-many, held-place, held-behind}
 use Rattle.state.specs.Leads.{HoldsMap, Leaves, Held, Leads}
-use Rattle.state.specs.Own.{foundSlot, entrySlot, isAt, isFlat, FlatSize, LastBelow, HasKey, Own, StoresCell, Overwrites}
+use Rattle.state.specs.Own.{foundSlot, entrySlot, isAt, isFlat, Among, Guesses, FlatSize, LastBelow, HasKey, Own, OverwritesOwn, StoresCell, Overwrites}
 use Rattle.state.proofs.StoreLeads.{wider}
 
 -- what the tests of a cell tell
-module _ (cs : List Cell) (a : IntMap) (key p : ℕ) where
-  pub tests-key : p < a .base + a .used → (c : Cell) → c ≡ getD cs p blank → (r : Bool) → r ≡ eqb (keyOf c) key → r ≡ isAt cs a key p
+module _ (cs : List Cell) (end key p : ℕ) where
+  pub tests-key : p < end → (c : Cell) → c ≡ getD cs p blank → (r : Bool) → r ≡ eqb (keyOf c) key → r ≡ isAt cs end key p
   unfolding isAt
-  tests-key lt c ce r re = re ∙ ap (λ x. eqb (keyOf x) key) ce ∙ ap (λ b. b && eqb (keyOf (getD cs p blank)) key) (sym (lt-ltb p (a .base + a .used) lt))
+  tests-key lt c ce r re = re ∙ ap (λ x. eqb (keyOf x) key) ce ∙ ap (λ b. b && eqb (keyOf (getD cs p blank)) key) (sym (lt-ltb p end lt))
 
-  pub tests-end : a .base + a .used ≤ p → ltb p (a .base + a .used) ≡ isAt cs a key p
+  pub tests-end : end ≤ p → ltb p end ≡ isAt cs end key p
   unfolding isAt
-  tests-end le = le-ltb p (a .base + a .used) le ∙ ap (λ b. b && eqb (keyOf (getD cs p blank)) key) (sym (le-ltb p (a .base + a .used) le))
+  tests-end le = le-ltb p end le ∙ ap (λ b. b && eqb (keyOf (getD cs p blank)) key) (sym (le-ltb p end le))
 
-  pub has-key : a .base ≤ p → isAt cs a key p ≡ true → HasKey cs a key p
+  pub told-key : isAt cs end key p ≡ true → (p < end) × (keyOf (getD cs p blank) ≡ key)
   unfolding isAt
-  has-key low e = go (ltb p (a .base + a .used)) refl e
+  told-key e = go (ltb p end) refl e
     where
-      go : (b : Bool) → ltb p (a .base + a .used) ≡ b → b && eqb (keyOf (getD cs p blank)) key ≡ true → HasKey cs a key p
-      go true l t = record { low = low; inside = ltb-true p (a .base + a .used) l; is = eqb-true (keyOf (getD cs p blank)) key t }
+      go : (b : Bool) → ltb p end ≡ b → b && eqb (keyOf (getD cs p blank)) key ≡ true → (p < end) × (keyOf (getD cs p blank) ≡ key)
+      go true l t = (ltb-true p end l, eqb-true (keyOf (getD cs p blank)) key t)
       go false l t = absurd (true≢false (sym t))
+
+  -- a place that passed them is a guess
+  pub guessed : (base : ℕ) → base ≤ p → isAt cs end key p ≡ true → Guesses cs base end key p
+  guessed base low e = record { low = low; high = omega (arith, told-key e .0); is = λ lt. told-key e .1 }
+
+pub has-key : (cs : List Cell) (a : IntMap) (key p : ℕ) → a .base ≤ p → isAt cs (a .base + a .used) key p ≡ true → HasKey cs a key p
+has-key cs a key p low e = record { low = low; inside = told-key cs (a .base + a .used) key p e .0; is = told-key cs (a .base + a .used) key p e .1 }
+
+-- the end is always one
+pub guessed-end : (cs : List Cell) (base end key : ℕ) → base ≤ end → Guesses cs base end key end
+guessed-end cs base end key le = record { low = le; high = omega arith; is = λ lt. absurd (omega (arith, lt)) }
+
+pub among-map : {cs : List Cell} {a : IntMap} → IsMap cs a → Among cs (a .base) (a .base + a .used)
+among-map is = record { ordered = omega arith; inside = is .inside; small = is .small }
+
+pub guess-key : {cs : List Cell} {a : IntMap} {key p : ℕ} → Guesses cs (a .base) (a .base + a .used) key p → p < a .base + a .used → HasKey cs a key p
+guess-key g lt = record { low = g .low; inside = lt; is = g .is lt }
+
+pub none-fit : (cs : List Cell) (base end : ℕ) → base ≤ end → base + sizes (size cs levels) 0 base ≤ end
+unfolding sizes
+none-fit cs base end le = omega (arith, le)
+
+-- where what a search found lies
+pub found-guess : (cs : List Cell) (base end key len : ℕ) → base + sizes (size cs levels) len base ≤ end → (w : Found) → w ≡ seek cs levels key len base → w .present ≡ true → (Guesses cs base end key (w .at)) × (w .at < end)
+found-guess cs base end key len fits w we there =
+    let whole = found-whole cs levels key len base w we there in
+    let some-cell = size-pos cs levels (w .at) in
+    let lt : w .at < end = omega (arith, whole, some-cell) in
+    (record { low = found-within cs levels key len base w we .0; high = omega (arith, lt); is = λ _. found-key cs levels key len base w we there }, lt)
 
 module _ (cs : List Cell) (a : IntMap) (at n : ℕ) where
   pub flat-not : a .base + a .used ≤ at + n → false ≡ isFlat cs a at n
@@ -210,7 +239,7 @@ module _ (cs : List Cell) (a : IntMap) (p i : ℕ) (x : Index) (judges : Judges 
   pub bad-own : (n : ℕ) → x ≡ index-is.Bad n → Own cs a 0 i p → ⊥
   bad-own n e own = subst Answers (sym (own .judged) ∙ sym (judges .answer) ∙ ap indexOf e) tt
 
-  pub other-own : (k key : ℕ) → x ≡ index-is.At k → key ≡ classKey 0 k → (r : Bool) → r ≡ isAt cs a key p → r ≡ false → Own cs a 0 i p → ⊥
+  pub other-own : (k key : ℕ) → x ≡ index-is.At k → key ≡ classKey 0 k → (r : Bool) → r ≡ isAt cs (a .base + a .used) key p → r ≡ false → Own cs a 0 i p → ⊥
   unfolding isAt
   other-own k key e ke r re rf own =
       let place-is : own .place ≡ k = ap (answer k) (sym (own .judged) ∙ sym (judges .answer) ∙ ap indexOf e) in
@@ -223,12 +252,19 @@ record-own cs a p i c t ce te is own = own .plain (ap tagOf (sym ce) ∙ sym te 
 pub overwrites-not : (cs : List Cell) (a : IntMap) (p i : ℕ) (c : Cell) → (Own cs a 0 i p → ⊥) → Overwrites cs cs a p i c false
 overwrites-not cs a p i c none = record { own = λ o. absurd (none o); inside = λ e. absurd (true≢false (sym e)); yes = λ e. absurd (true≢false (sym e)); no = λ e. refl }
 
+-- the own cell that was found
+pub overwrites-none : (cs : List Cell) (a : IntMap) (class i : ℕ) (c : Cell) → OverwritesOwn cs cs a class i c false
+overwrites-none cs a class i c = record { yes = λ e. absurd (true≢false (sym e)); no = λ e. refl }
+
+pub overwrites-it : {cs : List Cell} {a : IntMap} {class i p : ℕ} → (own : Own cs a class i p) → (c x : Cell) → (tagOf c ≡ 2 → ⊥) → (k : ℕ) → k ≡ keyOf (getD cs p blank) → x ≡ withKey k c → (ds : List Cell) → ds ≡ set cs p x → OverwritesOwn cs ds a class i c true
+overwrites-it own c x plain k ke xe ds e = record { yes = λ _ limit has. own-stored own limit c x has plain (xe ∙ ap (λ n. withKey n c) (ke ∙ own .has .is)) ds e; no = λ e. absurd (true≢false e) }
+
 pub overwrites-own : {cs : List Cell} {a : IntMap} {p i : ℕ} → Own cs a 0 i p → (c x : Cell) → (tagOf c ≡ 2 → ⊥) → (k : ℕ) → k ≡ keyOf (getD cs p blank) → x ≡ withKey k c → (ds : List Cell) → ds ≡ set cs p x → Overwrites cs ds a p i c true
 overwrites-own own c x plain k ke xe ds e =
     record {
       own = λ _. refl;
       inside = λ _. own-within own;
-      yes = λ _ limit has. own-stored own limit c x has plain (xe ∙ ap (λ n. withKey n c) (ke ∙ own .has .is)) ds e;
+      yes = overwrites-it own c x plain k ke xe ds e .yes;
       no = λ e. absurd (true≢false e);
     }
 
@@ -239,6 +275,13 @@ map-stored limit cs ds a class i c r st = record { says = λ bound m h. st; leav
     left : (r : Stored) → Stores cs ds limit a class i 0 (c ∷ []) r → Leaves limit ds a r
     left (stored.Refused n) st = tt
     left (stored.Done b) st = record { base = st .leaves .base; room = st .leaves .room }
+
+-- the same where nothing was written over
+pub none-written : {cs es : List Cell} {a : IntMap} {class i : ℕ} {c : Cell} {r : Bool} → OverwritesOwn cs es a class i c r → r ≡ false → {limit : ℕ} → HasRoom cs limit a → HasRoom es limit a
+none-written {cs} {es} {a} o e {limit} has = subst (λ l. HasRoom l limit a) (sym (o .no e)) has
+
+pub stored-then : {cs es ds : List Cell} {a : IntMap} {class i : ℕ} {c : Cell} {b : Bool} → OverwritesOwn cs es a class i c b → b ≡ false → {limit : ℕ} {r : Stored} → Stores es ds limit a class i 0 (c ∷ []) r → StoresCell limit cs ds a class i c r
+stored-then {cs} {es} {ds} {a} {class} {i} {c} o e {limit} {r} st = map-stored limit cs ds a class i c r (subst (λ l. Stores l ds limit a class i 0 (c ∷ []) r) (o .no e) st)
 
 -- what such a store leads to
 pub cell-leads : {limit : ℕ} {cs ds : List Cell} {a : IntMap} {class i : ℕ} {c : Cell} {r : Stored} {f : MemoryState → Tried MemoryState} → StoresCell limit cs ds a class i c r → (Stores cs ds limit a class i 0 (c ∷ []) r → Leads limit cs ds a r f) → Leads limit cs ds a r f

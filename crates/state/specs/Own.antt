@@ -3,9 +3,9 @@
 use mathlib.Core.Path.{_≡_}
 use mathlib.Core.Bool.{Bool, true, false, _&&_}
 use mathlib.Core.List.{List, [], _∷_}
-use Prim.Native.Nat.{ℕ, _+_, _-_, _<_, _≤_}
+use Prim.Native.Nat.{ℕ, _+_, _<_, _≤_}
 use lib.Dec.{eqb, leb, ltb}
-use lib.ListN.{getD}
+use lib.ListN.{length, getD}
 use Rattle.model.specs.Walk.{done}
 use Rattle.model.specs.State.{MemoryState}
 use Rattle.model.specs.Access.{index}
@@ -24,7 +24,6 @@ use Rattle.intmap.specs.declared.Slot.the-variants as slot
 use Rattle.intmap.specs.declared.Stored.{Stored}
 use Rattle.intmap.specs.declared.Stored.the-variants as stored
 use Rattle.state.specs.Leads.{HoldsMap, Leaves}
-use Rattle.state.specs.declared.Span.{Span}
 
 -- where a search led, if it found the key
 abbrev pub foundSlot : Found → Slot
@@ -34,19 +33,25 @@ foundSlot w = pick (w .present) (slot.At (w .at)) slot.Absent
 unfoldable pub entrySlot : List Cell → IntMap → ℕ → ℕ → Slot
 entrySlot cs a class k = foundSlot (seek cs levels (classKey class k) (a .len) (a .base))
 
--- whether the cell at p is one of the map's and has the key
-unfoldable pub isAt : List Cell → IntMap → ℕ → ℕ → Bool
-isAt cs a key p = ltb p (a .base + a .used) && eqb (keyOf (getD cs p blank)) key
+-- whether p is before `end` and the cell there has the key
+unfoldable pub isAt : List Cell → ℕ → ℕ → ℕ → Bool
+isAt cs end key p = ltb p end && eqb (keyOf (getD cs p blank)) key
 
 -- whether the n cells behind `at` are followed by an entry or by the map's end: then n columns behind a head there have one cell each
 unfoldable pub isFlat : List Cell → IntMap → ℕ → ℕ → Bool
 isFlat cs a at n = pick (leb (a .base + a .used) (at + n)) false (pick (eqb (at + 1 + n) (a .base + a .used)) true (leb 65536 (keyOf (getD cs (at + 1 + n) blank))))
 
--- a part of a span, and a smaller one
-pub record Narrower (s r : Span) : Type 0 where
-  pub low : s .low ≤ r .low
-  pub high : r .high ≤ s .high
-  pub less : r .high - r .low < s .high - s .low
+-- cells from `base` on and before `end`, of an area as large as may be lent
+pub record Among (cs : List Cell) (base end : ℕ) : Type 0 where
+  pub ordered : base ≤ end
+  pub inside : end ≤ length cs
+  pub small : length cs ≤ 1048576
+
+-- one of them that has the key, or `end`
+pub record Guesses (cs : List Cell) (base end key p : ℕ) : Type 0 where
+  pub low : base ≤ p
+  pub high : p ≤ end
+  pub is : p < end → keyOf (getD cs p blank) ≡ key
 
 -- how many cells the entry that begins with c has, if each column of a record has one: never more than it has
 pub record FlatSize (c : Cell) (r : ℕ) : Type 0 where
@@ -71,11 +76,6 @@ pub record HasKey (cs : List Cell) (a : IntMap) (key p : ℕ) : Type 0 where
   pub inside : p < a .base + a .used
   pub is : keyOf (getD cs p blank) ≡ key
 
-abbrev pub Hints : List Cell → IntMap → ℕ → Slot → Type 0
-Hints cs a key (slot.Bad n) = ⊥
-Hints cs a key slot.Absent = Unit {0}
-Hints cs a key (slot.At p) = HasKey cs a key p
-
 -- it is the one of index i in a class, and no record's
 pub record Own (cs : List Cell) (a : IntMap) (class i p : ℕ) : Type 0 where
   pub place : ℕ
@@ -83,16 +83,16 @@ pub record Own (cs : List Cell) (a : IntMap) (class i p : ℕ) : Type 0 where
   pub has : HasKey cs a (classKey class place) p
   pub plain : tagOf (getD cs p blank) ≡ 2 → ⊥
 
-abbrev pub Owns : List Cell → IntMap → ℕ → ℕ → Slot → Type 0
-Owns cs a class i (slot.Bad n) = ⊥
-Owns cs a class i slot.Absent = Unit {0}
-Owns cs a class i (slot.At p) = Own cs a class i p
-
 -- of cells that hold a state, the answer is that of a store of the cell under index i of a class
 pub record StoresCell (limit : ℕ) (cs ds : List Cell) (a : IntMap) (class i : ℕ) (c : Cell) (r : Stored) : Type 0 where
   pub says : (bound : ℕ) (m : MemoryState) → HoldsMap limit bound cs a m → Stores cs ds limit a class i 0 (c ∷ []) r
   pub leaves : Leaves limit ds a r
   pub frame : Frame cs ds (a .base) limit
+
+-- a store of c was made over the own cell of index i, or nothing has changed
+pub record OverwritesOwn (cs ds : List Cell) (a : IntMap) (class i : ℕ) (c : Cell) (r : Bool) : Type 0 where
+  pub yes : r ≡ true → (limit : ℕ) → HasRoom cs limit a → StoresCell limit cs ds a class i c (stored.Done a)
+  pub no : r ≡ false → ds ≡ cs
 
 -- the cell at p was register i's own, and a store of c was made there; or nothing has changed
 pub record Overwrites (cs ds : List Cell) (a : IntMap) (p i : ℕ) (c : Cell) (r : Bool) : Type 0 where

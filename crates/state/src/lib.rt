@@ -1,6 +1,6 @@
 // Accesses to the state in the area by value: a register read, and values of one cell stored.
 ghost use mathlib.Core.Path.{_≡_};
-ghost use mathlib.Core.Bool.{true};
+ghost use mathlib.Core.Bool.{true, false};
 ghost use Prim.Native.Nat.{_+_, _<_, _≤_};
 ghost use lib.ListN.{length, getD};
 ghost use mathlib.Core.Option.{none};
@@ -11,12 +11,13 @@ ghost use Rattle.intmap.specs.Get.{Gets};
 ghost use Rattle.intmap.specs.Find.{seek};
 ghost use Rattle.intmap.specs.Map.{levels, IsMap};
 ghost use Rattle.intmap.specs.Pack.{tagOf, classKey};
+ghost use Rattle.intmap.specs.Runs.{size, sizes};
 ghost use Rattle.intmap.specs.Signed.{intOf};
 ghost use Rattle.encoding.specs.Encode.{single};
 ghost use Rattle.encoding.specs.Decode.{nullables};
 ghost use Rattle.rows.specs.Rows.{Operand};
 ghost use Rattle.state.specs.Leads.{Held, Current, Leads};
-ghost use Rattle.state.specs.Own.{entrySlot, isAt, isFlat, Narrower, FlatSize, LastBelow, Hints, Owns, StoresCell, Overwrites};
+ghost use Rattle.state.specs.Own.{entrySlot, isAt, isFlat, Among, Guesses, FlatSize, LastBelow, OverwritesOwn, StoresCell, Overwrites};
 ghost use Rattle.state.specs.Reads.{registerIn, Reads};
 use area::Cell;
 use intmap::Found;
@@ -85,29 +86,6 @@ pub fn single(d: DataType, nullable: u64) -> Cell
     }
 }
 
-// The cells among which a search looks on: from `low` on and below `high`.
-struct Span {
-    low: usize,
-    high: usize,
-}
-
-// The upper of two parts of a span, behind `mid`, or the lower, before p.
-fn part(s: Span, mid: usize, p: usize, upper: bool) -> Span
-    requires { ⌜ (s .low ≤ p) × (p ≤ mid) × (mid < s .high) ⌝ }
-    ensures { λ r. ⌜ Narrower s r ⌝ }
-{
-    if upper {
-        return Span {
-            low: mid + 1,
-            high: s.high,
-        };
-    }
-    Span {
-        low: s.low,
-        high: p,
-    }
-}
-
 // The nearest cell from `at` down to `low` that begins an entry, or `low`. A column inside a record tells by its key how far away the head is, if
 // none before it is absent or a record.
 fn entry_below(area: &[u8], low: usize, at: usize) -> usize
@@ -132,56 +110,31 @@ fn entry_below(area: &[u8], low: usize, at: usize) -> usize
     low
 }
 
-// Where a key stands if between it and the entry at p, which has key k, are the entries of all keys between, of one cell each; the map's end, if
-// that is outside.
-fn at_distance(map: IntMap, p: usize, k: u64, key: u64) -> usize
-    requires { ⌜ (map .base ≤ p) × (p ≤ map .base + map .used) × (map .base + map .used ≤ 1048576) ⌝ }
-    ensures { λ r. ⌜ (map .base ≤ r) × (r ≤ map .base + map .used) ⌝ }
+// Where a key stands if between it and the entry at p, which has key k, are the entries of all keys between, of one cell each; `end`, if that is
+// outside.
+fn at_distance(base: usize, end: usize, p: usize, k: u64, key: u64) -> usize
+    requires { ⌜ (base ≤ p) × (p ≤ end) × (end ≤ 1048576) ⌝ }
+    ensures { λ r. ⌜ (base ≤ r) × (r ≤ end) ⌝ }
 {
-    let end = map.base + map.used;
     if k <= key {
         if ((end - p) as u64) <= key - k {
             return end;
         }
         return p + (key - k) as usize;
     }
-    if ((p - map.base) as u64) < k - key {
+    if ((p - base) as u64) < k - key {
         return end;
     }
     p - (k - key) as usize
 }
 
-// Whether the cell at p is one of the map's and has the key.
-fn is_at(map: IntMap, area: &[u8], p: usize, key: u64) -> bool
-    requires { ⌜ IsMap (cells (now area)) map × (key < 1099511627776) ⌝ }
-    ensures { λ r. ⌜ r ≡ isAt (cells (now (area .entry))) map key p ⌝ }
+// Whether p is before `end` and the cell there has the key.
+fn is_at(area: &[u8], end: usize, p: usize, key: u64) -> bool
+    requires { ⌜ (end ≤ length (cells (now area))) × (length (cells (now area)) ≤ 1048576) × (key < 1099511627776) ⌝ }
+    ensures { λ r. ⌜ r ≡ isAt (cells (now (area .entry))) end key p ⌝ }
 {
-    p < map.base + map.used && intmap::has_key(area::cell_at(area, p), key)
+    p < end && intmap::has_key(area::cell_at(area, p), key)
 }
-
-// Looks for a key by halves, and at each cell for what is at the distance of its key. A place in the map, or its end: whoever asks tests it.
-fn by_halves(map: IntMap, area: &[u8], from: Span, key: u64) -> usize
-    requires { ⌜ IsMap (cells (now area)) map × (map .base ≤ from .low) × (from .high ≤ map .base + map .used) × (key < 1099511627776) ⌝ }
-    ensures { λ r. ⌜ (map .base ≤ r) × (r ≤ map .base + map .used) ⌝ }
-{
-    let mut s = from;
-    while s.low < s.high {
-        let mid = s.low + (s.high - s.low) / 2;
-        let p = entry_below(area, s.low, mid);
-        let k = intmap::key_of(area::cell_at(area, p));
-        let q = at_distance(map, p, k, key);
-        if is_at(map, area, q, key) {
-            return q;
-        }
-        s = part(s, mid, p, k < key);
-    }
-    map.base + map.used
-}
-
-// How many of the first and of the last entries a search tries before it goes on by halves.
-const FIRST: usize = 2;
-
-const LAST: usize = 8;
 
 // How many cells the entry that begins with c has, if each column of a record has one.
 fn flat_size(c: Cell) -> usize
@@ -195,21 +148,25 @@ fn flat_size(c: Cell) -> usize
     1
 }
 
-// Looks for a key at its distance from the first entries, and then by halves.
-fn from_first(map: IntMap, area: &[u8], key: u64) -> usize
-    requires { ⌜ IsMap (cells (now area)) map × (key < 1099511627776) ⌝ }
-    ensures { λ r. ⌜ (map .base ≤ r) × (r ≤ map .base + map .used) ⌝ }
+// How many of the first and of the last entries a search tries.
+const FIRST: usize = 2;
+
+const LAST: usize = 8;
+
+// Looks for a key at its distance from the first entries of a map, whose cells are from `base` on and before `end`.
+fn near_first(area: &[u8], base: usize, end: usize, key: u64) -> usize
+    requires { ⌜ Among (cells (now area)) base end × (key < 1099511627776) ⌝ }
+    ensures { λ r. ⌜ Guesses (cells (now (area .entry))) base end key r ⌝ }
 {
-    let end = map.base + map.used;
-    let mut p = map.base;
+    let mut p = base;
     let mut left: usize = FIRST;
-    while p < end {
-        if left == 0 {
-            return by_halves(map, area, Span { low: p, high: end }, key);
+    while 0 < left {
+        if end <= p {
+            return end;
         }
         let c = area::cell_at(area, p);
-        let q = at_distance(map, p, intmap::key_of(c), key);
-        if is_at(map, area, q, key) {
+        let q = at_distance(base, end, p, intmap::key_of(c), key);
+        if is_at(area, end, q, key) {
             return q;
         }
         p += flat_size(c);
@@ -218,49 +175,81 @@ fn from_first(map: IntMap, area: &[u8], key: u64) -> usize
     end
 }
 
-// Looks for a key among the last entries, and then by halves.
-fn from_last(map: IntMap, area: &[u8], key: u64) -> usize
-    requires { ⌜ IsMap (cells (now area)) map × (key < 1099511627776) ⌝ }
-    ensures { λ r. ⌜ (map .base ≤ r) × (r ≤ map .base + map .used) ⌝ }
+// Looks for a key among the last entries.
+fn near_last(area: &[u8], base: usize, end: usize, key: u64) -> usize
+    requires { ⌜ Among (cells (now area)) base end × (key < 1099511627776) ⌝ }
+    ensures { λ r. ⌜ Guesses (cells (now (area .entry))) base end key r ⌝ }
 {
-    let low = map.base;
-    let mut high = map.base + map.used;
+    let mut high = end;
     let mut left: usize = LAST;
-    while low < high {
-        if left == 0 {
-            return by_halves(map, area, Span { low, high }, key);
+    while 0 < left {
+        if high <= base {
+            return end;
         }
-        let p = entry_below(area, low, high - 1);
-        if intmap::key_of(area::cell_at(area, p)) <= key {
+        let p = entry_below(area, base, high - 1);
+        if is_at(area, end, p, key) {
             return p;
         }
         high = p;
         left -= 1;
     }
-    high
+    end
 }
 
-// Where to look for a key first: registers stand close, and cursors and tables are the last entries.
-fn guess(map: IntMap, area: &[u8], class: u64, key: u64) -> usize
-    requires { ⌜ IsMap (cells (now area)) map × (key < 1099511627776) ⌝ }
-    ensures { λ r. ⌜ (map .base ≤ r) × (r ≤ map .base + map .used) ⌝ }
+// From this key on entries are cursors and tables.
+const LATER: u64 = 131072;
+
+// Where a key is found with few tests, or `end`: registers stand close, and cursors and tables are the last entries. It calls nothing that the
+// compiler leaves a call, so that a search costs no copies of what it is given.
+fn near(area: &[u8], base: usize, end: usize, key: u64) -> usize
+    requires { ⌜ Among (cells (now area)) base end × (key < 1099511627776) ⌝ }
+    ensures { λ r. ⌜ Guesses (cells (now (area .entry))) base end key r ⌝ }
 {
-    if class == REGISTERS {
-        return from_first(map, area, key);
+    if key < LATER {
+        return near_first(area, base, end, key);
     }
-    from_last(map, area, key)
+    near_last(area, base, end, key)
 }
 
-// Looks for a key where it may be found at once. It says no more of one that it does not find.
-fn hint(map: IntMap, area: &[u8], class: u64, key: u64) -> Slot
-    requires { ⌜ IsMap (cells (now area)) map × (key < 1099511627776) ⌝ }
-    ensures { λ r. ⌜ Hints (cells (now (area .entry))) map key r ⌝ }
+// Looks for a key by halves, and at each cell for what is at the distance of its key.
+fn by_halves(area: &[u8], base: usize, end: usize, key: u64) -> usize
+    requires { ⌜ Among (cells (now area)) base end × (key < 1099511627776) ⌝ }
+    ensures { λ r. ⌜ Guesses (cells (now (area .entry))) base end key r ⌝ }
 {
-    let p = guess(map, area, class, key);
-    if is_at(map, area, p, key) {
-        return Slot::At(p);
+    let mut low = base;
+    let mut high = end;
+    while low < high {
+        let mid = low + (high - low) / 2;
+        let p = entry_below(area, low, mid);
+        let k = intmap::key_of(area::cell_at(area, p));
+        let q = at_distance(base, end, p, k, key);
+        if is_at(area, end, q, key) {
+            return q;
+        }
+        if k < key {
+            low = mid + 1;
+        } else {
+            high = p;
+        }
     }
-    Slot::Absent
+    end
+}
+
+// Where a key is found by halves, or by a search of the first `len` entries, or `end`.
+fn far(area: &[u8], base: usize, end: usize, len: u64, key: u64) -> usize
+    requires { ⌜ Among (cells (now area)) base end × (key < 1099511627776) × (base + sizes (size (cells (now area)) levels) len base ≤ end) ⌝ }
+    ensures { λ r. ⌜ Guesses (cells (now (area .entry))) base end key r × (r ≡ end → seek (cells (now (area .entry))) levels key len base .present ≡ false) ⌝ }
+{
+    let q = by_halves(area, base, end, key);
+    if q < end {
+        return q;
+    }
+    let found = intmap::find_from(area, base, len, key, intmap::LEVELS);
+    let there = found.present;
+    if there {
+        return found.at;
+    }
+    end
 }
 
 // Whether the n cells behind `at` are followed by an entry or by the map's end.
@@ -285,14 +274,14 @@ pub fn entry_at(map: IntMap, area: &[u8], class: u64, k: u64) -> Slot
     ensures { λ r. ⌜ r ≡ entrySlot (cells (now (area .entry))) map class k ⌝ }
 {
     let key = intmap::class_key(class, k);
-    let near = hint(map, area, class, key);
-    if let Slot::At(p) = near {
+    let end = map.base + map.used;
+    let p = near(area, map.base, end, key);
+    if p < end {
         return Slot::At(p);
     }
-    let found = map.find(area, key);
-    let there = found.present;
-    if there {
-        return Slot::At(found.at);
+    let q = far(area, map.base, end, map.len, key);
+    if q < end {
+        return Slot::At(q);
     }
     Slot::Absent
 }
@@ -345,23 +334,38 @@ pub fn get(map: IntMap, area: &[u8], class: u64, i: u64) -> Slot
     }
 }
 
-// The cell of index i in a class, if it is found at once and is no record's. In cells that hold a state it is the entry.
-fn own_cell(map: IntMap, area: &[u8], class: u64, i: u64) -> Slot
-    requires { ⌜ IsMap (cells (now area)) map × (class < 3) ⌝ }
-    ensures { λ r. ⌜ Owns (cells (now (area .entry))) map class i r ⌝ }
+// Where the cell of a key is found, or `end`, without a search of all entries.
+fn guess(area: &[u8], base: usize, end: usize, key: u64) -> usize
+    requires { ⌜ Among (cells (now area)) base end × (key < 1099511627776) ⌝ }
+    ensures { λ r. ⌜ Guesses (cells (now (area .entry))) base end key r ⌝ }
+{
+    let p = near(area, base, end, key);
+    if p < end {
+        return p;
+    }
+    far(area, base, end, 0, key)
+}
+
+// Writes c over the cell of index i in a class, if that is found without a search of all entries and is no record's. Says whether it was.
+pub fn overwrite_own(map: IntMap, area: &mut [u8], class: u64, i: u64, c: Cell) -> bool
+    requires { ⌜ Held (cells (now area)) map × (class < 3) × (tagOf c ≡ 2 → ⊥) ⌝ }
+    ensures { λ r. ⌜ OverwritesOwn (cells (now (area .entry))) (cells (now (area .exit))) map class i c r ⌝ }
 {
     let x = intmap::judge_index(i);
     let Index::At(k) = x else {
-        return Slot::Absent;
+        return false;
     };
-    let found = hint(map, area, class, intmap::class_key(class, k));
-    let Slot::At(p) = found else {
-        return Slot::Absent;
-    };
-    if intmap::tag_of(area::cell_at(area, p)) == intmap::RECORD {
-        return Slot::Absent;
+    let key = intmap::class_key(class, k);
+    let end = map.base + map.used;
+    let p = guess(area, map.base, end, key);
+    if end <= p {
+        return false;
     }
-    Slot::At(p)
+    if intmap::tag_of(area::cell_at(area, p)) == intmap::RECORD {
+        return false;
+    }
+    area::put_cell(area, p, intmap::with_key(c, key));
+    true
 }
 
 // Stores a cell that is no record's under index i of a class: over its own cell, if that is found at once.
@@ -369,13 +373,10 @@ pub fn store_cell(map: IntMap, area: &mut [u8], class: u64, i: u64, c: Cell, lim
     requires { ⌜ Current limit (cells (now area)) map × (class < 3) × (tagOf c ≡ 2 → ⊥) ⌝ }
     ensures { λ r. ⌜ StoresCell limit (cells (now (area .entry))) (cells (now (area .exit))) map class i c r ⌝ }
 {
-    let own = own_cell(map, area, class, i);
-    let Slot::At(p) = own else {
-        return map.store_cell(area, class, i, c, limit);
-    };
-    let key = intmap::key_of(area::cell_at(area, p));
-    area::put_cell(area, p, intmap::with_key(c, key));
-    Stored::Done(map)
+    if overwrite_own(map, area, class, i, c) {
+        return Stored::Done(map);
+    }
+    map.store_cell(area, class, i, c, limit)
 }
 
 // Writes c over the cell at p, if that is register i's own and no record's. Says whether it was.
@@ -388,7 +389,7 @@ pub fn overwrite(map: IntMap, area: &mut [u8], p: usize, i: u64, c: Cell) -> boo
         return false;
     };
     let key = intmap::class_key(REGISTERS, k);
-    if !is_at(map, area, p, key) {
+    if !is_at(area, map.base + map.used, p, key) {
         return false;
     }
     if intmap::tag_of(area::cell_at(area, p)) == intmap::RECORD {

@@ -73,11 +73,12 @@ head-load c = go (eqb (tagOf c) 1)
     go true = refl
     go false = refl
 
-pub already-head : (c : Cell) → tagOf c ≡ 1 → nullableOf c ≡ 2 → c ≡ singleNullable 2 c
-already-head c t n = sym (sym (plain-head c t) ∙ same)
+pub already-head : (c : Cell) → nullableOf c ≡ 2 → c ≡ singleNullable 2 c
+already-head c n = go (eqb (tagOf c) 1)
   where
-    same : withNullable 2 c ≡ c
-    same = ap (λ h. cell h (c .payload)) (omega (arith, n))
+    go : (b : Bool) → c ≡ pick b (withNullable 2 c) c
+    go true = ap (λ h. cell h (c .payload)) (omega (arith, n))
+    go false = refl
 
 -- a cell that stays, and one that is written
 module _ (cs : List Cell) (p : ℕ) (c : Cell) (ce : c ≡ getD cs p blank) where

@@ -49,19 +49,16 @@ fn null_columns(area: &mut [u8], from: usize, n: u64)
     }
 }
 
-// The column in the cell at p may be null now, if it is plain. One that may already is not written.
+// The column in the cell at p may be null now, if it is plain. One that may already is not written: a single test for most.
 fn null_cell(area: &mut [u8], p: usize)
     requires { ⌜ Inside (now area) p 1 ⌝ }
     ensures { λ _. ⌜ NulledCell (now (area .entry)) (now (area .exit)) p ⌝ }
 {
     let c = area::cell_at(area, p);
-    if intmap::tag_of(c) != intmap::SINGLE {
-        return;
-    }
     if intmap::nullable_of(c) == state::NULLABLE {
         return;
     }
-    area::put_cell(area, p, intmap::with_nullable(c, state::NULLABLE));
+    area::put_cell(area, p, as_nullable(c));
 }
 
 // As `null_columns`, where each of the columns has one cell.

@@ -339,7 +339,20 @@ fn take_turn(
     }
     area::raise_count(area, from + p.size, k);
     let x = rows::row_at(area, from, k);
-    let h = explain::handle(s, area, blocks, x, 0 < handled, from, p.size, p.limit);
+    let m = s.map;
+    let h = explain::handle(
+        s.row,
+        m.base,
+        m.len,
+        m.used,
+        area,
+        blocks,
+        x,
+        0 < handled,
+        from,
+        p.size,
+        p.limit,
+    );
     let on = alone(h);
     if let Way::To(n) = on {
         if in_listing(n.row, p) {

@@ -16,7 +16,7 @@ falls-through-requires c κs = search needs
 
 returns : tie.Need-returns
 unfolding operationAt arms
-returns c = subst (Handles _ _ _ _ _ _ _ _ _) (sym (c .falls-through .ensures)) (number-handles _ (c .before .before .number .ensures) (none-number (ap operationAt (c .before .if1 .taken)) (c .before .before .before .before .before .before .pre .0 .current)))
+returns c = subst (Handles _ _ _ _ _ _ _ _ _) (sym (c .falls-through .ensures)) (number-handles _ (c .before .before .number .ensures) (none-number (ap operationAt (c .before .if1 .taken)) (c .before .before .before .before .before .pre .0 .current)))
 
 jump-three-requires : tie.Need-jump-three-requires
 jump-three-requires c κs = search needs
@@ -61,7 +61,7 @@ same-length-4 : tie.Need-same-length-4
 same-length-4 c = search needs
 
 returns-5 : tie.Need-returns-5
-returns-5 c = subst (Handles _ _ _ _ _ _ _ _ _) (sym (c .falls-through2 .ensures)) (number-handles _ (c .before .before .before .before .before .before .before .before .before .before .number .ensures) (c .before .before .before .register .ensures _ _ _ (c .before .before .before .before .before .before .before .before .before .before .before .before .before .before .pre .3)))
+returns-5 c = subst (Handles _ _ _ _ _ _ _ _ _) (sym (c .falls-through2 .ensures)) (number-handles _ (c .before .before .before .before .before .before .before .before .before .before .number .ensures) (c .before .before .before .register .ensures _ _ _ (c .before .before .before .before .before .before .before .before .before .before .before .before .before .pre .3)))
 
 cursor-requires : tie.Need-cursor-requires
 cursor-requires c κs = search needs

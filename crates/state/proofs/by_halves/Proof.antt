@@ -1,15 +1,17 @@
--- `state::by_halves` tests a cell a turn. The invariant: the span is within the map's cells. The measure is its length. Assumes nothing.
+use Rattle.state.proofs.OwnLaws.{guessed, guessed-end}
+use mathlib.Core.Path.{sym, _∙_}
+-- `state::by_halves` tests a cell a turn. The invariant: what is looked through is within the cells. The measure is its length. Assumes nothing.
 use native.Mathlib.Omega.{arith}
-use Prim.Native.Nat.{_+_, _-_, _≤_}
+use Prim.Native.Nat.{_-_, _≤_}
 use borrow.Author.Needs.{needs}
 use Rattle.state.proofs.by_halves.Statement.{statement}
 use Rattle.state.proofs.by_halves.Tie as tie
 
 abbrev Inv-loop : tie.InvT-loop
-Inv-loop map area key s₀ s = (map .base ≤ s .low) × (s .high ≤ map .base + map .used)
+Inv-loop area base end key low₀ high₀ low high = (base ≤ low) × (high ≤ end)
 
 abbrev μ-loop : tie.MeasureT-loop
-μ-loop map area key s₀ s = s .high - s .low
+μ-loop area base end key low₀ high₀ low high = high - low
 
 loop-holds : tie.Need-loop-holds Inv-loop μ-loop
 loop-holds c = search needs
@@ -36,10 +38,10 @@ is-at-requires : tie.Need-is-at-requires Inv-loop μ-loop
 is-at-requires c κs = search needs
 
 returns : tie.Need-returns Inv-loop μ-loop
-returns c = search needs
+returns c = guessed _ _ _ _ _ (c .before .before .at-distance .ensures .0) (sym (c .before .is-at .ensures) ∙ c .if1 .taken)
 
-part-requires : tie.Need-part-requires Inv-loop μ-loop
-part-requires c κs = search needs
+add-low : tie.Need-add-low Inv-loop μ-loop
+add-low c = search needs
 
 loop-less : tie.Need-loop-less Inv-loop μ-loop
 loop-less c = search needs
@@ -47,11 +49,14 @@ loop-less c = search needs
 loop-again : tie.Need-loop-again Inv-loop μ-loop
 loop-again c = search needs
 
-add-result : tie.Need-add-result Inv-loop μ-loop
-add-result c = search needs
+loop-less-2 : tie.Need-loop-less-2 Inv-loop μ-loop
+loop-less-2 c = search needs
+
+loop-again-2 : tie.Need-loop-again-2 Inv-loop μ-loop
+loop-again-2 c = search needs
 
 returns-2 : tie.Need-returns-2 Inv-loop μ-loop
-returns-2 c = search needs
+returns-2 c = guessed-end _ _ _ _ (c .before .before .before .pre .0 .ordered)
 
 pub by-halves-spec : {M : Type 1} → statement M
 by-halves-spec =
@@ -68,8 +73,9 @@ by-halves-spec =
     at-distance-requires
     is-at-requires
     returns
-    part-requires
+    add-low
     loop-less
     loop-again
-    add-result
+    loop-less-2
+    loop-again-2
     returns-2)

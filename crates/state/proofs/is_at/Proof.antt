@@ -5,9 +5,6 @@ use Rattle.state.proofs.OwnLaws.{tests-key, tests-end}
 use Rattle.state.proofs.is_at.Statement.{statement}
 use Rattle.state.proofs.is_at.Tie as tie
 
-add-if1 : tie.Need-add-if1
-add-if1 c = search needs
-
 cell-at-requires : tie.Need-cell-at-requires
 cell-at-requires c κs = search needs
 
@@ -15,16 +12,15 @@ has-key-requires : tie.Need-has-key-requires
 has-key-requires c κs = search needs
 
 returns : tie.Need-returns
-returns c = tests-key _ (c .before .before .before .before .before .args .map) _ _ (c .before .before .if1 .taken) _ (c .before .cell-at .ensures) _ (c .has-key .ensures)
+returns c = tests-key _ _ _ _ (c .before .before .if1 .taken) _ (c .before .cell-at .ensures) _ (c .has-key .ensures)
 
 returns-2 : tie.Need-returns-2
-returns-2 c = tests-end _ (c .before .before .before .args .map) _ _ (c .if1 .left)
+returns-2 c = tests-end _ _ _ _ (c .if1 .left)
 
 pub is-at-spec : {M : Type 1} → statement M
 is-at-spec =
     tie.close
     (tie.spec
-    add-if1
     cell-at-requires
     has-key-requires
     returns

@@ -53,7 +53,7 @@ row-at-requires : tie.Need-row-at-requires
 row-at-requires c κs = row-inside (c .before .before .before .before .before .before .before .before .before .before .before .before .before .before .before .before .pre .holds) _ (c .before .before .before .before .before .before .before .before .before .before .before .before .before .before .before .slice-known .given) (c .before .slice-known4 .given) (c .before .before .before .raise-count .ensures)
 
 handle-requires : tie.Need-handle-requires
-handle-requires c κs = (is-ready (c .before .before .before .before .before .before .before .before .before .before .before .before .before .before .before .before .before .before .pre .holds) _ (c .before .before .before .before .before .before .before .before .before .before .before .before .before .before .before .before .before .slice-known .given) (c .before .before .before .slice-known4 .given) (c .before .before .before .before .before .raise-count .ensures) _ (c .before .row-at .ensures), some-rows (c .before .before .before .before .before .before .before .before .before .before .before .before .before .before .before .before .before .before .pre .holds) _ (c .before .before .before .before .before .before .before .before .before .before .before .before .before .before .before .before .before .slice-known .given) (c .before .before .before .slice-known4 .given) (c .before .before .before .before .before .raise-count .ensures), limit-fits (c .before .before .before .before .before .before .before .before .before .before .before .before .before .before .before .before .before .before .pre .holds) _ (c .before .before .before .before .before .before .before .before .before .before .before .before .before .before .before .before .before .slice-known .given) (c .before .before .before .slice-known4 .given) (c .before .before .before .before .before .raise-count .ensures), is-blocks (c .before .before .before .before .before .before .before .before .before .before .before .before .before .before .before .before .before .before .pre .holds))
+handle-requires c κs = (is-ready (c .before .before .before .before .before .before .before .before .before .before .before .before .before .before .before .before .before .before .before .pre .holds) _ (c .before .before .before .before .before .before .before .before .before .before .before .before .before .before .before .before .before .before .slice-known .given) (c .before .before .before .before .slice-known4 .given) (c .before .before .before .before .before .before .raise-count .ensures) _ (c .before .before .row-at .ensures), some-rows (c .before .before .before .before .before .before .before .before .before .before .before .before .before .before .before .before .before .before .before .pre .holds) _ (c .before .before .before .before .before .before .before .before .before .before .before .before .before .before .before .before .before .before .slice-known .given) (c .before .before .before .before .slice-known4 .given) (c .before .before .before .before .before .before .raise-count .ensures), limit-fits (c .before .before .before .before .before .before .before .before .before .before .before .before .before .before .before .before .before .before .before .pre .holds) _ (c .before .before .before .before .before .before .before .before .before .before .before .before .before .before .before .before .before .before .slice-known .given) (c .before .before .before .before .slice-known4 .given) (c .before .before .before .before .before .before .raise-count .ensures), is-blocks (c .before .before .before .before .before .before .before .before .before .before .before .before .before .before .before .before .before .before .before .pre .holds))
 
 alone-requires : tie.Need-alone-requires
 alone-requires c κs = search needs
@@ -68,13 +68,13 @@ same-length-2 : tie.Need-same-length-2
 same-length-2 c = search needs
 
 returns-2 : tie.Need-returns-2
-returns-2 c = turns-stays (c .before .before .before .before .before .before .before .before .before .before .before .before .before .before .before .before .before .before .before .before .before .before .before .before .before .before .before .pre) _ (c .before .before .before .before .before .before .before .before .before .before .before .before .before .before .before .before .before .before .before .before .before .before .before .charge .ensures) _ _ (c .before .before .before .before .before .before .before .before .before .before .before .before .before .before .before .before .before .before .before .before .before .before .before .before .before .before .slice-known .given) (c .before .before .before .before .before .before .before .before .before .before .before .before .slice-known4 .given) (c .before .before .before .before .before .before .slice-known5 .given) (c .before .before .before .before .before .before .before .before .before .before .before .before .before .before .raise-count .ensures) (c .before .before .before .before .before .before .before .before .handle .kept .1 .0) _ (c .before .before .before .before .before .before .before .before .before .before .row-at .ensures) _ _ (c .before .before .before .before .before .before .before .before .before .before .before .before .before .before .before .before .before .before .count-at .ensures) (c .before .before .before .before .before .before .before .before .handle .ensures) _ _ (c .before .before .before .before .before .alone .ensures) (c .before .before .before .on .given .1) (sym (c .before .in-listing .ensures) ∙ c .if2 .taken) (c .before .before .before .before .before .before .before .before .before .before .before .before .before .before .before .before .before .if1 .left)
+returns-2 c = turns-stays (c .before .before .before .before .before .before .before .before .before .before .before .before .before .before .before .before .before .before .before .before .before .before .before .before .before .before .before .before .pre) _ (c .before .before .before .before .before .before .before .before .before .before .before .before .before .before .before .before .before .before .before .before .before .before .before .before .charge .ensures) _ _ (c .before .before .before .before .before .before .before .before .before .before .before .before .before .before .before .before .before .before .before .before .before .before .before .before .before .before .before .slice-known .given) (c .before .before .before .before .before .before .before .before .before .before .before .before .before .slice-known4 .given) (c .before .before .before .before .before .before .slice-known5 .given) (c .before .before .before .before .before .before .before .before .before .before .before .before .before .before .before .raise-count .ensures) (c .before .before .before .before .before .before .before .before .handle .kept .1 .1 .1 .1 .0) _ (c .before .before .before .before .before .before .before .before .before .before .before .row-at .ensures) _ _ (c .before .before .before .before .before .before .before .before .before .before .before .before .before .before .before .before .before .before .before .count-at .ensures) (c .before .before .before .before .before .before .before .before .handle .ensures) _ _ (c .before .before .before .before .before .alone .ensures) (c .before .before .before .on .given .1) (sym (c .before .in-listing .ensures) ∙ c .if2 .taken) (c .before .before .before .before .before .before .before .before .before .before .before .before .before .before .before .before .before .before .if1 .left)
 
 enum-told : tie.Need-enum-told
 enum-told c = search needs
 
 follow-requires : tie.Need-follow-requires
-follow-requires c κs = (handled-turning (c .before .before .before .before .before .before .before .before .before .before .before .before .before .before .before .before .before .before .before .before .before .before .before .before .before .pre) _ (c .before .before .before .before .before .before .before .before .before .before .before .before .before .before .before .before .before .before .before .before .before .charge .ensures) _ _ (c .before .before .before .before .before .before .before .before .before .before .before .before .before .before .before .before .before .before .before .before .before .before .before .before .slice-known .given) (c .before .before .before .before .before .before .before .before .before .before .slice-known4 .given) (c .before .before .before .before .slice-known5 .given) (c .before .before .before .before .before .before .before .before .before .before .before .before .raise-count .ensures) (c .before .before .before .before .before .before .handle .kept .1 .0) _ (c .before .before .before .before .before .before .before .before .row-at .ensures) _ _ (c .before .before .before .before .before .before .before .before .before .before .before .before .before .before .before .before .count-at .ensures) (c .before .before .before .before .before .before .handle .ensures), handled-may (c .before .before .before .before .before .before .before .before .before .before .before .before .before .before .before .before .before .before .before .before .before .before .before .before .before .pre) _ (c .before .before .before .before .before .before .before .before .before .before .before .before .before .before .before .before .before .before .before .before .before .charge .ensures) _ _ (c .before .before .before .before .before .before .before .before .before .before .before .before .before .before .before .before .before .before .before .before .before .before .before .before .slice-known .given) (c .before .before .before .before .before .before .before .before .before .before .slice-known4 .given) (c .before .before .before .before .slice-known5 .given) (c .before .before .before .before .before .before .before .before .before .before .before .before .raise-count .ensures) (c .before .before .before .before .before .before .handle .kept .1 .0) _ (c .before .before .before .before .before .before .before .before .row-at .ensures) _ _ (c .before .before .before .before .before .before .before .before .before .before .before .before .before .before .before .before .count-at .ensures) (c .before .before .before .before .before .before .handle .ensures))
+follow-requires c κs = (handled-turning (c .before .before .before .before .before .before .before .before .before .before .before .before .before .before .before .before .before .before .before .before .before .before .before .before .before .before .pre) _ (c .before .before .before .before .before .before .before .before .before .before .before .before .before .before .before .before .before .before .before .before .before .before .charge .ensures) _ _ (c .before .before .before .before .before .before .before .before .before .before .before .before .before .before .before .before .before .before .before .before .before .before .before .before .before .slice-known .given) (c .before .before .before .before .before .before .before .before .before .before .before .slice-known4 .given) (c .before .before .before .before .slice-known5 .given) (c .before .before .before .before .before .before .before .before .before .before .before .before .before .raise-count .ensures) (c .before .before .before .before .before .before .handle .kept .1 .1 .1 .1 .0) _ (c .before .before .before .before .before .before .before .before .before .row-at .ensures) _ _ (c .before .before .before .before .before .before .before .before .before .before .before .before .before .before .before .before .before .count-at .ensures) (c .before .before .before .before .before .before .handle .ensures), handled-may (c .before .before .before .before .before .before .before .before .before .before .before .before .before .before .before .before .before .before .before .before .before .before .before .before .before .before .pre) _ (c .before .before .before .before .before .before .before .before .before .before .before .before .before .before .before .before .before .before .before .before .before .before .charge .ensures) _ _ (c .before .before .before .before .before .before .before .before .before .before .before .before .before .before .before .before .before .before .before .before .before .before .before .before .before .slice-known .given) (c .before .before .before .before .before .before .before .before .before .before .before .slice-known4 .given) (c .before .before .before .before .slice-known5 .given) (c .before .before .before .before .before .before .before .before .before .before .before .before .before .raise-count .ensures) (c .before .before .before .before .before .before .handle .kept .1 .1 .1 .1 .0) _ (c .before .before .before .before .before .before .before .before .before .row-at .ensures) _ _ (c .before .before .before .before .before .before .before .before .before .before .before .before .before .before .before .before .before .count-at .ensures) (c .before .before .before .before .before .before .handle .ensures))
 
 same-length-3 : tie.Need-same-length-3
 same-length-3 c = search needs
@@ -83,7 +83,7 @@ same-length-4 : tie.Need-same-length-4
 same-length-4 c = search needs
 
 returns-3 : tie.Need-returns-3
-returns-3 c = turns-handled (c .before .before .before .before .before .before .before .before .before .before .before .before .before .before .before .before .before .before .before .before .before .before .before .before .before .before .before .before .before .before .pre) _ (c .before .before .before .before .before .before .before .before .before .before .before .before .before .before .before .before .before .before .before .before .before .before .before .before .before .before .charge .ensures) _ _ (c .before .before .before .before .before .before .before .before .before .before .before .before .before .before .before .before .before .before .before .before .before .before .before .before .before .before .before .before .before .slice-known .given) (c .before .before .before .before .before .before .before .before .before .before .before .before .before .before .before .slice-known4 .given) (c .before .before .before .before .before .before .before .before .before .slice-known5 .given) (c .before .before .before .before .before .before .before .before .before .before .before .before .before .before .before .before .before .raise-count .ensures) (c .before .before .before .before .before .before .before .before .before .before .before .handle .kept .1 .0) _ (c .before .before .before .before .before .before .before .before .before .before .before .before .before .row-at .ensures) _ _ (c .before .before .before .before .before .before .before .before .before .before .before .before .before .before .before .before .before .before .before .before .before .count-at .ensures) (c .before .before .before .before .before .before .before .before .before .before .before .handle .ensures) _ _ _ (c .before .before .before .before .before .before .before .before .before .before .before .before .before .before .before .before .before .before .before .before .if1 .left) (c .before .before .before .before .follow .ensures)
+returns-3 c = turns-handled (c .before .before .before .before .before .before .before .before .before .before .before .before .before .before .before .before .before .before .before .before .before .before .before .before .before .before .before .before .before .before .before .pre) _ (c .before .before .before .before .before .before .before .before .before .before .before .before .before .before .before .before .before .before .before .before .before .before .before .before .before .before .before .charge .ensures) _ _ (c .before .before .before .before .before .before .before .before .before .before .before .before .before .before .before .before .before .before .before .before .before .before .before .before .before .before .before .before .before .before .slice-known .given) (c .before .before .before .before .before .before .before .before .before .before .before .before .before .before .before .before .slice-known4 .given) (c .before .before .before .before .before .before .before .before .before .slice-known5 .given) (c .before .before .before .before .before .before .before .before .before .before .before .before .before .before .before .before .before .before .raise-count .ensures) (c .before .before .before .before .before .before .before .before .before .before .before .handle .kept .1 .1 .1 .1 .0) _ (c .before .before .before .before .before .before .before .before .before .before .before .before .before .before .row-at .ensures) _ _ (c .before .before .before .before .before .before .before .before .before .before .before .before .before .before .before .before .before .before .before .before .before .before .count-at .ensures) (c .before .before .before .before .before .before .before .before .before .before .before .handle .ensures) _ _ _ (c .before .before .before .before .before .before .before .before .before .before .before .before .before .before .before .before .before .before .before .before .before .if1 .left) (c .before .before .before .before .follow .ensures)
 
 pub take-turn-spec : {M : Type 1} → statement M
 take-turn-spec =

@@ -1,27 +1,23 @@
--- `state::from_first` passes an entry a turn. The measure is how many cells are left. Assumes nothing.
+use Rattle.state.proofs.OwnLaws.{guessed, guessed-end}
+use mathlib.Core.Path.{sym, _∙_}
+-- `state::near_first` passes an entry a turn. The measure is how many are left. Assumes nothing.
 use native.Mathlib.Omega.{arith}
-use Prim.Native.Nat.{_+_, _-_, _≤_}
+use Prim.Native.Nat.{_-_, _≤_}
 use borrow.Author.Needs.{needs}
-use Rattle.state.proofs.from_first.Statement.{statement}
-use Rattle.state.proofs.from_first.Tie as tie
+use Rattle.state.proofs.near_first.Statement.{statement}
+use Rattle.state.proofs.near_first.Tie as tie
 
 abbrev Inv-loop : tie.InvT-loop
-Inv-loop map area key end p₀ left₀ p left = map .base ≤ p
+Inv-loop area base end key p₀ left₀ p left = base ≤ p
 
 abbrev μ-loop : tie.MeasureT-loop
-μ-loop map area key end p₀ left₀ p left = end - p
-
-add-end : tie.Need-add-end Inv-loop μ-loop
-add-end c = search needs
+μ-loop area base end key p₀ left₀ p left = left
 
 loop-holds : tie.Need-loop-holds Inv-loop μ-loop
 loop-holds c = search needs
 
-by-halves-requires : tie.Need-by-halves-requires Inv-loop μ-loop
-by-halves-requires c κs = search needs
-
 returns : tie.Need-returns Inv-loop μ-loop
-returns c = search needs
+returns c = guessed-end _ _ _ _ (c .before .before .before .before .pre .0 .ordered)
 
 cell-at-requires : tie.Need-cell-at-requires Inv-loop μ-loop
 cell-at-requires c κs = search needs
@@ -36,7 +32,7 @@ is-at-requires : tie.Need-is-at-requires Inv-loop μ-loop
 is-at-requires c κs = search needs
 
 returns-2 : tie.Need-returns-2 Inv-loop μ-loop
-returns-2 c = search needs
+returns-2 c = guessed _ _ _ _ _ (c .before .before .at-distance .ensures .0) (sym (c .before .is-at .ensures) ∙ c .if2 .taken)
 
 flat-size-requires : tie.Need-flat-size-requires Inv-loop μ-loop
 flat-size-requires c κs = search needs
@@ -54,17 +50,15 @@ loop-again : tie.Need-loop-again Inv-loop μ-loop
 loop-again c = search needs
 
 returns-3 : tie.Need-returns-3 Inv-loop μ-loop
-returns-3 c = search needs
+returns-3 c = guessed-end _ _ _ _ (c .before .before .before .pre .0 .ordered)
 
-pub from-first-spec : {M : Type 1} → statement M
-from-first-spec =
+pub near-first-spec : {M : Type 1} → statement M
+near-first-spec =
     tie.close
     (tie.spec
     Inv-loop
     μ-loop
-    add-end
     loop-holds
-    by-halves-requires
     returns
     cell-at-requires
     key-of-requires

@@ -1,0 +1,61 @@
+use Rattle.state.proofs.OwnLaws.{guessed, guessed-end}
+use mathlib.Core.Path.{sym, _∙_}
+-- `state::near_last` passes an entry a turn. The measure is how many are left. Assumes nothing.
+use native.Mathlib.Omega.{arith}
+use Prim.Native.Nat.{_-_, _≤_}
+use borrow.Author.Needs.{needs}
+use Rattle.state.proofs.near_last.Statement.{statement}
+use Rattle.state.proofs.near_last.Tie as tie
+
+abbrev Inv-loop : tie.InvT-loop
+Inv-loop area base end key high₀ left₀ high left = high ≤ end
+
+abbrev μ-loop : tie.MeasureT-loop
+μ-loop area base end key high₀ left₀ high left = left
+
+loop-holds : tie.Need-loop-holds Inv-loop μ-loop
+loop-holds c = search needs
+
+returns : tie.Need-returns Inv-loop μ-loop
+returns c = guessed-end _ _ _ _ (c .before .before .before .before .pre .0 .ordered)
+
+sub-entry-below : tie.Need-sub-entry-below Inv-loop μ-loop
+sub-entry-below c = search needs
+
+entry-below-requires : tie.Need-entry-below-requires Inv-loop μ-loop
+entry-below-requires c κs = search needs
+
+is-at-requires : tie.Need-is-at-requires Inv-loop μ-loop
+is-at-requires c κs = search needs
+
+returns-2 : tie.Need-returns-2 Inv-loop μ-loop
+returns-2 c = guessed _ _ _ _ _ (c .before .before .entry-below .ensures .0) (sym (c .before .is-at .ensures) ∙ c .if2 .taken)
+
+sub-left : tie.Need-sub-left Inv-loop μ-loop
+sub-left c = search needs
+
+loop-less : tie.Need-loop-less Inv-loop μ-loop
+loop-less c = search needs
+
+loop-again : tie.Need-loop-again Inv-loop μ-loop
+loop-again c = search needs
+
+returns-3 : tie.Need-returns-3 Inv-loop μ-loop
+returns-3 c = guessed-end _ _ _ _ (c .before .before .before .pre .0 .ordered)
+
+pub near-last-spec : {M : Type 1} → statement M
+near-last-spec =
+    tie.close
+    (tie.spec
+    Inv-loop
+    μ-loop
+    loop-holds
+    returns
+    sub-entry-below
+    entry-below-requires
+    is-at-requires
+    returns-2
+    sub-left
+    loop-less
+    loop-again
+    returns-3)
