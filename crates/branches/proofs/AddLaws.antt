@@ -266,7 +266,7 @@ module _
           }
 
       -- each link leads where it led, but the free one
-      leads-at : (p q : ℕ) → p + 2 ≤ b .top → Dec (p ≡ at) → Dec (q % 2 ≡ bits % 2) → (child (cells ys) p q ≡ child (cells xs) p q) ⊎ ((child (cells xs) p q ≡ 0) × (child (cells ys) p q ≡ b .top))
+      leads-at : (p q : ℕ) → p + 2 ≤ b .top → Dec (p ≡ at) → Dec (q % 3 ≡ bits % 3) → (child (cells ys) p q ≡ child (cells xs) p q) ⊎ ((child (cells xs) p q ≡ 0) × (child (cells ys) p q ≡ b .top))
       leads-at p q le (yes e) (yes f) =
           inr (
             ap (λ (x : ℕ). child (cells xs) x q) e ∙ child-alike (cells xs) at q bits f ∙ ends .free,
@@ -280,12 +280,12 @@ module _
       adds-link p q a ne =
           let lies = subst (λ (x : ℕ). endAt (cells xs) n x ≤ b .top) (a .at) (blocks-span (cells xs) n (b .first) (b .top) ks (r .blocks) (a .kept) (a .among) .1) in (
             subst (λ (x : ℕ). hashAt (cells ys) x ≡ hashAt (cells xs) x) (a .at) (ap (λ (c : Cell). c .head) (old-block (a .kept) (a .among) .head)),
-            elim (leads-at p q (omega (arith, lies)) (ℕ-discrete p at) (ℕ-discrete (q % 2) (bits % 2))) [ inl e ↦ e | inr z ↦ absurd (ne (z .0)) ],
+            elim (leads-at p q (omega (arith, lies)) (ℕ-discrete p at) (ℕ-discrete (q % 3) (bits % 3))) [ inl e ↦ e | inr z ↦ absurd (ne (z .0)) ],
           )
 
       leads-old : (k : Kept) → k ∈ ks → (q : ℕ) → (child (cells ys) (k .at) q ≡ child (cells xs) (k .at) q) ⊎ (child (cells ys) (k .at) q ≡ b .top)
       leads-old k e q =
-          elim (leads-at (k .at) q (omega (arith, blocks-span (cells xs) n (b .first) (b .top) ks (r .blocks) k e .1)) (ℕ-discrete (k .at) at) (ℕ-discrete (q % 2) (bits % 2))) [
+          elim (leads-at (k .at) q (omega (arith, blocks-span (cells xs) n (b .first) (b .top) ks (r .blocks) k e .1)) (ℕ-discrete (k .at) at) (ℕ-discrete (q % 3) (bits % 3))) [
             | inl e ↦ inl e
             | inr z ↦ inr (z .1)
           ]

@@ -1,43 +1,75 @@
--- Laws of specs/Header.antt: which link a bit picks, and the parts of the sizes' word. Assumes nothing.
-use mathlib.Core.Path.{_≡_, refl, ap, _∙_}
+-- Laws of specs/Header.antt: which link a digit picks, a link added to their word, and the parts of the sizes' word. Assumes nothing.
+use mathlib.Core.Path.{_≡_, sym, ap, ap₂, subst, _∙_}
+use mathlib.Core.Logic.{_⊎_, inl, inr}
 use mathlib.Core.List.{List}
-use Prim.Native.Nat.{ℕ, zero, suc, _+_, _/_, _%_, _≤_}
+use Prim.Native.Nat.{ℕ, _+_, _-_, _*_, _/_, _%_, _^_, _<_, _≤_}
+use native.Mathlib.Nat.{mul-assoc, zero-div, add-mul-div-right, add-mul-mod-self-right, div-lt-iff-lt-mul}
 use native.Mathlib.Omega.{arith}
 use lib.ListN.{getD}
-use lib.Dec.{eqb}
-use borrow.Author.Tests.{eq-eqb, ne-eqb}
+use lib.Pow.{pow-pos, pow-add, shr-shr}
 use Rattle.area.specs.Cells.{blank}
 use Rattle.area.specs.declared.Cell.{Cell}
-use Rattle.intmap.specs.Pick.{pick}
 use Rattle.state.specs.declared.MemoryState.{MemoryState}
-use Rattle.branches.specs.Header.{half, linksAt, sizesAt, child, sizesWord, lenAt, usedAt, nextAt, stateAt}
+use Rattle.branches.specs.Header.{third, linksAt, shift, sizesAt, child, sizesWord, lenAt, usedAt, nextAt, stateAt}
 
--- an even bit picks the lower half of the links, an odd one the upper
-pub child-even : (cs : List Cell) (p bits : ℕ) → bits % 2 ≡ 0 → child cs p bits ≡ linksAt cs p % half
+-- a link as it is read
+pub child-read : (cs : List Cell) (p bits s : ℕ) (c : Cell) → c ≡ getD cs (p + 1) blank → s ≡ shift bits → c .head / 2 ^ s % third ≡ child cs p bits
 unfolding child
-child-even cs p bits e = ap (λ t. pick t (linksAt cs p % half) (linksAt cs p / half)) (eq-eqb (bits % 2) 0 e)
+child-read cs p bits s c read is = ap₂ (λ (d : Cell) (x : ℕ). d .head / 2 ^ x % third) read is
 
-pub child-odd : (cs : List Cell) (p bits : ℕ) → (bits % 2 ≡ 0 → ⊥) → child cs p bits ≡ linksAt cs p / half
+-- a digit alone picks it
+pub child-alike : (cs : List Cell) (p a b : ℕ) → a % 3 ≡ b % 3 → child cs p a ≡ child cs p b
 unfolding child
-child-odd cs p bits e = ap (λ t. pick t (linksAt cs p % half) (linksAt cs p / half)) (ne-eqb (bits % 2) 0 e)
-
--- a bit alone picks it
-pub child-alike : (cs : List Cell) (p a b : ℕ) → a % 2 ≡ b % 2 → child cs p a ≡ child cs p b
-unfolding child
-child-alike cs p a b e = ap (λ t. pick (eqb t 0) (linksAt cs p % half) (linksAt cs p / half)) e
+child-alike cs p a b e = ap (λ d. linksAt cs p / 2 ^ (21 * d) % third) e
 
 -- it depends on the header's second cell
 pub child-same : (cs ds : List Cell) (p bits : ℕ) → getD ds (p + 1) blank ≡ getD cs (p + 1) blank → child ds p bits ≡ child cs p bits
 unfolding child
-child-same cs ds p bits e = ap (λ (c : Cell). pick (eqb (bits % 2) 0) (c .head % half) (c .head / half)) e
+child-same cs ds p bits e = ap (λ (c : Cell). c .head / 2 ^ shift bits % third) e
 
 -- no links lead nowhere
 pub child-none : (cs : List Cell) (p bits : ℕ) → linksAt cs p ≡ 0 → child cs p bits ≡ 0
-child-none cs p bits e = go (bits % 2) refl
-  where
-    go : (t : ℕ) → bits % 2 ≡ t → child cs p bits ≡ 0
-    go zero f = child-even cs p bits f ∙ omega arith
-    go (suc t) f = child-odd cs p bits (λ g. omega arith) ∙ omega arith
+unfolding child
+child-none cs p bits e = ap (λ (w : ℕ). w / 2 ^ shift bits % third) e ∙ ap (λ (x : ℕ). x % third) (zero-div (2 ^ shift bits))
+
+-- ---- a link is added to the word of links
+
+-- 21 bits of a power, and of a shift, apart from the rest
+pow-third : (n j : ℕ) → 2 ^ (n + 21 + j) ≡ 2 ^ n * third * 2 ^ j
+pow-third n j = pow-add 2 (n + 21) j ∙ ap (λ (x : ℕ). x * 2 ^ j) (pow-add 2 n 21)
+
+shr-third : (w k n : ℕ) → w / 2 ^ (k + 21 + n) ≡ w / 2 ^ k / third / 2 ^ n
+shr-third w k n = sym (ap (λ (x : ℕ). x / 2 ^ n) (shr-shr w k 21) ∙ shr-shr w (k + 21) n)
+
+-- q is added from bit k on, where a third of the word is 0
+module _ (w q k : ℕ) (free : w / 2 ^ k % third ≡ 0) (small : q < third) where
+  added : (w + q * 2 ^ k) / 2 ^ k ≡ w / 2 ^ k + q
+  added = add-mul-div-right w q (pow-pos k)
+
+  -- this third is q
+  pub third-there : (w + q * 2 ^ k) / 2 ^ k % third ≡ q
+  third-there = ap (λ (x : ℕ). x % third) added ∙ omega arith
+
+  -- those below and above are as they were
+  pub third-other : (j : ℕ) → (j + 21 ≤ k) ⊎ (k + 21 ≤ j) → (w + q * 2 ^ k) / 2 ^ j % third ≡ w / 2 ^ j % third
+  third-other j (inl le) =
+      let n : ℕ = k - (j + 21) in
+      let more : q * 2 ^ k ≡ q * 2 ^ n * third * 2 ^ j = ap (λ (x : ℕ). q * 2 ^ x) (omega arith) ∙ ap (λ (x : ℕ). q * x) (pow-third n j) ∙ simp mul-assoc in
+      ap (λ (x : ℕ). (w + x) / 2 ^ j % third) more ∙ ap (λ (x : ℕ). x % third) (add-mul-div-right w (q * 2 ^ n * third) (pow-pos j)) ∙ add-mul-mod-self-right (w / 2 ^ j) (q * 2 ^ n) third
+  third-other j (inr le) =
+      let n : ℕ = j - (k + 21) in
+      let same : (w + q * 2 ^ k) / 2 ^ k / third ≡ w / 2 ^ k / third = ap (λ (x : ℕ). x / third) added ∙ omega arith in
+      subst (λ (x : ℕ). (w + q * 2 ^ k) / 2 ^ x % third ≡ w / 2 ^ x % third) (omega arith)
+      (ap (λ (x : ℕ). x % third) (shr-third (w + q * 2 ^ k) k n ∙ ap (λ (x : ℕ). x / 2 ^ n) same ∙ sym (shr-third w k n)))
+
+  -- it is still a word
+  pub third-fits : k + 21 ≤ 64 → w < 2 ^ 64 → w + q * 2 ^ k < 2 ^ 64
+  third-fits le lt =
+      let n : ℕ = 64 - (k + 21) in
+      let word : 2 ^ 64 ≡ 2 ^ n * third * 2 ^ k = ap (λ (x : ℕ). 2 ^ x) {x = 64} (omega arith) ∙ pow-third n k in
+      let then : w / 2 ^ k < 2 ^ n * third = div-lt-iff-lt-mul (pow-pos k) .1 (subst (λ (x : ℕ). w < x) word lt) in
+      let now : (w + q * 2 ^ k) / 2 ^ k < 2 ^ n * third = omega (arith, added) in
+      subst (λ (x : ℕ). w + q * 2 ^ k < x) (sym word) (div-lt-iff-lt-mul (pow-pos k) .0 now)
 
 -- the parts of the sizes' word
 module _ (cs : List Cell) (p len used next : ℕ) (w : sizesAt cs p ≡ sizesWord len used next) (few : len ≤ 65535) (small : used ≤ 65535) where

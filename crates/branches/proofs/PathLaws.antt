@@ -15,20 +15,20 @@ use Rattle.branches.specs.Entries.{Kept, Stands, nextBits, Path, here, d
 
 -- where the hash is the looked-for one, those of another hash; else the next ones
 module _ (cs : List Cell) (f : ℕ → ℕ) (p bits h : ℕ) (c : Cell) (read : c ≡ getD cs p blank) (is : h ≡ f 0) where
-  picks : (t : Bool) → eqb (c .head) h ≡ t → pick t (f (p + 1)) (bits / 2) ≡ nextBits cs f p bits
+  picks : (t : Bool) → eqb (c .head) h ≡ t → pick t (f (p + 1)) (bits / 3) ≡ nextBits cs f p bits
   unfolding nextBits
-  picks t e = ap (λ x. pick x (f (p + 1)) (bits / 2)) (sym e ∙ ap₂ eqb (ap (λ (x : Cell). x .head) read) is)
+  picks t e = ap (λ x. pick x (f (p + 1)) (bits / 3)) (sym e ∙ ap₂ eqb (ap (λ (x : Cell). x .head) read) is)
 
   pub next-rehashed : c .head ≡ h → f (p + 1) ≡ nextBits cs f p bits
   next-rehashed e = picks true (eq-eqb (c .head) h e)
 
-  pub next-halved : (c .head ≡ h → ⊥) → bits / 2 ≡ nextBits cs f p bits
-  next-halved ne = picks false (ne-eqb (c .head) h ne)
+  pub next-digits : (c .head ≡ h → ⊥) → bits / 3 ≡ nextBits cs f p bits
+  next-digits ne = picks false (ne-eqb (c .head) h ne)
 
 -- they depend on the hash there
 next-same : (cs ds : List Cell) (f : ℕ → ℕ) (p bits : ℕ) → hashAt ds p ≡ hashAt cs p → nextBits ds f p bits ≡ nextBits cs f p bits
 unfolding nextBits
-next-same cs ds f p bits e = ap (λ h. pick (eqb h (f 0)) (f (p + 1)) (bits / 2)) e
+next-same cs ds f p bits e = ap (λ h. pick (eqb h (f 0)) (f (p + 1)) (bits / 3)) e
 
 -- what leads somewhere still does, from a place with the same hash
 abbrev pub Adds : List Cell → List Cell → List Kept → Type 0

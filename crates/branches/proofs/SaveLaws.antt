@@ -3,9 +3,11 @@
 use mathlib.Core.Path.{_≡_, refl, sym, ap, subst, _∙_}
 use mathlib.Core.Logic.{_⊎_, inl, inr}
 use mathlib.Core.List.{List}
-use Prim.Native.Nat.{ℕ, _+_, _*_, _/_, _%_, _<_, _≤_}
+use Prim.Native.Nat.{ℕ, _+_, _*_, _/_, _%_, _^_, _<_, _≤_}
 use native.Mathlib.Omega.{arith}
+use native.Mathlib.Decide.{decLt}
 use lib.ListN.{length, getD, set}
+use lib.Pow.{shl-exact}
 use lib.Seq.{getD-set-same, getD-set-other}
 use Rattle.area.specs.Cells.{cell, blank, cells, CellsNow}
 use Rattle.area.specs.Moves.{moved}
@@ -22,11 +24,11 @@ use Rattle.intmap.proofs.MapLaws.{placed, placed-map, placed-runs, placed-room}
 use Rattle.encoding.proofs.Held.{held-copied, held-elsewhere}
 use Rattle.state.specs.Leads.{HoldsMap}
 use Rattle.state.specs.declared.MemoryState.{MemoryState}
-use Rattle.branches.specs.Header.{half, sizesWord, linksAt, rowAt, child, usedAt, stateAt}
+use Rattle.branches.specs.Header.{third, sizesWord, shift, rowAt, child, usedAt, stateAt}
 use Rattle.branches.specs.Entries.{Counted, countCells}
 use Rattle.branches.specs.Lists.{Loads}
 use Rattle.branches.specs.Changes.{Savable, Saves, Linkable, Connects, Loadable}
-use Rattle.branches.proofs.HeaderLaws.{child-even, child-odd}
+use Rattle.branches.proofs.HeaderLaws.{child-read, third-there, third-other, third-fits}
 use Rattle.branches.proofs.RememberLaws.{Bytes, counted-same}
 
 -- a map has no more entries than cells
@@ -105,52 +107,45 @@ module _
 
 -- ---- link
 
--- the half of the links' word that is free is 0
-pub even-free : (xs : List ℕ) (p bits q : ℕ) (c : Cell) → Linkable xs p bits q → (p ≡ 0 → ⊥) → c ≡ getD (cells xs) (p + 1) blank → bits % 2 ≡ 0 → c .head % half ≡ 0
-even-free xs p bits q c ok some read even = ap (λ (d : Cell). d .head % half) read ∙ sym (child-even (cells xs) p bits even) ∙ ok .free some
+-- another digit is that of a link below or above
+apart : (bits b s : ℕ) → s ≡ shift bits → (b % 3 ≡ bits % 3 → ⊥) → (shift b + 21 ≤ s) ⊎ (s + 21 ≤ shift b)
+apart bits b s is ne = elim (decLt (b % 3) (bits % 3)) [ yes lt ↦ inl (omega arith) | no ge ↦ inr (omega (arith, ne)) ]
 
-pub odd-free : (xs : List ℕ) (p bits q : ℕ) (c : Cell) → Linkable xs p bits q → (p ≡ 0 → ⊥) → c ≡ getD (cells xs) (p + 1) blank → (bits % 2 ≡ 0 → ⊥) → c .head / half ≡ 0
-odd-free xs p bits q c ok some read odd = ap (λ (d : Cell). d .head / half) read ∙ sym (child-odd (cells xs) p bits odd) ∙ ok .free some
+-- s is the bit at which the free link begins, c the cell that has it
+module _ (xs : List ℕ) (p bits q s : ℕ) (c : Cell) (ok : Linkable xs p bits q) (some : p ≡ 0 → ⊥) (read : c ≡ getD (cells xs) (p + 1) blank) (is : s ≡ shift bits) where
+  shifted : q * 2 ^ s % 2 ^ 64 ≡ q * 2 ^ s
+  shifted = shl-exact 21 s 64 (ok .place) (omega arith)
 
-module _ (xs ys : List ℕ) (p bits q w : ℕ) (c : Cell) (ok : Linkable xs p bits q) (some : p ≡ 0 → ⊥) (read : c ≡ getD (cells xs) (p + 1) blank) (put : CellsNow xs ys (set (cells xs) (p + 1) (cell w (c .payload)))) where
-  written : getD (cells ys) (p + 1) blank ≡ cell w (c .payload)
-  written = ap (λ (l : List Cell). getD l (p + 1) blank) (put .cells) ∙ getD-set-same (cells xs) (p + 1) _ blank (omega (arith, ok .header))
+  free : c .head / 2 ^ s % third ≡ 0
+  free = child-read (cells xs) p bits s c read is ∙ ok .free some
 
-  links-now : linksAt (cells ys) p ≡ w
-  links-now = ap (λ (d : Cell). d .head) written
+  pub link-fits : c .head < 2 ^ 64 → c .head + q * 2 ^ s % 2 ^ 64 < 2 ^ 64
+  link-fits lt = subst (λ (x : ℕ). c .head + x < 2 ^ 64) (sym shifted) (third-fits (c .head) q s free (ok .place) (omega arith) lt)
 
-  links-then : linksAt (cells xs) p ≡ c .head
-  links-then = ap (λ (d : Cell). d .head) (sym read)
+  module _ (ys : List ℕ) (put : CellsNow xs ys (set (cells xs) (p + 1) (cell (c .head + q * 2 ^ s % 2 ^ 64) (c .payload)))) where
+    written : getD (cells ys) (p + 1) blank ≡ cell (c .head + q * 2 ^ s) (c .payload)
+    written =
+        ap (λ (l : List Cell). getD l (p + 1) blank) (put .cells)
+        ∙ getD-set-same (cells xs) (p + 1) _ blank (omega (arith, ok .header))
+        ∙ ap (λ (x : ℕ). cell (c .head + x) (c .payload)) shifted
 
-  finish : ((b : ℕ) → (b % 2 ≡ bits % 2 → ⊥) → child (cells ys) p b ≡ child (cells xs) p b) → ((b : ℕ) → b % 2 ≡ bits % 2 → child (cells ys) p b ≡ q) → Connects xs ys p bits q
-  finish other alike =
-      record {
-        none = λ e. absurd (some e);
-        linked = λ ne.
-            record {
-              other = other;
-              alike = alike;
-              sizes = ap (λ (d : Cell). d .payload) (written) ∙ ap (λ (d : Cell). d .payload) read;
-              elsewhere = λ j e. ap (λ (l : List Cell). getD l j blank) (put .cells) ∙ getD-set-other (cells xs) (p + 1) j _ blank e;
-              long = put .same;
-            };
-        bytes = put .bytes;
-      }
+    links-now : (b : ℕ) → child (cells ys) p b ≡ (c .head + q * 2 ^ s) / 2 ^ shift b % third
+    links-now b = sym (child-read (cells ys) p b (shift b) _ (sym written) refl)
 
-  pub linked-even : bits % 2 ≡ 0 → w ≡ c .head + q → Connects xs ys p bits q
-  linked-even even e =
-      let free : c .head % half ≡ 0 = even-free xs p bits q c ok some read even in
-      let small = ok .place in
-      finish
-      (λ b ne. child-odd (cells ys) p b (λ z. ne (z ∙ sym even)) ∙ ap (λ (x : ℕ). x / half) (links-now ∙ e) ∙ omega arith ∙ ap (λ (x : ℕ). x / half) (sym links-then) ∙ sym (child-odd (cells xs) p b (λ z. ne (z ∙ sym even))))
-      (λ b z. child-even (cells ys) p b (z ∙ even) ∙ ap (λ (x : ℕ). x % half) (links-now ∙ e) ∙ omega arith)
-
-  pub linked-odd : (bits % 2 ≡ 0 → ⊥) → w ≡ c .head + half * q → Connects xs ys p bits q
-  linked-odd odd e =
-      let free : c .head / half ≡ 0 = odd-free xs p bits q c ok some read odd in
-      finish
-      (λ b ne. let z : b % 2 ≡ 0 = omega (arith, ne) in child-even (cells ys) p b z ∙ ap (λ (x : ℕ). x % half) (links-now ∙ e) ∙ omega arith ∙ ap (λ (x : ℕ). x % half) (sym links-then) ∙ sym (child-even (cells xs) p b z))
-      (λ b z. child-odd (cells ys) p b (λ y. odd (sym z ∙ y)) ∙ ap (λ (x : ℕ). x / half) (links-now ∙ e) ∙ omega arith)
+    pub linked : Connects xs ys p bits q
+    linked =
+        record {
+          none = λ z. absurd (some z);
+          linked = λ ne.
+              record {
+                other = λ b d. links-now b ∙ third-other (c .head) q s free (ok .place) (shift b) (apart bits b s is d) ∙ child-read (cells xs) p b (shift b) c read refl;
+                alike = λ b d. links-now b ∙ ap (λ (x : ℕ). (c .head + q * 2 ^ s) / 2 ^ x % third) (ap (λ (x : ℕ). 21 * x) d ∙ sym is) ∙ third-there (c .head) q s free (ok .place);
+                sizes = ap (λ (d : Cell). d .payload) written ∙ ap (λ (d : Cell). d .payload) read;
+                elsewhere = λ j d. ap (λ (l : List Cell). getD l j blank) (put .cells) ∙ getD-set-other (cells xs) (p + 1) j _ blank d;
+                long = put .same;
+              };
+          bytes = put .bytes;
+        }
 
 pub linked-none : (xs : List ℕ) (p bits q : ℕ) → p ≡ 0 → Connects xs xs p bits q
 linked-none xs p bits q e = record { none = λ z. refl; linked = λ ne. absurd (ne e); bytes = refl }

@@ -11,7 +11,7 @@ use Rattle.area.specs.declared.Cell.{Cell}
 use Rattle.intmap.specs.Map.{runsAt, IsMap}
 use Rattle.state.specs.Steps.{HoldsState}
 use Rattle.state.specs.declared.MemoryState.{MemoryState}
-use Rattle.branches.specs.Header.{half, sizesWord, sizesAt, child, usedAt, nextAt, stateAt}
+use Rattle.branches.specs.Header.{half, third, sizesWord, sizesAt, child, usedAt, nextAt, stateAt}
 use Rattle.branches.specs.Entries.{countCells, Remembering}
 use Rattle.branches.specs.Lists.{Offers, Below, Above, Pops}
 use Rattle.branches.specs.declared.BranchList.{BranchList}
@@ -53,12 +53,12 @@ pub record Linkable (xs : List ℕ) (p bits q : ℕ) : Type 0 where
   pub header : p + 2 ≤ length (cells xs)
   pub small : length (cells xs) ≤ 1048576
   pub free : (p ≡ 0 → ⊥) → child (cells xs) p bits ≡ 0
-  pub place : q < half
+  pub place : q < third
 
--- it does, and the other link, the sizes and all other cells are as they were
+-- it does, and the other links, the sizes and all other cells are as they were
 pub record Linked (cs ds : List Cell) (p bits q : ℕ) : Type 0 where
-  pub other : (b : ℕ) → (b % 2 ≡ bits % 2 → ⊥) → child ds p b ≡ child cs p b
-  pub alike : (b : ℕ) → b % 2 ≡ bits % 2 → child ds p b ≡ q
+  pub other : (b : ℕ) → (b % 3 ≡ bits % 3 → ⊥) → child ds p b ≡ child cs p b
+  pub alike : (b : ℕ) → b % 3 ≡ bits % 3 → child ds p b ≡ q
   pub sizes : sizesAt ds p ≡ sizesAt cs p
   pub elsewhere : (j : ℕ) → (j ≡ p + 1 → ⊥) → getD ds j blank ≡ getD cs j blank
   pub long : length ds ≡ length cs

@@ -60,10 +60,11 @@ pub record Stands (ks : List Kept) (p : ℕ) : Type 0 where
   pub among : kept ∈ ks
   pub at : kept .at ≡ p
 
--- the search tree: the bits that lead on from p for a state that is not there and has the hashes f: the next ones, but where the state at p has
--- the same hash, those of the hash that starts from p. So states of one hash, which can be made on purpose, part again.
+-- the search tree: the bits that lead on from p for a state that is not there and has the hashes f: those without their last digit to the
+-- base 3, but where the state at p has the same hash, those of the hash that starts from p. So states of one hash, which can be made on purpose,
+-- part again.
 unfoldable pub nextBits : List Cell → (ℕ → ℕ) → ℕ → ℕ → ℕ
-nextBits cs f p bits = pick (eqb (hashAt cs p) (f 0)) (f (p + 1)) (bits / 2)
+nextBits cs f p bits = pick (eqb (hashAt cs p) (f 0)) (f (p + 1)) (bits / 3)
 
 -- the way from a place, by such bits, to another, with the bits that are left there
 pub data Path (cs : List Cell) (ks : List Kept) (f : ℕ → ℕ) : ℕ → ℕ → ℕ → ℕ → Type 0 where

@@ -3,7 +3,7 @@
 ghost use mathlib.Core.Path.{_≡_};
 ghost use Rattle.area.specs.Cells.{cells, Inside};
 ghost use Rattle.intmap.specs.Map.{IsMap};
-ghost use Rattle.branches.specs.Header.{child, rowAt, stateAt};
+ghost use Rattle.branches.specs.Header.{shift, child, rowAt, stateAt};
 ghost use Rattle.branches.specs.Hash.{mix, fold, hashFrom, hashOf};
 ghost use Rattle.branches.specs.Entries.{nextBits, none};
 ghost use Rattle.branches.specs.Lists.{Pushes, Loads};
@@ -16,6 +16,9 @@ use state::MemoryState;
 
 // Half a word.
 const HALF: u64 = 4294967296;
+
+// A third of a word, in whole bits: 2^21. A place is less, since an area has at most 1,048,576 cells.
+const THIRD: u64 = 2097152;
 
 // Where the remembered states begin, where they end, and the latest that waits (0 where none does).
 pub struct BranchList {
@@ -37,7 +40,7 @@ pub enum Popped {
 }
 
 // A state that is looked for: it is known, or the link that would lead to it is free, of the state at this place (0 where none is
-// remembered) by the lowest of these bits.
+// remembered) by the last digit of these bits.
 enum Place {
     Known,
     Free(usize, u64),
@@ -103,17 +106,20 @@ fn state_at(area: &[u8], p: usize) -> MemoryState
     }
 }
 
-// Where the link of the state at p leads, by the lowest of the bits.
+// At which bit of their word one of the three links begins: the one that the last digit of the bits, to the base 3, chooses.
+fn shift(bits: u64) -> u64
+    ensures { λ r. ⌜ r ≡ shift bits ⌝ }
+{
+    21 * (bits % 3)
+}
+
+// Where the link of the state at p leads, by the last digit of the bits.
 fn child(area: &[u8], p: usize, bits: u64) -> usize
     requires { ⌜ Inside (now area) p 2 ⌝ }
     ensures { λ r. ⌜ r ≡ child (cells (now (area .entry))) p bits ⌝ }
 {
     let c = area::cell_at(area, p + 1);
-    let links = c.head;
-    if bits % 2 == 0 {
-        return (links % HALF) as usize;
-    }
-    (links / HALF) as usize
+    ((c.head >> shift(bits)) % THIRD) as usize
 }
 
 // Whether the state at p is s, which has this hash.
@@ -134,8 +140,8 @@ fn is_at(area: &[u8], p: usize, s: MemoryState, h: u64) -> bool
     map.eq(area, other)
 }
 
-// The bits that lead on from p for s, which has this hash and is not there: the next ones, or, where the state at p has the same hash, those of
-// another.
+// The bits that lead on from p for s, which has this hash and is not there: those without their last digit, or, where the state at p has the
+// same hash, those of another.
 fn next_bits(area: &[u8], p: usize, s: MemoryState, h: u64, bits: u64) -> u64
     requires { ⌜ Inside (now area) p 1 × IsMap (cells (now area)) (s .map) × (h ≡ hashOf (cells (now area)) s) ⌝ }
     ensures { λ r. ⌜ r ≡ nextBits (cells (now (area .entry))) (hashFrom (cells (now (area .entry))) s) p bits ⌝ }
@@ -144,7 +150,7 @@ fn next_bits(area: &[u8], p: usize, s: MemoryState, h: u64, bits: u64) -> u64
     if c.head == h {
         return hash(area, s, p as u64 + 1);
     }
-    bits / 2
+    bits / 3
 }
 
 // Copies a state with its counts to p, under its hash, with `next` behind it among those that wait.
@@ -176,7 +182,7 @@ fn save(area: &mut [u8], p: usize, s: MemoryState, h: u64, next: usize, counts: 
     );
 }
 
-// Makes the free link of the state at p, by the lowest of the bits, lead to q. At 0 there is none.
+// Makes the free link of the state at p, by the last digit of the bits, lead to q. At 0 there is none.
 fn link(area: &mut [u8], p: usize, bits: u64, q: usize)
     requires { ⌜ Linkable (now area) p bits q ⌝ }
     ensures { λ _. ⌜ Connects (now (area .entry)) (now (area .exit)) p bits q ⌝ }
@@ -185,24 +191,12 @@ fn link(area: &mut [u8], p: usize, bits: u64, q: usize)
         return;
     }
     let c = area::cell_at(area, p + 1);
-    let links = c.head;
     let to = q as u64;
-    if bits % 2 == 0 {
-        area::put_cell(
-            area,
-            p + 1,
-            Cell {
-                head: links + to,
-                payload: c.payload,
-            },
-        );
-        return;
-    }
     area::put_cell(
         area,
         p + 1,
         Cell {
-            head: links + HALF * to,
+            head: c.head + (to << shift(bits)),
             payload: c.payload,
         },
     );

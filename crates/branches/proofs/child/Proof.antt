@@ -1,10 +1,6 @@
--- `branches::child`: an even bit picks the lower half of the links' word, an odd one the upper. Assumes nothing.
-use mathlib.Core.Path.{sym, ap, _∙_}
-use Prim.Native.Nat.{_/_, _%_}
+-- `branches::child` shifts the link down and takes a third of a word. Assumes nothing.
 use borrow.Author.Needs.{needs}
-use Rattle.area.specs.declared.Cell.{Cell}
-use Rattle.branches.specs.Header.{half}
-use Rattle.branches.proofs.HeaderLaws.{child-even, child-odd}
+use Rattle.branches.proofs.HeaderLaws.{child-read}
 use Rattle.branches.proofs.child.Statement.{statement}
 use Rattle.branches.proofs.child.Tie as tie
 
@@ -14,11 +10,14 @@ add-cell-at c = search needs
 cell-at-requires : tie.Need-cell-at-requires
 cell-at-requires c κs = search needs
 
-returns : tie.Need-returns
-returns c = ap (λ (x : Cell). x .head % half) (c .before .cell-at .ensures) ∙ sym (child-even _ _ _ (c .if1 .taken))
+shift-requires : tie.Need-shift-requires
+shift-requires c κs = search needs
 
-returns-2 : tie.Need-returns-2
-returns-2 c = ap (λ (x : Cell). x .head / half) (c .before .cell-at .ensures) ∙ sym (child-odd _ _ _ (c .if1 .left))
+shr-result : tie.Need-shr-result
+shr-result c = search needs
+
+returns : tie.Need-returns
+returns c = child-read _ _ _ _ _ (c .before .before .cell-at .ensures) (c .before .shift .ensures)
 
 pub child-spec : {M : Type 1} → statement M
-child-spec = tie.close (tie.spec add-cell-at cell-at-requires returns returns-2)
+child-spec = tie.close (tie.spec add-cell-at cell-at-requires shift-requires shr-result returns)

@@ -1,8 +1,7 @@
--- `branches::link` adds the place to the half of the links' word that is 0. Assumes nothing.
-use mathlib.Core.Path.{refl}
+-- `branches::link` adds the place to the third of the links' word that is 0. Assumes nothing.
 use native.Mathlib.Omega.{arith}
 use borrow.Author.Needs.{needs}
-use Rattle.branches.proofs.SaveLaws.{linked-even, linked-odd, linked-none, even-free, odd-free}
+use Rattle.branches.proofs.SaveLaws.{link-fits, linked, linked-none}
 use Rattle.branches.proofs.link.Statement.{statement}
 use Rattle.branches.proofs.link.Tie as tie
 
@@ -18,8 +17,14 @@ cell-at-requires c κs = search needs
 add-put-cell : tie.Need-add-put-cell
 add-put-cell c = search needs
 
-add-t17 : tie.Need-add-t17
-add-t17 c = omega (arith, even-free (c .before .before .before .before .before .before .args .area .now) _ _ _ _ (c .before .before .before .before .before .before .pre) (c .before .before .before .before .if1 .left) (c .before .before .cell-at .ensures) (c .before .if2 .taken), c .before .before .before .before .before .before .pre .place)
+shift-requires : tie.Need-shift-requires
+shift-requires c κs = search needs
+
+shl-t15 : tie.Need-shl-t15
+shl-t15 c = search needs
+
+add-t16 : tie.Need-add-t16
+add-t16 c = record { fits = link-fits (c .before .before .before .before .before .before .before .args .area .now) _ _ _ _ _ (c .before .before .before .before .before .before .before .pre) (c .before .before .before .before .before .if1 .left) (c .before .before .before .cell-at .ensures) (c .before .shift .ensures) (omega arith) }
 
 put-cell-requires : tie.Need-put-cell-requires
 put-cell-requires c κs = search needs
@@ -28,25 +33,7 @@ same-length : tie.Need-same-length
 same-length c = search needs
 
 returns-2 : tie.Need-returns-2
-returns-2 c = linked-even _ _ _ _ _ _ _ (c .before .before .before .before .before .before .before .before .before .pre) (c .before .before .before .before .before .before .before .if1 .left) (c .before .before .before .before .before .cell-at .ensures) (c .before .before .put-cell .ensures) (c .before .before .before .before .if2 .taken) refl
-
-add-put-cell-2 : tie.Need-add-put-cell-2
-add-put-cell-2 c = search needs
-
-mul-t12 : tie.Need-mul-t12
-mul-t12 c = search needs
-
-add-t22 : tie.Need-add-t22
-add-t22 c = omega (arith, odd-free (c .before .before .before .before .before .before .args .area .now) _ _ _ _ (c .before .before .before .before .before .before .pre) (c .before .before .before .before .if1 .left) (c .before .before .cell-at .ensures) (c .before .if2 .left), c .before .before .before .before .before .before .pre .place)
-
-put-cell-requires-2 : tie.Need-put-cell-requires-2
-put-cell-requires-2 c κs = search needs
-
-same-length-2 : tie.Need-same-length-2
-same-length-2 c = search needs
-
-returns-3 : tie.Need-returns-3
-returns-3 c = linked-odd _ _ _ _ _ _ _ (c .before .before .before .before .before .before .before .before .before .pre) (c .before .before .before .before .before .before .before .if1 .left) (c .before .before .before .before .before .cell-at .ensures) (c .before .before .put-cell2 .ensures) (c .before .before .before .before .if2 .left) refl
+returns-2 c = linked _ _ _ _ _ _ (c .before .before .before .before .before .before .before .before .before .before .pre) (c .before .before .before .before .before .before .before .before .if1 .left) (c .before .before .before .before .before .before .cell-at .ensures) (c .before .before .before .before .shift .ensures) _ (c .before .before .put-cell .ensures)
 
 pub link-spec : {M : Type 1} → statement M
 link-spec =
@@ -56,13 +43,9 @@ link-spec =
     add-cell-at
     cell-at-requires
     add-put-cell
-    add-t17
+    shift-requires
+    shl-t15
+    add-t16
     put-cell-requires
     same-length
-    returns-2
-    add-put-cell-2
-    mul-t12
-    add-t22
-    put-cell-requires-2
-    same-length-2
-    returns-3)
+    returns-2)

@@ -1,7 +1,7 @@
 -- `branches::next_bits` compares the hash at the place with the state's. Assumes nothing.
 use mathlib.Core.Path.{_∙_}
 use borrow.Author.Needs.{needs}
-use Rattle.branches.proofs.PathLaws.{next-rehashed, next-halved}
+use Rattle.branches.proofs.PathLaws.{next-rehashed, next-digits}
 use Rattle.branches.proofs.next_bits.Statement.{statement}
 use Rattle.branches.proofs.next_bits.Tie as tie
 
@@ -18,7 +18,7 @@ returns : tie.Need-returns
 returns c = c .hash .ensures ∙ next-rehashed _ _ _ _ _ _ (c .before .before .before .cell-at .ensures) (c .before .before .before .before .before .pre .2) (c .before .if1 .taken)
 
 returns-2 : tie.Need-returns-2
-returns-2 c = next-halved _ _ _ _ _ _ (c .before .before .cell-at .ensures) (c .before .before .before .before .pre .2) (c .if1 .left)
+returns-2 c = next-digits _ _ _ _ _ _ (c .before .before .cell-at .ensures) (c .before .before .before .before .pre .2) (c .if1 .left)
 
 pub next-bits-spec : {M : Type 1} → statement M
 next-bits-spec = tie.close (tie.spec cell-at-requires add-hash hash-requires returns returns-2)

@@ -1,4 +1,4 @@
--- `BranchList::search` goes down by a bit a turn. The invariant: the way of the state's hashes has led to p, and every place where the state is lies on the
+-- `BranchList::search` goes down by a digit a turn. The invariant: the way of the state's hashes has led to p, and every place where the state is lies on the
 -- way from there. The measure is how far the top is, since links lead to later places. Assumes nothing.
 use mathlib.Core.Path.{refl, sym, _∙_}
 use Prim.Native.Nat.{_-_, _<_, _≤_}
