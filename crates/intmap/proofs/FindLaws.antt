@@ -1,5 +1,5 @@
 -- The laws of a search: what each turn of its loop leaves, and where what it finds lies. Assumes nothing.
-use mathlib.Core.Path.{_≡_, refl}
+use mathlib.Core.Path.{_≡_, refl, ap, _∙_}
 use mathlib.Core.List.{List}
 use mathlib.Core.Bool.{Bool, true, false, false≢true}
 use Prim.Native.Nat.{ℕ, zero, suc, _+_, _-_, _<_, _≤_}
@@ -72,6 +72,18 @@ module _ (cs : List Cell) (d key : ℕ) where
       go : (t : Bool) → pick t (seek cs d key n (p + size cs d p)) (place p (suc n) (eqb (keyOf (getD cs p blank)) key)) .present ≡ true → (seek cs d key n (p + size cs d p) .present ≡ true → keyOf (getD cs (seek cs d key n (p + size cs d p) .at) blank) ≡ key) → keyOf (getD cs (pick t (seek cs d key n (p + size cs d p)) (place p (suc n) (eqb (keyOf (getD cs p blank)) key)) .at) blank) ≡ key
       go true h ih = ih h
       go false h ih = eqb-true (keyOf (getD cs p blank)) key h
+
+  -- a search with no entry left ends behind all
+  pub seek-behind : (n p : ℕ) → seek cs d key n p .left ≡ 0 → seek cs d key n p ≡ place (p + sizes (size cs d) n p) 0 false
+  unfolding seek sizes
+  seek-behind zero p h = ap (λ x. place x 0 false) (omega arith)
+  seek-behind (suc n) p h = go (ltb (keyOf (getD cs p blank)) key) h (seek-behind n (p + size cs d p))
+    where
+      go : (t : Bool) → pick t (seek cs d key n (p + size cs d p)) (place p (suc n) (eqb (keyOf (getD cs p blank)) key)) .left ≡ 0
+          → (seek cs d key n (p + size cs d p) .left ≡ 0 → seek cs d key n (p + size cs d p) ≡ place (p + size cs d p + sizes (size cs d) n (p + size cs d p)) 0 false)
+          → pick t (seek cs d key n (p + size cs d p)) (place p (suc n) (eqb (keyOf (getD cs p blank)) key)) ≡ place (p + (size cs d p + sizes (size cs d) n (p + size cs d p))) 0 false
+      go true h ih = ih h ∙ ap (λ x. place x 0 false) (omega arith)
+      go false h ih = absurd (omega arith)
 
 pub seek-pos : (cs : List Cell) (d key n p : ℕ) → seek cs d key n p .present ≡ true → 0 < n
 unfolding seek

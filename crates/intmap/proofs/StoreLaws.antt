@@ -12,16 +12,16 @@ use Rattle.model.specs.Walk.{refused, done}
 use Rattle.area.specs.Cells.{blank}
 use Rattle.area.specs.Moves.{moved}
 use Rattle.area.specs.declared.Cell.{Cell}
-use Rattle.area.proofs.MoveLaws.{moved-below, moved-above, moved-in, length-moved}
+use Rattle.area.proofs.MoveLaws.{moved-none, moved-below, moved-above, moved-in, length-moved}
 use Rattle.intmap.specs.Pack.{tagOf, withKey}
 use Rattle.intmap.specs.Pick.{pick}
 use Rattle.intmap.specs.Runs.{size, sizes, IsColumn, Agree}
-use Rattle.intmap.specs.Find.{seek}
+use Rattle.intmap.specs.Find.{place as found, seek}
 use Rattle.intmap.specs.Entries.{Runs, span, entries, keyRun, total}
 use Rattle.intmap.specs.Swap.{swap, lookup}
 use Rattle.intmap.specs.Map.{levels, runsAt, IsMap, HasRoom, Frame}
 use Rattle.intmap.specs.Change.{rekey}
-use Rattle.intmap.specs.Store.{RoomMade, oldCells, newLen, Opens, put, Inserts, RunAbove, Removes}
+use Rattle.intmap.specs.Store.{RoomMade, oldCells, newLen, Behind, Opens, put, Inserts, RunAbove, Removes}
 use Rattle.intmap.specs.declared.Found.{Found}
 use Rattle.intmap.specs.declared.IntMap.{IntMap}
 use Rattle.intmap.specs.declared.Place.{Place}
@@ -29,7 +29,7 @@ use Rattle.intmap.specs.declared.Place.the-variants as place
 use Rattle.intmap.specs.declared.Insertion.the-variants as insertion
 use Rattle.intmap.proofs.RunLaws.{size-pos, size-single}
 use Rattle.intmap.proofs.SameCells.{size-same}
-use Rattle.intmap.proofs.FindLaws.{seek-pos, found-within, found-whole}
+use Rattle.intmap.proofs.FindLaws.{seek-pos, seek-behind, found-within, found-whole}
 use Rattle.intmap.proofs.EntryLaws.{span-same, length-span, total-sizes, entries-few}
 use Rattle.intmap.proofs.SwapLaws.{cellsOf, total-swap}
 use Rattle.intmap.proofs.ChangeLaws.{with, with-other, with-size, with-span, rekey-long, key-rekey}
@@ -118,6 +118,23 @@ module _ (cs ds : List Cell) (limit : ℕ) (m : IntMap) (w v : Found) (n : ℕ) 
       let k : m .len + 1 ≡ newLen (m .len) w = ap (λ (b : Bool). pick b (m .len) (m .len + 1)) (sym h) in
       subst (λ (x : Found). Opens cs ds limit m x n r) we
       (subst (λ (x : ℕ). RoomMade cs ds limit m (w .at) x n (newLen (m .len) w) r) o (subst (λ (x : ℕ). RoomMade cs ds limit m (w .at) 0 n x r) k t))
+
+-- the map with an entry of n cells more
+abbrev pub longer : IntMap → ℕ → IntMap
+longer m n = record { base = m .base; len = m .len + 1; used = m .used + n }
+
+-- room behind all entries: nothing moves
+module _ (cs : List Cell) (limit : ℕ) (m : IntMap) (key n : ℕ) (has : HasRoom cs limit m) (behind : Behind cs m key) where
+  at-end : found (m .base + m .used) 0 false ≡ seek cs levels key (m .len) (m .base)
+  at-end = ap (λ u. found (m .base + u) 0 false) (has .used) ∙ sym (seek-behind cs levels key (m .len) (m .base) behind)
+
+  pub behind-full : limit < m .used + n → Opens cs cs limit m (seek cs levels key (m .len) (m .base)) n place.Full
+  behind-full over = opened-new cs cs limit m (found (m .base + m .used) 0 false) _ n place.Full at-end refl (record { over = omega arith; same = refl })
+
+  pub behind-opened : m .used + n ≤ limit → Opens cs cs limit m (seek cs levels key (m .len) (m .base)) n (place.At (m .base + m .used) (longer m n))
+  behind-opened most =
+      opened-new cs cs limit m (found (m .base + m .used) 0 false) _ n (place.At (m .base + m .used) (longer m n)) at-end refl
+      (record { here = refl; base = refl; len = refl; used = omega arith; most = most; cells = moved-none cs _ _ _ (omega arith); long = refl })
 
 pub frame-same : (cs ds : List Cell) (base n : ℕ) → ds ≡ cs → Frame cs ds base n
 frame-same cs ds base n e = record { long = ap length e; below = λ j lt. ap (λ (l : List Cell). getD l j blank) e; above = λ j le. ap (λ (l : List Cell). getD l j blank) e }

@@ -1,4 +1,5 @@
--- What a search finds is what the key has by `lookup`, and what the area holds once other runs stand in the place of it is `swap`. Assumes nothing.
+-- What a search finds is what the key has by `lookup`, and above all keys it leads behind all entries. What the area holds once other runs stand
+-- in the place of what was found is `swap`. Assumes nothing.
 use mathlib.Core.Path.{_≡_, refl, sym, ap, ap₂, _∙_}
 use mathlib.Core.List.{List, [], _∷_, _++_}
 use mathlib.Core.Bool.{Bool, true, false, false≢true}
@@ -17,8 +18,9 @@ use Rattle.intmap.specs.Entries.{Runs, span, entries, keyRun}
 use Rattle.intmap.specs.Swap.{swap, lookup}
 use Rattle.intmap.proofs.RunLaws.{size-pos}
 use Rattle.intmap.proofs.SameCells.{size-same}
-use Rattle.intmap.proofs.FindLaws.{seek-from, seek-pos}
+use Rattle.intmap.proofs.FindLaws.{seek-past, seek-from, seek-pos}
 use Rattle.intmap.proofs.EntryLaws.{key-span, entry-same, entries-same}
+use Rattle.intmap.proofs.SwapLaws.{Under}
 
 module _ (cs : List Cell) (d key : ℕ) where
   key-first : (n p : ℕ) → keyRun (span cs p (size cs d p)) ≡ keyOf (getD cs p blank)
@@ -47,6 +49,12 @@ module _ (cs : List Cell) (d key : ℕ) where
           → pick t (lookup key (entries cs d n (p + size cs d p))) (pick (eqb (keyOf (getD cs p blank)) key) (some (span cs p (size cs d p))) none) ≡ none
       go true h ih = ih h
       go false h ih = ap (λ (b : Bool). pick b (some (span cs p (size cs d p))) none) h
+
+  -- where all keys are lower, it leads behind them
+  pub seek-under : (n p : ℕ) → Under key (entries cs d n p) → seek cs d key n p .left ≡ 0
+  unfolding entries
+  seek-under zero p u = unfold seek in refl
+  seek-under (suc n) p u = ap (λ w. w .left) (seek-past cs d key n p (omega (arith, key-first n p, u .0))) ∙ seek-under n (p + size cs d p) (u .1)
 
 append-nil : (l : Runs) → l ++ [] ≡ l
 append-nil [] = refl
