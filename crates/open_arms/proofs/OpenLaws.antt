@@ -59,7 +59,11 @@ stored-at : (limit key depth : ℕ) (run : List Cell) (es : Runs) → depth ≤ 
 unfolding storeAt judgeDepth
 stored-at limit key depth run es h = ap (λ b. depthIf b run >>= λ v. judgeRuns limit (put (rekey key v) es)) (sym (le-leb depth 8 h))
 
-module _ (limit : ℕ) (cs ds : List Cell) (a : IntMap) (row key from n : ℕ) (small : row ≤ 65535) (ke : key ≡ classKey 2 row) (x : Insertion) (ins : Inserts cs ds limit a (rekey key (span cs from n)) x) where
+-- a run stored under a key that is told otherwise
+pub stored-as : (cs ds : List Cell) (limit : ℕ) (a : IntMap) (key k from n : ℕ) (x : Insertion) → key ≡ k → Inserts cs ds limit a (rekey key (span cs from n)) x → Inserts cs ds limit a (rekey k (span cs from n)) x
+stored-as cs ds limit a key k from n x e ins = subst (λ z. Inserts cs ds limit a (rekey z (span cs from n)) x) e ins
+
+module _ (limit : ℕ) (cs ds : List Cell) (a : IntMap) (row from n : ℕ) (small : row ≤ 65535) (x : Insertion) (ins : Inserts cs ds limit a (rekey (classKey 2 row) (span cs from n)) x) where
   abbrev storing : TableDataType → MemoryState → Tried MemoryState
   storing t m = storeTable limit row t m
 
@@ -70,7 +74,7 @@ module _ (limit : ℕ) (cs ds : List Cell) (a : IntMap) (row key from n : ℕ) (
     answer : answerOf ds x ≡ storeAt limit (classKey 2 row) (columnsDepth (t .cols)) (runTable (its .key) t) (runsAt cs a)
     answer =
         ins .answer
-        ∙ ap₂ (λ z r. judgeRuns limit (put (rekey z r) (runsAt cs a))) ke (its .run)
+        ∙ ap (λ r. judgeRuns limit (put (rekey (classKey 2 row) r) (runsAt cs a))) (its .run)
         ∙ stored-at limit (classKey 2 row) (columnsDepth (t .cols)) (runTable (its .key) t) (runsAt cs a) (its .shallow)
 
     table-full : x ≡ insertion.Full → Leads limit cs ds a (stored.Refused 8) (storing t)
@@ -83,7 +87,7 @@ module _ (limit : ℕ) (cs ds : List Cell) (a : IntMap) (row key from n : ℕ) (
 
     table-done : (b : IntMap) → x ≡ insertion.Done b → Leads limit cs ds a (stored.Done b) (storing t)
     table-done b e =
-        let next = subst (λ y. Inserts cs ds limit a (rekey key (span cs from n)) y) e ins in
+        let next = subst (λ y. Inserts cs ds limit a (rekey (classKey 2 row) (span cs from n)) y) e ins in
         record {
           says = λ bound m le h. held-table h row small (its .key) t (its .sorted) .next ds (b .base) (b .len) (b .used) (runsAt ds b) (sym answer ∙ ap (answerOf ds) e) refl (next .leaves .room .used);
           leaves = record { base = next .leaves .base; room = next .leaves .room };
@@ -113,8 +117,8 @@ module _ (limit : ℕ) (cs ds : List Cell) (a : IntMap) (row key from n : ℕ) (
         }
 
     module _ (b : IntMap) (e : x ≡ insertion.Done b) where
-      next : Inserts cs ds limit a (rekey key (span cs from n)) (insertion.Done b)
-      next = subst (λ y. Inserts cs ds limit a (rekey key (span cs from n)) y) e ins
+      next : Inserts cs ds limit a (rekey (classKey 2 row) (span cs from n)) (insertion.Done b)
+      next = subst (λ y. Inserts cs ds limit a (rekey (classKey 2 row) (span cs from n)) y) e ins
 
       pub next-current : IsTable limit cs from n → Current limit ds b
       next-current is = led-current current b (table-done (is .table) (is .stands) b e)

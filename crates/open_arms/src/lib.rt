@@ -3,7 +3,10 @@
 ghost use Prim.Native.Nat.{_+_, _<_, _≤_};
 ghost use Rattle.model.specs.Operation.{opOpenEphemeral};
 ghost use Rattle.area.specs.Cells.{cells, Inside};
-ghost use Rattle.intmap.specs.Store.{RunAbove};
+ghost use Rattle.intmap.specs.Pack.{classKey};
+ghost use Rattle.intmap.specs.Entries.{span};
+ghost use Rattle.intmap.specs.Change.{rekey};
+ghost use Rattle.intmap.specs.Store.{Inserts, RunAbove};
 ghost use Rattle.rows.specs.Judged.{IsRow};
 ghost use Rattle.state.specs.Leads.{Current};
 ghost use Rattle.state.specs.Arms.{CursorArm};
@@ -14,6 +17,26 @@ use intmap::IntMap;
 use intmap::Stored;
 use rows::Row;
 use type_info::DataType;
+
+// Stores the run of n cells at `from`, behind the map, as the row's table. Behind all entries, where it belongs if it is new, nothing moves.
+fn insert_table(
+    map: IntMap,
+    area: &mut [u8],
+    row: u64,
+    from: usize,
+    n: usize,
+    limit: usize,
+) -> Insertion
+    requires { ⌜ Current limit (cells (now area)) map × (row ≤ 65535) × RunAbove (cells (now area)) limit map from n ⌝ }
+    ensures { λ r. ⌜ Inserts (cells (now (area .entry))) (cells (now (area .exit))) limit map (rekey (classKey 2 row) (span (cells (now (area .entry))) from n)) r ⌝ }
+{
+    let key = intmap::class_key(cursor_arms::TABLES, row);
+    let found = state::place_of(map, area, cursor_arms::TABLES, row);
+    if found.left == 0 {
+        return map.append_run(area, key, from, n, limit);
+    }
+    map.insert_run_at(area, found, key, from, n, limit)
+}
 
 // Stores the table whose run of n cells stands at `from`, behind the map, under the row's number, and then cursor i on it.
 pub fn open_table(
@@ -28,9 +51,7 @@ pub fn open_table(
     requires { ⌜ Current limit (cells (now area)) map × (row ≤ 65535) × RunAbove (cells (now area)) limit map from n × IsTable limit (cells (now area)) from n ⌝ }
     ensures { λ r. ⌜ OpensTable limit (cells (now (area .entry))) (cells (now (area .exit))) map row i from n r ⌝ }
 {
-    let key = intmap::class_key(cursor_arms::TABLES, row);
-    let found = state::place_of(map, area, cursor_arms::TABLES, row);
-    let x = map.insert_run_at(area, found, key, from, n, limit);
+    let x = insert_table(map, area, row, from, n, limit);
     match x {
         Insertion::Full => Stored::Refused(8),
         Insertion::Done(m) => cursor_arms::store_normal(m, area, i, row, limit),

@@ -1,21 +1,11 @@
 -- `open_arms::open_table` stores the run, then the cursor. Assumes nothing.
 use Rattle.open_arms.proofs.OpenLaws.{open-full, next-current, open-done}
-use mathlib.Core.Path.{sym}
-use Rattle.state.proofs.LeadsLaws.{current-held}
-use Rattle.state.proofs.OwnLaws.{key-as}
-use native.Mathlib.Omega.{arith}
 use borrow.Author.Needs.{needs}
 use Rattle.open_arms.proofs.open_table.Statement.{statement}
 use Rattle.open_arms.proofs.open_table.Tie as tie
 
-class-key-requires : tie.Need-class-key-requires
-class-key-requires c κs = search needs
-
-place-of-requires : tie.Need-place-of-requires
-place-of-requires c κs = (current-held (c .before .before .before .pre .0), omega arith, c .before .before .before .pre .1)
-
-insert-run-at-requires : tie.Need-insert-run-at-requires
-insert-run-at-requires c κs = (c .before .before .before .before .before .pre .0 .room, c .before .before .before .before .before .pre .2, omega (arith, c .before .before .before .class-key .ensures, c .before .before .before .before .before .pre .1), key-as _ (c .before .before .before .before .before .args .map) _ _ _ (sym (c .before .before .before .class-key .ensures)) (c .before .place-of .ensures))
+insert-table-requires : tie.Need-insert-table-requires
+insert-table-requires c κs = search needs
 
 enum-told : tie.Need-enum-told
 enum-told c = search needs
@@ -24,27 +14,25 @@ enum-known-x : tie.Need-enum-known-x
 enum-known-x c = search needs
 
 store-normal-requires : tie.Need-store-normal-requires
-store-normal-requires c κs = (next-current _ _ _ _ _ _ _ _ (c .before .before .before .before .before .before .before .before .before .before .before .before .pre .1) (c .before .before .before .before .before .before .before .before .before .before .class-key .ensures) _ (c .before .before .before .before .before .before .insert-run-at .ensures) (c .before .before .before .before .before .before .before .before .before .before .before .before .pre .0) 0 _ (c .before .before .x .given .1) (c .before .before .before .before .before .before .before .before .before .before .before .before .pre .3), c .before .before .before .before .before .before .before .before .before .before .before .before .pre .1)
+store-normal-requires c κs = (next-current _ _ _ _ _ _ _ (c .before .before .before .before .before .before .before .before .before .pre .1) _ (c .before .before .before .before .before .before .insert-table .ensures) (c .before .before .before .before .before .before .before .before .before .pre .0) 0 _ (c .before .before .x .given .1) (c .before .before .before .before .before .before .before .before .before .pre .3), c .before .before .before .before .before .before .before .before .before .pre .1)
 
 same-length : tie.Need-same-length
 same-length c = search needs
 
 returns : tie.Need-returns
-returns c = open-full _ _ _ _ _ _ _ _ (c .before .before .before .before .before .before .before .before .before .before .pre .1) (c .before .before .before .before .before .before .before .before .class-key .ensures) _ (c .before .before .before .before .insert-run-at .ensures) (c .before .before .before .before .before .before .before .before .before .before .pre .0) _ (c .enum-told .given .1)
+returns c = open-full _ _ _ _ _ _ _ (c .before .before .before .before .before .before .before .pre .1) _ (c .before .before .before .before .insert-table .ensures) (c .before .before .before .before .before .before .before .pre .0) _ (c .enum-told .given .1)
 
 same-length-2 : tie.Need-same-length-2
 same-length-2 c = search needs
 
 returns-2 : tie.Need-returns-2
-returns-2 c = open-done _ _ _ _ _ _ _ _ (c .before .before .before .before .before .before .before .before .before .before .before .before .before .before .before .pre .1) (c .before .before .before .before .before .before .before .before .before .before .before .before .before .class-key .ensures) _ (c .before .before .before .before .before .before .before .before .before .insert-run-at .ensures) (c .before .before .before .before .before .before .before .before .before .before .before .before .before .before .before .pre .0) _ _ (c .before .before .before .before .before .x .given .1) _ _ (c .before .before .store-normal .ensures)
+returns-2 c = open-done _ _ _ _ _ _ _ (c .before .before .before .before .before .before .before .before .before .before .before .before .pre .1) _ (c .before .before .before .before .before .before .before .before .before .insert-table .ensures) (c .before .before .before .before .before .before .before .before .before .before .before .before .pre .0) _ _ (c .before .before .before .before .before .x .given .1) _ _ (c .before .before .store-normal .ensures)
 
 pub open-table-spec : {M : Type 1} → statement M
 open-table-spec =
     tie.close
     (tie.spec
-    class-key-requires
-    place-of-requires
-    insert-run-at-requires
+    insert-table-requires
     enum-told
     enum-known-x
     store-normal-requires
