@@ -27,6 +27,25 @@ pub from-append : (low : ℕ) (a b : Runs) → From low a → From low b → Fro
 from-append low [] b f g = g
 from-append low (r ∷ a) b f g = f
 
+-- keys are below a higher bound too, and stay below one if runs below it are put among them
+pub under-more : (low high : ℕ) (rs : Runs) → low ≤ high → Under low rs → Under high rs
+under-more low high [] le u = tt
+under-more low high (r ∷ rs) le u = (omega (arith, u .0), under-more low high rs le (u .1))
+
+under-append : (high : ℕ) (a b : Runs) → Under high a → Under high b → Under high (a ++ b)
+under-append high [] b u v = v
+under-append high (r ∷ a) b u v = (u .0, under-append high a b (u .1) v)
+
+pub under-swap : (key high : ℕ) (new rs : Runs) → Under high new → Under high rs → Under high (swap key new rs)
+unfolding swap
+under-swap key high new [] u v = u
+under-swap key high new (r ∷ rs) u v = by (ltb (keyRun r) key) (eqb (keyRun r) key) (under-swap key high new rs u (v .1))
+  where
+    by : (s t : Bool) → Under high (swap key new rs) → Under high (pick s (r ∷ swap key new rs) (pick t (new ++ rs) (new ++ r ∷ rs)))
+    by true t rest = (v .0, rest)
+    by false true rest = under-append high new rs u (v .1)
+    by false false rest = under-append high new (r ∷ rs) u v
+
 -- the first run by its key
 module _ (key : ℕ) (r : List Cell) (rs : Runs) where
   module _ (h : keyRun r < key) where

@@ -1,6 +1,6 @@
 -- A record in a cell of the blocks: when it is one for a row, and its column among the columns gathered so far. Assumes nothing.
 use mathlib.Core.Path.{_≡_, refl, sym, ap, ap₂, _∙_}
-use mathlib.Core.Bool.{Bool, true, false, _&&_, not}
+use mathlib.Core.Bool.{true, false, _&&_, not}
 use mathlib.Core.Option.{some}
 use mathlib.Core.List.{List, [], _∷_}
 use Prim.Native.Nat.{ℕ, _+_}
@@ -19,8 +19,8 @@ use Rattle.intmap.specs.Pack.{tagOf}
 use Rattle.intmap.specs.Pick.{pick}
 use Rattle.intmap.specs.Swap.{swap}
 use Rattle.intmap.specs.Entries.{total}
-use Rattle.intmap.specs.Map.{levels, runsAt, HasRoom}
-use Rattle.intmap.specs.Store.{put, judgeRuns, Inserts}
+use Rattle.intmap.specs.Map.{levels, runsAt, HasRoom, Frame}
+use Rattle.intmap.specs.Store.{put, judgeRuns, answerOf, Leaves, Inserts}
 use Rattle.intmap.specs.Signed.{offset, intOf}
 use Rattle.intmap.specs.declared.IntMap.{IntMap}
 use Rattle.intmap.specs.declared.Insertion.{Insertion}
@@ -32,8 +32,8 @@ use Rattle.encoding.specs.Encode.{nullableCode, single, runColumn, columnRuns}
 use Rattle.encoding.proofs.Packing.{column-key}
 use Rattle.encoding.proofs.MapRuns.{runsBy, insert-by}
 use Rattle.rows.specs.declared.Row.{Row}
-use Rattle.root_block.specs.Blocks.{pageOf, dbOf, columnOf, IsBlock}
-use Rattle.read_arm.specs.Gathers.{Adds}
+use Rattle.root_block.specs.Blocks.{columnOf, IsBlock}
+use Rattle.read_arm.specs.Gathers.{blockFor}
 
 -- ---- a database and a page
 
@@ -73,16 +73,19 @@ put-column k v es =
     ∙ insert-by runColumn column-key (λ j. j) (λ i j lt. lt) k v es
     ∙ as-map (insert k v es)
 
-module _ (limit : ℕ) (cs : List Cell) (m : IntMap) (c : Cell) (x : Row) where
-  -- what the test says of the record
-  abbrev its : Bool
-  its = eqInt (pos (dbOf c)) (intOf (x .p3)) && eqInt (pos (pageOf c)) (intOf (x .p2))
+-- of any columns that the map holds, it then holds those with the column of the record in a cell, if the record is one for the row; they may be
+-- too many
+pub record Adds (limit : ℕ) (cs ds : List Cell) (m : IntMap) (c : Cell) (x : Row) (y : Insertion) : Type 0 where
+  pub answer : (r : CatalogueRecord) → IsBlock c r → (es : List (Entry ColumnType)) → runsAt cs m ≡ columnRuns (asColumns es) → answerOf ds y ≡ judgeRuns limit (columnRuns (asColumns (addIf (isFor (intOf (x .p3)) (intOf (x .p2)) r) r es)))
+  pub leaves : Leaves cs ds limit m y
+  pub frame : Frame cs ds (m .base) limit
 
-  its-for : (r : CatalogueRecord) → IsBlock c r → isFor (intOf (x .p3)) (intOf (x .p2)) r ≡ its
+module _ (limit : ℕ) (cs : List Cell) (m : IntMap) (c : Cell) (x : Row) where
+  its-for : (r : CatalogueRecord) → IsBlock c r → isFor (intOf (x .p3)) (intOf (x .p2)) r ≡ blockFor c x
   unfolding isFor
   its-for r is = ap₂ (λ d p. eqInt (pos d) (intOf (x .p3)) && eqInt (pos p) (intOf (x .p2))) (sym (is .db)) (sym (is .page))
 
-  pub added-not : its ≡ false → HasRoom cs limit m → Adds limit cs cs m c x (insertion.Done m)
+  pub added-not : blockFor c x ≡ false → HasRoom cs limit m → Adds limit cs cs m c x (insertion.Done m)
   added-not f room =
       record {
         answer = λ r is es e.
@@ -93,7 +96,7 @@ module _ (limit : ℕ) (cs : List Cell) (m : IntMap) (c : Cell) (x : Row) where
         frame = frame-same cs cs (m .base) limit refl;
       }
 
-  pub added : its ≡ true → (ds : List Cell) (y : Insertion) → Inserts cs ds limit m (columnOf c ∷ []) y → Adds limit cs ds m c x y
+  pub added : blockFor c x ≡ true → (ds : List Cell) (y : Insertion) → Inserts cs ds limit m (columnOf c ∷ []) y → Adds limit cs ds m c x y
   added f ds y ins =
       record {
         answer = λ r is es e.

@@ -21,25 +21,27 @@ use Rattle.model.specs.CursorArms.{columnsIf}
 use Rattle.model.specs.Good.{Each}
 use Rattle.area.specs.Cells.{blank, cells, Inside}
 use Rattle.area.specs.declared.Cell.{Cell}
-use Rattle.intmap.specs.Pack.{tagOf}
+use Rattle.intmap.specs.Pack.{tagOf, keyOf}
 use Rattle.intmap.specs.Pick.{pick}
-use Rattle.intmap.specs.Entries.{Runs, entries, total}
-use Rattle.intmap.specs.Map.{empty, runsAt, HasRoom, Frame}
-use Rattle.intmap.specs.Store.{judgeRuns, answerOf}
+use Rattle.intmap.specs.Entries.{Runs, entries, keyRun, total}
+use Rattle.intmap.specs.Map.{levels, empty, runsAt, HasRoom, Frame}
+use Rattle.intmap.specs.Store.{put, judgeRuns, answerOf, Behind, Inserts}
 use Rattle.intmap.specs.Signed.{offset, intOf}
 use Rattle.intmap.specs.declared.IntMap.{IntMap}
 use Rattle.intmap.specs.declared.Insertion.{Insertion}
 use Rattle.intmap.specs.declared.Insertion.the-variants as insertion
 use Rattle.intmap.proofs.MapLaws.{empty-room}
 use Rattle.intmap.proofs.StoreLaws.{frame-same}
+use Rattle.intmap.proofs.SwapLaws.{Under, under-more, under-swap}
+use Rattle.intmap.proofs.Swapped.{seek-under}
 use Rattle.intmap.proofs.SignedLaws.{int-below, int-above}
 use Rattle.encoding.specs.Encode.{columnRuns}
 use Rattle.encoding.proofs.Lengths.{length-flatten, columns-length}
 use Rattle.rows.specs.declared.Row.{Row}
 use Rattle.state.proofs.LeadsLaws.{frame-then}
 use Rattle.root_block.specs.Blocks.{nextOf, columnOf, firstOf, IsBlock, inBucket, Chain, HasBlocks, IsBlocks}
-use Rattle.read_arm.specs.Gathers.{Adds, atPage, atDatabase, Gathers, GathersTo}
-use Rattle.read_arm.proofs.ColumnLaws.{number-same, column-plain}
+use Rattle.read_arm.specs.Gathers.{blockFor, atPage, atDatabase, Gathers, GathersTo}
+use Rattle.read_arm.proofs.ColumnLaws.{number-same, column-plain, Adds, added-not, added}
 
 -- ---- judged runs
 
@@ -60,6 +62,12 @@ judged-done limit old rs = by (leb (total rs) limit)
     by : (b : Bool) → done old ≡ pick b (done rs) (refused 8) → old ≡ rs
     by true e = cc
     by false e = absurd (omega (arith, ap refusal e))
+
+-- a cell that is stored leaves the keys below any bound that is above its own
+inserted-under : (cs ds : List Cell) (limit : ℕ) (m : IntMap) (c : Cell) (r : IntMap) (high : ℕ) → Inserts cs ds limit m (c ∷ []) (insertion.Done r) → keyOf c < high → Under high (runsAt cs m) → Under high (runsAt ds r)
+unfolding keyRun
+inserted-under cs ds limit m c r high ins less under =
+    subst (Under high) (sym (judged-done limit (runsAt ds r) (put (c ∷ []) (runsAt cs m)) (ins .answer))) (under-swap (keyOf c) high ((c ∷ []) ∷ []) (runsAt cs m) (less, tt) under)
 
 -- ---- every column is a cell, and none is lost
 
@@ -179,16 +187,18 @@ pub record Followed (ds : List Cell) (bs : List ℕ) (x : Row) (link : ℕ) (m :
   pub chain : Chain (cells bs) low link rest
   pub runs : runsAt ds m ≡ columnRuns (asColumns (after x [] first))
 
-pub record Gathering (limit : ℕ) (cs ds : List Cell) (base : ℕ) (bs : List ℕ) (x : Row) (link : ℕ) (m : IntMap) : Type 0 where
+-- of all records that the bytes can hold; and the map's keys are below the bound
+pub record Gathering (limit : ℕ) (cs ds : List Cell) (base : ℕ) (bs : List ℕ) (x : Row) (link : ℕ) (m : IntMap) (bound : ℕ) : Type 0 where
   pub says : (records : List CatalogueRecord) → HasBlocks bs records → Followed ds bs x link m records
   pub place : m .base ≡ base
   pub room : HasRoom ds limit m
+  pub under : Under bound (runsAt ds m)
   pub frame : Frame cs ds base limit
 
-pub gathering-first : (limit : ℕ) (cs : List Cell) (base : ℕ) (bs : List ℕ) (x : Row) (link : ℕ) (m : IntMap) → base + limit ≤ length cs → length cs ≤ 1048576 → m ≡ empty base → link ≡ firstOf (getD (cells bs) (x .p2 % length (cells bs)) blank) → Gathering limit cs cs base bs x link m
+pub gathering-first : (limit : ℕ) (cs : List Cell) (base : ℕ) (bs : List ℕ) (x : Row) (link : ℕ) (m : IntMap) (bound : ℕ) → base + limit ≤ length cs → length cs ≤ 1048576 → m ≡ empty base → link ≡ firstOf (getD (cells bs) (x .p2 % length (cells bs)) blank) → Gathering limit cs cs base bs x link m bound
 unfolding entries columnsAfter asColumns columnRuns
-gathering-first limit cs base bs x link m fits small e f =
-    subst (Gathering limit cs cs base bs x link) (sym e)
+gathering-first limit cs base bs x link m bound fits small e f =
+    subst (λ a. Gathering limit cs cs base bs x link a bound) (sym e)
     (record {
       says = λ records h. record {
         first = [];
@@ -200,6 +210,7 @@ gathering-first limit cs base bs x link m fits small e f =
       };
       place = refl;
       room = empty-room cs limit base fits small;
+      under = tt;
       frame = frame-same cs cs base limit refl;
     })
 
@@ -225,7 +236,7 @@ chain-on : (cs : List Cell) (low link : ℕ) (rest : List CatalogueRecord) → C
 chain-on cs low link [] c = inl c
 chain-on cs low link (r ∷ rest) c = inr (c .0)
 
-module _ {limit : ℕ} {cs ds : List Cell} {base : ℕ} {bs : List ℕ} {x : Row} {link : ℕ} {m : IntMap} (g : Gathering limit cs ds base bs x link m) where
+module _ {limit : ℕ} {cs ds : List Cell} {base : ℕ} {bs : List ℕ} {x : Row} {link : ℕ} {m : IntMap} {bound : ℕ} (g : Gathering limit cs ds base bs x link m bound) where
   -- the columns of the bucket's records are those of all
   of-all : (records first : List CatalogueRecord) → inBucket (length (cells bs)) (x .p2 % length (cells bs)) records ≡ first → asColumns (after x [] first) ≡ atPage x records
   unfolding columnsAt
@@ -286,19 +297,19 @@ module _ {limit : ℕ} {cs ds : List Cell} {base : ℕ} {bs : List ℕ} {x : Row
         framed : Frame cs es base limit
         framed = frame-then cs ds es base limit (g .frame) (subst (λ p. Frame ds es p limit) (g .place) (a .frame))
 
-        pub gathering-full : z ≡ insertion.Full → Gathers limit cs es base bs (atPage x) insertion.Full
-        gathering-full full =
+        full : z ≡ insertion.Full → Gathers limit cs es base bs (atPage x) insertion.Full
+        full is =
             record {
               answer = λ records h.
                   (let first = passed records h in
                   let more = linked records h .more in
-                  let over = judged-full limit (columnRuns (asColumns (after x [] first))) (sym (ap (answerOf es) full) ∙ answer records h) in
+                  let over = judged-full limit (columnRuns (asColumns (after x [] first))) (sym (ap (answerOf es) is) ∙ answer records h) in
                   subst (λ k. limit < columnsCells k) (of-all records (first ++ more) (passed-all records h)) (omega (arith, over, more-cells x first more)));
               frame = framed;
             }
 
-        pub gathering-next : (b : IntMap) → z ≡ insertion.Done b → Gathering limit cs es base bs x (nextOf c) b
-        gathering-next b is =
+        next : (b : IntMap) (high : ℕ) → z ≡ insertion.Done b → Under high (runsAt es b) → Gathering limit cs es base bs x (nextOf c) b high
+        next b high is under =
             let kept = subst (Adds limit ds es m c x) is a in
             record {
               says = λ records h. record {
@@ -311,8 +322,27 @@ module _ {limit : ℕ} {cs ds : List Cell} {base : ℕ} {bs : List ℕ} {x : Row
               };
               place = kept .leaves .base ∙ g .place;
               room = kept .leaves .room;
+              under = under;
               frame = framed;
             }
+
+      -- a record that is not for the row
+      pub gathering-passed : blockFor c x ≡ false → Gathering limit cs ds base bs x (nextOf c) m bound
+      gathering-passed f = next ds (insertion.Done m) (added-not limit ds m c x f (g .room)) m bound refl (g .under)
+
+      -- a key that is not below the bound belongs behind all
+      pub gathering-behind : (key : ℕ) → key ≡ keyOf (columnOf c) → bound ≤ key → Behind ds m (keyOf (columnOf c))
+      gathering-behind key e le = seek-under ds levels (keyOf (columnOf c)) (m .len) (m .base) (under-more bound (keyOf (columnOf c)) (runsAt ds m) (omega (arith, e)) (g .under))
+
+      -- a record that is for the row
+      module _ (f : blockFor c x ≡ true) (es : List Cell) (z : Insertion) (ins : Inserts ds es limit m (columnOf c ∷ []) z) where
+        pub gathering-full : z ≡ insertion.Full → Gathers limit cs es base bs (atPage x) insertion.Full
+        gathering-full = full es z (added limit ds m c x f es z ins)
+
+        pub gathering-added : (b : IntMap) (high : ℕ) → z ≡ insertion.Done b → keyOf (columnOf c) < high → bound ≤ high → Gathering limit cs es base bs x (nextOf c) b high
+        gathering-added b high is less more =
+            next es z (added limit ds m c x f es z ins) b high is
+            (inserted-under ds es limit m (columnOf c) b high (subst (Inserts ds es limit m (columnOf c ∷ [])) is ins) less (under-more bound high (runsAt ds m) more (g .under)))
 
 -- ---- the database
 

@@ -1,22 +1,20 @@
 -- OpenRead and OpenWrite: the columns that the catalogue's records have for a row's database and page, gathered in the area as runs in the order
 -- of their numbers, and the arm. P3 is the database and P2 the page. The records are in the blocks' bytes. Assumes nothing.
 use mathlib.Core.Path.{_≡_}
-use mathlib.Core.Bool.{_||_}
+use mathlib.Core.Bool.{Bool, _&&_, _||_}
 use mathlib.Core.List.{List}
 use Prim.Native.Nat.{ℕ, _<_}
 use lib.IntN.{ℤ, pos}
 use Rattle.model.specs.Row.{Row as Listed}
-use Rattle.model.specs.IntMap.{Entry}
-use Rattle.model.specs.State.{ColumnType, Columns, asColumns}
+use Rattle.model.specs.State.{Columns}
 use Rattle.model.specs.Equality.{eqInt, isZeroInt}
 use Rattle.model.specs.Cells.{columnsCells}
-use Rattle.model.specs.Catalogue.{CatalogueRecord, isFor, addIf, columnsAt}
+use Rattle.model.specs.Catalogue.{CatalogueRecord, columnsAt}
 use Rattle.model.specs.Meaning.{Meaning}
 use Rattle.model.specs.Operation.{opOpenRead}
 use Rattle.model.specs.CursorArms.{columnsIf, cursorArm}
 use Rattle.area.specs.declared.Cell.{Cell}
 use Rattle.intmap.specs.Map.{runsAt, HasRoom, Frame}
-use Rattle.intmap.specs.Store.{judgeRuns, answerOf, Leaves}
 use Rattle.intmap.specs.Signed.{intOf}
 use Rattle.intmap.specs.declared.IntMap.{IntMap}
 use Rattle.intmap.specs.declared.Insertion.{Insertion}
@@ -27,14 +25,11 @@ use Rattle.rows.specs.Judged.{Judged}
 use Rattle.rows.specs.declared.Row.{Row}
 use Rattle.state.specs.Leads.{Leads}
 use Rattle.state.specs.Arms.{Standard}
-use Rattle.root_block.specs.Blocks.{IsBlock, HasBlocks}
+use Rattle.root_block.specs.Blocks.{pageOf, dbOf, HasBlocks}
 
--- of any columns that the map holds, it then holds those with the column of the record in a cell, if the record is one for the row; they may be
--- too many
-pub record Adds (limit : ℕ) (cs ds : List Cell) (m : IntMap) (c : Cell) (x : Row) (y : Insertion) : Type 0 where
-  pub answer : (r : CatalogueRecord) → IsBlock c r → (es : List (Entry ColumnType)) → runsAt cs m ≡ columnRuns (asColumns es) → answerOf ds y ≡ judgeRuns limit (columnRuns (asColumns (addIf (isFor (intOf (x .p3)) (intOf (x .p2)) r) r es)))
-  pub leaves : Leaves cs ds limit m y
-  pub frame : Frame cs ds (m .base) limit
+-- the record in a cell is one for the row
+abbrev pub blockFor : Cell → Row → Bool
+blockFor c x = eqInt (pos (dbOf c)) (intOf (x .p3)) && eqInt (pos (pageOf c)) (intOf (x .p2))
 
 -- the columns of the row's database and page, and none if P3 is no database
 abbrev pub atPage : Row → List CatalogueRecord → Columns

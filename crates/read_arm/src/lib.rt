@@ -8,13 +8,11 @@ ghost use lib.IntN.{pos};
 ghost use lib.ListN.{length};
 ghost use Rattle.model.specs.Equality.{eqInt};
 ghost use Rattle.area.specs.Cells.{cells};
-ghost use Rattle.intmap.specs.Pack.{tagOf};
-ghost use Rattle.intmap.specs.Map.{HasRoom};
 ghost use Rattle.intmap.specs.Signed.{intOf};
 ghost use Rattle.rows.specs.Judged.{IsRow};
 ghost use Rattle.state.specs.Leads.{Current};
-ghost use Rattle.root_block.specs.Blocks.{columnOf, IsBlocks};
-ghost use Rattle.read_arm.specs.Gathers.{Adds, atPage, atDatabase, Gathers, ReadsTable};
+ghost use Rattle.root_block.specs.Blocks.{IsBlocks};
+ghost use Rattle.read_arm.specs.Gathers.{blockFor, atPage, atDatabase, Gathers, ReadsTable};
 use area::Cell;
 use intmap::Insertion;
 use intmap::IntMap;
@@ -32,44 +30,49 @@ fn is_for(db: u64, page: u64, x: Row) -> bool
     intmap::ZERO + page == x.p2
 }
 
-// Adds the column of the record in a cell to those in the map, in the place of one that has its number, if the record is one for the row.
-fn add_column(m: IntMap, area: &mut [u8], c: Cell, x: Row, limit: usize) -> Insertion
-    requires { ⌜ HasRoom (cells (now area)) limit m × (tagOf (columnOf c) ≡ 2 → ⊥) ⌝ }
-    ensures { λ y. ⌜ Adds limit (cells (now (area .entry))) (cells (now (area .exit))) m c x y ⌝ }
+// Whether the record in a cell is one for the row.
+fn is_block_for(c: Cell, x: Row) -> bool
+    ensures { λ r. ⌜ r ≡ blockFor c x ⌝ }
 {
     let payload = c.payload;
     let db = payload / root_block::PAGES % 2;
     let page = payload % root_block::PAGES;
-    if !is_for(db, page, x) {
-        return Insertion::Done(m);
-    }
-    let column = Cell {
-        head: c.head % root_block::COLUMN,
-        payload: 0,
-    };
-    m.insert_cell(area, column, limit)
+    is_for(db, page, x)
 }
 
 // Gathers the columns of the row's database and page from `base` on, in at most `limit` cells: a later record takes the place of an earlier one
-// for the same column.
+// for the same column. All keys in the map are below `bound`, so a column that is not goes behind all with no search: most records come in the
+// order of their columns.
 fn columns_at(area: &mut [u8], blocks: &[u8], base: usize, x: Row, limit: usize) -> Insertion
     requires { ⌜ (base + limit ≤ length (cells (now area))) × (length (cells (now area)) ≤ 1048576) × IsBlocks (now blocks) ⌝ }
     ensures { λ r. ⌜ Gathers limit (cells (now (area .entry))) (cells (now (area .exit))) base (now (blocks .entry)) (atPage x) r ⌝ }
 {
     let mut m = IntMap::new(base);
+    let mut bound: u64 = 0;
     let mut link = root_block::first_link(blocks, x.p2);
     while 0 < link {
         let c = area::cell_at(blocks, link - 1);
-        let y = add_column(m, area, c, x, limit);
-        match y {
-            Insertion::Full => {
-                return Insertion::Full;
-            }
-            Insertion::Done(b) => {
-                m = b;
-            }
-        }
         link = (c.payload / root_block::LINK) as usize;
+        if !is_block_for(c, x) {
+            continue;
+        }
+        let column = Cell {
+            head: c.head % root_block::COLUMN,
+            payload: 0,
+        };
+        let key = intmap::key_of(column);
+        if bound <= key {
+            let Insertion::Done(b) = m.append_cell(area, column, limit) else {
+                return Insertion::Full;
+            };
+            m = b;
+            bound = key + 1;
+            continue;
+        }
+        let Insertion::Done(b) = m.insert_cell(area, column, limit) else {
+            return Insertion::Full;
+        };
+        m = b;
     }
     Insertion::Done(m)
 }
