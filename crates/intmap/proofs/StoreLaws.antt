@@ -123,18 +123,28 @@ module _ (cs ds : List Cell) (limit : ℕ) (m : IntMap) (w v : Found) (n : ℕ) 
 abbrev pub longer : IntMap → ℕ → IntMap
 longer m n = record { base = m .base; len = m .len + 1; used = m .used + n }
 
--- room behind all entries: nothing moves
+-- room for a new entry where a search led
+module _ (cs : List Cell) (limit : ℕ) (m : IntMap) (w v : Found) (n : ℕ) (we : w ≡ v) (absent : w .present ≡ false) where
+  pub new-full : limit < m .used + n → Opens cs cs limit m v n place.Full
+  new-full over = opened-new cs cs limit m w v n place.Full we absent (record { over = omega arith; same = refl })
+
+  pub new-opened : m .used + n ≤ limit → (es : List Cell) → es ≡ moved cs (w .at) (w .at + n) (m .base + m .used - w .at) → Opens cs es limit m v n (place.At (w .at) (longer m n))
+  new-opened most es e =
+      let from : w .at ≡ w .at + 0 = omega arith in
+      let rest : m .base + m .used - w .at ≡ m .base + m .used - w .at - 0 = omega arith in
+      opened-new cs es limit m w v n (place.At (w .at) (longer m n)) we absent
+      (record { here = refl; base = refl; len = refl; used = omega arith; most = most; cells = e ∙ ap₂ (λ f k. moved cs f (w .at + n) k) from rest; long = ap length e ∙ length-moved cs (w .at) (w .at + n) (m .base + m .used - w .at) })
+
+-- behind all entries nothing moves
 module _ (cs : List Cell) (limit : ℕ) (m : IntMap) (key n : ℕ) (has : HasRoom cs limit m) (behind : Behind cs m key) where
   at-end : found (m .base + m .used) 0 false ≡ seek cs levels key (m .len) (m .base)
   at-end = ap (λ u. found (m .base + u) 0 false) (has .used) ∙ sym (seek-behind cs levels key (m .len) (m .base) behind)
 
   pub behind-full : limit < m .used + n → Opens cs cs limit m (seek cs levels key (m .len) (m .base)) n place.Full
-  behind-full over = opened-new cs cs limit m (found (m .base + m .used) 0 false) _ n place.Full at-end refl (record { over = omega arith; same = refl })
+  behind-full over = new-full cs limit m (found (m .base + m .used) 0 false) _ n at-end refl over
 
   pub behind-opened : m .used + n ≤ limit → Opens cs cs limit m (seek cs levels key (m .len) (m .base)) n (place.At (m .base + m .used) (longer m n))
-  behind-opened most =
-      opened-new cs cs limit m (found (m .base + m .used) 0 false) _ n (place.At (m .base + m .used) (longer m n)) at-end refl
-      (record { here = refl; base = refl; len = refl; used = omega arith; most = most; cells = moved-none cs _ _ _ (omega arith); long = refl })
+  behind-opened most = new-opened cs limit m (found (m .base + m .used) 0 false) _ n at-end refl most cs (moved-none cs _ _ _ (omega arith))
 
 pub frame-same : (cs ds : List Cell) (base n : ℕ) → ds ≡ cs → Frame cs ds base n
 frame-same cs ds base n e = record { long = ap length e; below = λ j lt. ap (λ (l : List Cell). getD l j blank) e; above = λ j le. ap (λ (l : List Cell). getD l j blank) e }

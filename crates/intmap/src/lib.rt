@@ -444,21 +444,12 @@ impl IntMap {
         self.make_room(area, at, 0, n, self.len + 1, limit)
     }
 
-    // The same for an entry at a key.
-    fn room_for(self, area: &mut [u8], key: u64, n: usize, limit: usize) -> Place
-        requires { ⌜ HasRoom (cells (now area)) limit self × (n ≤ 1048576) ⌝ }
-        ensures { λ r. ⌜ Opens (cells (now (area .entry))) (cells (now (area .exit))) limit self (seek (cells (now (area .entry))) levels key (self .len) (self .base)) n r ⌝ }
-    {
-        let found = self.find(area, key);
-        self.room_at(area, found, n, limit)
-    }
-
-    // Puts a cell that is no record under its key.
-    pub fn insert_cell(self, area: &mut [u8], c: Cell, limit: usize) -> Insertion
-        requires { ⌜ HasRoom (cells (now area)) limit self × (tagOf c ≡ 2 → ⊥) ⌝ }
+    // Puts a cell that is no record in the place of the entry that a search for its key found.
+    fn replace(self, area: &mut [u8], found: Found, c: Cell, limit: usize) -> Insertion
+        requires { ⌜ HasRoom (cells (now area)) limit self × (tagOf c ≡ 2 → ⊥) × (found ≡ seek (cells (now area)) levels (keyOf c) (self .len) (self .base)) ⌝ }
         ensures { λ r. ⌜ Inserts (cells (now (area .entry))) (cells (now (area .exit))) limit self (c ∷ []) r ⌝ }
     {
-        let p = self.room_for(area, key_of(c), 1, limit);
+        let p = self.room_at(area, found, 1, limit);
         match p {
             Place::Full => Insertion::Full,
             Place::At(at, r) => {
@@ -466,6 +457,29 @@ impl IntMap {
                 Insertion::Done(r)
             }
         }
+    }
+
+    // Puts a cell that is no record under its key. A new one is most frequent, and is put there without a call that takes or gives a struct.
+    pub fn insert_cell(self, area: &mut [u8], c: Cell, limit: usize) -> Insertion
+        requires { ⌜ HasRoom (cells (now area)) limit self × (tagOf c ≡ 2 → ⊥) ⌝ }
+        ensures { λ r. ⌜ Inserts (cells (now (area .entry))) (cells (now (area .exit))) limit self (c ∷ []) r ⌝ }
+    {
+        let found = self.find(area, key_of(c));
+        let there = found.present;
+        if there {
+            return self.replace(area, found, c, limit);
+        }
+        if limit <= self.used {
+            return Insertion::Full;
+        }
+        let at = found.at;
+        area::move_cells(area, at, at + 1, self.base + self.used - at);
+        area::put_cell(area, at, c);
+        Insertion::Done(IntMap {
+            base: self.base,
+            len: self.len + 1,
+            used: self.used + 1,
+        })
     }
 
     // Puts a cell that is no record behind all entries, whose keys are lower.
