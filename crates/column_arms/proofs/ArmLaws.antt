@@ -46,6 +46,18 @@ use Rattle.cursor_arms.proofs.StandsLaws.{opened, columns-led}
 use Rattle.column_arms.specs.Columns.{ColumnsAt, FindsColumn, StoresRun, storeColumn, storeRow, LeadsWith}
 use Rattle.column_arms.proofs.ColumnLaws.{behind-size}
 
+-- ---- what is stored where nothing was written over
+
+module _ {limit : ℕ} {cs es : List Cell} (same : es ≡ cs) (a : IntMap) (at : ℕ) (c : Cell) where
+  pub still-storable : Current limit cs a → a .base ≤ at → at + size cs levels at ≤ a .base + a .used → c ≡ getD cs at blank
+      → Current limit es a × (a .base ≤ at) × (at + size es levels at ≤ a .base + a .used) × (tagOf c ≡ tagOf (getD es at blank)) × (c .payload ≡ getD es at blank .payload)
+  still-storable current above below ce =
+      subst (λ l. Current limit l a × (a .base ≤ at) × (at + size l levels at ≤ a .base + a .used) × (tagOf c ≡ tagOf (getD l at blank)) × (c .payload ≡ getD l at blank .payload)) (sym same)
+      (current, above, below, ap (λ (y : Cell). tagOf y) ce, ap (λ (y : Cell). y .payload) ce)
+
+  pub still-stored : {ds : List Cell} {j : ℕ} {r : Stored} → StoresRun limit es ds a at c j r → StoresRun limit cs ds a at c j r
+  still-stored {ds} {j} {r} st = subst (λ l. StoresRun limit l ds a at c j r) same st
+
 -- ---- one of the columns behind a head
 
 module _ (limit : ℕ) (cs : List Cell) (a : IntMap) (at : ℕ) (current : Current limit cs a) (above : a .base ≤ at) (below : at + size cs levels at ≤ a .base + a .used) where

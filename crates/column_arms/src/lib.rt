@@ -15,7 +15,8 @@ ghost use Rattle.intmap.specs.Pack.{tagOf};
 ghost use Rattle.intmap.specs.Runs.{size, IsColumn};
 ghost use Rattle.intmap.specs.Signed.{intOf};
 ghost use Rattle.rows.specs.Judged.{IsRow};
-ghost use Rattle.state.specs.Leads.{Current, Leads};
+ghost use Rattle.state.specs.Leads.{Held, Current, Leads};
+ghost use Rattle.state.specs.Own.{OverwritesOwn};
 ghost use Rattle.state.specs.Arms.{CursorArm};
 ghost use Rattle.column_arms.specs.Columns.{columnsIn, counted, DirectAt, FindsColumn, StoresRun, storeColumn, LeadsWith};
 use area::Cell;
@@ -102,30 +103,31 @@ fn find_column(map: IntMap, area: &[u8], at: usize, key: u64) -> Slot
     Slot::Bad(9)
 }
 
-// Stores the run at `at` of the map in register j, with c for its head. A store may move the run, so it goes to the room behind the map first.
-fn store_record(map: IntMap, area: &mut [u8], at: usize, c: Cell, j: u64, limit: usize) -> Stored
+// Stores the run at `at` of the map in register j, with c for its head. A cell alone is stored as it is. A store may move a longer run, so that
+// goes to the room behind the map first.
+fn store_from(map: IntMap, area: &mut [u8], at: usize, c: Cell, j: u64, limit: usize) -> Stored
     requires { ⌜ Current limit (cells (now area)) map × (map .base ≤ at) × (at + size (cells (now area)) levels at ≤ map .base + map .used) × (tagOf c ≡ tagOf (getD (cells (now area)) at blank)) × (c .payload ≡ getD (cells (now area)) at blank .payload) ⌝ }
     ensures { λ r. ⌜ StoresRun limit (cells (now (area .entry))) (cells (now (area .exit))) map at c j r ⌝ }
 {
+    if intmap::tag_of(c) != intmap::RECORD {
+        return map.store_cell(area, state::REGISTERS, j, c, limit);
+    }
     cursor_arms::run_behind(map, area, at, state::UNKNOWN, limit);
     let to = map.base + limit;
     area::put_cell(area, to, c);
     map.store_run(area, state::REGISTERS, j, to, limit)
 }
 
-// The same, where a cell alone is stored as it is: most often over the register's own cell, and then nothing is handed to another function and
-// back.
-fn store_from(map: IntMap, area: &mut [u8], at: usize, c: Cell, j: u64, limit: usize) -> Stored
-    requires { ⌜ Current limit (cells (now area)) map × (map .base ≤ at) × (at + size (cells (now area)) levels at ≤ map .base + map .used) × (tagOf c ≡ tagOf (getD (cells (now area)) at blank)) × (c .payload ≡ getD (cells (now area)) at blank .payload) ⌝ }
-    ensures { λ r. ⌜ StoresRun limit (cells (now (area .entry))) (cells (now (area .exit))) map at c j r ⌝ }
+// Stores the cell c over register j's own, if it is no record's and that is found at once. Says whether it was: then the map is as it was, and no
+// call hands it over and back.
+fn store_over(map: IntMap, area: &mut [u8], c: Cell, j: u64) -> bool
+    requires { ⌜ Held (cells (now area)) map ⌝ }
+    ensures { λ r. ⌜ (r ≡ true → tagOf c ≡ 2 → ⊥) × OverwritesOwn (cells (now (area .entry))) (cells (now (area .exit))) map 0 j c r ⌝ }
 {
     if intmap::tag_of(c) == intmap::RECORD {
-        return store_record(map, area, at, c, j, limit);
+        return false;
     }
-    if state::overwrite_own(map, area, state::REGISTERS, j, c) {
-        return Stored::Done(map);
-    }
-    map.store_cell(area, state::REGISTERS, j, c, limit)
+    state::overwrite_own(map, area, state::REGISTERS, j, c)
 }
 
 // Stores an empty record in register j. It has one cell, and where there is room for none, it is refused before it is written.
@@ -163,6 +165,9 @@ fn store_column(map: IntMap, area: &mut [u8], at: usize, i: u64, j: u64, limit: 
                 }
                 Slot::At(q) => {
                     let c = area::cell_at(area, q);
+                    if store_over(map, area, c, j) {
+                        return Stored::Done(map);
+                    }
                     store_from(map, area, q, c, j, limit)
                 }
             }
@@ -200,7 +205,7 @@ pub fn row_data(map: IntMap, area: &mut [u8], x: Row, limit: usize) -> Stored
             let c = area::cell_at(area, at);
             let head = intmap::RECORD;
             let payload = c.payload;
-            store_record(map, area, at, Cell { head, payload }, x.p2, limit)
+            store_from(map, area, at, Cell { head, payload }, x.p2, limit)
         }
     }
 }

@@ -10,7 +10,7 @@ use Rattle.column_arms.proofs.row_data.Reads as reads
 use Rattle.column_arms.proofs.row_data.Lts as lts
 use Rattle.area.proofs.cell_at.Reads as cell-at-reads
 use Rattle.column_arms.proofs.store_empty.Reads as store-empty-reads
-use Rattle.column_arms.proofs.store_record.Reads as store-record-reads
+use Rattle.column_arms.proofs.store_from.Reads as store-from-reads
 use Rattle.cursor_arms.proofs.CursorDataType.columns.Reads as columns-reads
 use Rattle.cursor_arms.proofs.read_cursor.Reads as read-cursor-reads
 
@@ -35,8 +35,8 @@ enum-known-columns-2 c = search needs
 cell-at-requires : tie.Need-cell-at-requires
 cell-at-requires c κs = record { within = head-place _ _ _ (c .before .before .before .before .before .before .before .before .before .args .x) (c .before .before .before .before .before .before .before .before .before .pre .0) _ (c .before .before .before .before .before .before .read-cursor .ensures) _ (c .before .before .before .before .columns .ensures) _ (c .before .before .columns3 .given .1); small = c .before .before .before .before .before .before .before .before .before .pre .0 .room .small }
 
-store-record-requires : tie.Need-store-record-requires
-store-record-requires c κs = (c .before .before .before .before .before .before .before .before .before .before .before .pre .0, head-above _ _ _ (c .before .before .before .before .before .before .before .before .before .before .before .args .x) (c .before .before .before .before .before .before .before .before .before .before .before .pre .0) _ (c .before .before .before .before .before .before .before .before .read-cursor .ensures) _ (c .before .before .before .before .before .before .columns .ensures) _ (c .before .before .before .before .columns3 .given .1), head-below _ _ _ (c .before .before .before .before .before .before .before .before .before .before .before .args .x) (c .before .before .before .before .before .before .before .before .before .before .before .pre .0) _ (c .before .before .before .before .before .before .before .before .read-cursor .ensures) _ (c .before .before .before .before .before .before .columns .ensures) _ (c .before .before .before .before .columns3 .given .1), sym (head-tag _ _ _ (c .before .before .before .before .before .before .before .before .before .before .before .args .x) (c .before .before .before .before .before .before .before .before .before .before .before .pre .0) _ (c .before .before .before .before .before .before .before .before .read-cursor .ensures) _ (c .before .before .before .before .before .before .columns .ensures) _ (c .before .before .before .before .columns3 .given .1)), ap (λ (c : Cell). c .payload) (c .before .cell-at .ensures))
+store-from-requires : tie.Need-store-from-requires
+store-from-requires c κs = (c .before .before .before .before .before .before .before .before .before .before .before .pre .0, head-above _ _ _ (c .before .before .before .before .before .before .before .before .before .before .before .args .x) (c .before .before .before .before .before .before .before .before .before .before .before .pre .0) _ (c .before .before .before .before .before .before .before .before .read-cursor .ensures) _ (c .before .before .before .before .before .before .columns .ensures) _ (c .before .before .before .before .columns3 .given .1), head-below _ _ _ (c .before .before .before .before .before .before .before .before .before .before .before .args .x) (c .before .before .before .before .before .before .before .before .before .before .before .pre .0) _ (c .before .before .before .before .before .before .before .before .read-cursor .ensures) _ (c .before .before .before .before .before .before .columns .ensures) _ (c .before .before .before .before .columns3 .given .1), sym (head-tag _ _ _ (c .before .before .before .before .before .before .before .before .before .before .before .args .x) (c .before .before .before .before .before .before .before .before .before .before .before .pre .0) _ (c .before .before .before .before .before .before .before .before .read-cursor .ensures) _ (c .before .before .before .before .before .before .columns .ensures) _ (c .before .before .before .before .columns3 .given .1)), ap (λ (c : Cell). c .payload) (c .before .cell-at .ensures))
 
 same-length : tie.Need-same-length
 same-length c = search needs
@@ -54,7 +54,7 @@ same-length-3 : tie.Need-same-length-3
 same-length-3 c = search needs
 
 returns-3 : tie.Need-returns-3
-returns-3 c = arm-there _ _ _ _ (c .before .before .before .before .before .before .before .before .before .before .before .before .before .before .pre .0) _ (c .before .before .before .before .before .before .before .before .before .before .before .read-cursor .ensures) _ (c .before .before .before .before .before .before .before .before .before .columns .ensures) _ _ (λ row. row-goes _ row _) _ (c .before .before .before .before .before .before .before .columns3 .given .1) _ _ (row-there _ _ _ _ _ (head-tag _ _ _ (c .before .before .before .before .before .before .before .before .before .before .before .before .before .before .args .x) (c .before .before .before .before .before .before .before .before .before .before .before .before .before .before .pre .0) _ (c .before .before .before .before .before .before .before .before .before .before .before .read-cursor .ensures) _ (c .before .before .before .before .before .before .before .before .before .columns .ensures) _ (c .before .before .before .before .before .before .before .columns3 .given .1)) _ (c .before .before .before .before .cell-at .ensures) _ _ (c .before .before .store-record .ensures))
+returns-3 c = arm-there _ _ _ _ (c .before .before .before .before .before .before .before .before .before .before .before .before .before .before .pre .0) _ (c .before .before .before .before .before .before .before .before .before .before .before .read-cursor .ensures) _ (c .before .before .before .before .before .before .before .before .before .columns .ensures) _ _ (λ row. row-goes _ row _) _ (c .before .before .before .before .before .before .before .columns3 .given .1) _ _ (row-there _ _ _ _ _ (head-tag _ _ _ (c .before .before .before .before .before .before .before .before .before .before .before .before .before .before .args .x) (c .before .before .before .before .before .before .before .before .before .before .before .before .before .before .pre .0) _ (c .before .before .before .before .before .before .before .before .before .before .before .read-cursor .ensures) _ (c .before .before .before .before .before .before .before .before .before .columns .ensures) _ (c .before .before .before .before .before .before .before .columns3 .given .1)) _ (c .before .before .before .before .cell-at .ensures) _ _ (c .before .before .store-from .ensures))
 
 pub row-data-spec : {M : Type 1} → statement M
 row-data-spec =
@@ -67,7 +67,7 @@ row-data-spec =
     store-empty-requires
     enum-known-columns-2
     cell-at-requires
-    store-record-requires
+    store-from-requires
     same-length
     returns
     same-length-2
