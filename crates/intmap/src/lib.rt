@@ -459,20 +459,24 @@ impl IntMap {
         }
     }
 
-    // Puts a cell that is no record under its key. A new one is most frequent, and is put there without a call that takes or gives a struct.
+    // Puts a cell that is no record under its key: where there is none, or in the place of another, without a call that takes or gives a struct.
     pub fn insert_cell(self, area: &mut [u8], c: Cell, limit: usize) -> Insertion
         requires { ⌜ HasRoom (cells (now area)) limit self × (tagOf c ≡ 2 → ⊥) ⌝ }
         ensures { λ r. ⌜ Inserts (cells (now (area .entry))) (cells (now (area .exit))) limit self (c ∷ []) r ⌝ }
     {
         let found = self.find(area, key_of(c));
+        let at = found.at;
         let there = found.present;
         if there {
-            return self.replace(area, found, c, limit);
+            if tag_of(area::cell_at(area, at)) == RECORD {
+                return self.replace(area, found, c, limit);
+            }
+            area::put_cell(area, at, c);
+            return Insertion::Done(self);
         }
         if limit <= self.used {
             return Insertion::Full;
         }
-        let at = found.at;
         area::move_cells(area, at, at + 1, self.base + self.used - at);
         area::put_cell(area, at, c);
         Insertion::Done(IntMap {
