@@ -21,7 +21,7 @@ use Rattle.intmap.specs.Entries.{Runs, span, entries, keyRun, total}
 use Rattle.intmap.specs.Swap.{swap, lookup}
 use Rattle.intmap.specs.Map.{levels, runsAt, IsMap, HasRoom, Frame}
 use Rattle.intmap.specs.Change.{rekey}
-use Rattle.intmap.specs.Store.{RoomMade, oldCells, newLen, Behind, Opens, put, Inserts, RunAbove, Removes}
+use Rattle.intmap.specs.Store.{RoomMade, oldCells, newLen, Behind, NewAt, Opens, put, Inserts, RunAbove, Removes}
 use Rattle.intmap.specs.declared.Found.{Found}
 use Rattle.intmap.specs.declared.IntMap.{IntMap}
 use Rattle.intmap.specs.declared.Place.{Place}
@@ -128,12 +128,16 @@ module _ (cs : List Cell) (limit : ℕ) (m : IntMap) (w v : Found) (n : ℕ) (we
   pub new-full : limit < m .used + n → Opens cs cs limit m v n place.Full
   new-full over = opened-new cs cs limit m w v n place.Full we absent (record { over = omega arith; same = refl })
 
-  pub new-opened : m .used + n ≤ limit → (es : List Cell) → es ≡ moved cs (w .at) (w .at + n) (m .base + m .used - w .at) → Opens cs es limit m v n (place.At (w .at) (longer m n))
-  new-opened most es e =
-      let from : w .at ≡ w .at + 0 = omega arith in
-      let rest : m .base + m .used - w .at ≡ m .base + m .used - w .at - 0 = omega arith in
-      opened-new cs es limit m w v n (place.At (w .at) (longer m n)) we absent
-      (record { here = refl; base = refl; len = refl; used = omega arith; most = most; cells = e ∙ ap₂ (λ f k. moved cs f (w .at + n) k) from rest; long = ap length e ∙ length-moved cs (w .at) (w .at + n) (m .base + m .used - w .at) })
+  pub new-opened : m .used + n ≤ limit → (at : ℕ) → w .at ≡ at → (es : List Cell) → es ≡ moved cs at (at + n) (m .base + m .used - at) → Opens cs es limit m v n (place.At at (longer m n))
+  new-opened most at here es e =
+      let from : at ≡ w .at + 0 = omega (arith, here) in
+      let to : at + n ≡ w .at + n = omega (arith, here) in
+      let rest : m .base + m .used - at ≡ m .base + m .used - w .at - 0 = omega (arith, here) in
+      opened-new cs es limit m w v n (place.At at (longer m n)) we absent
+      (record { here = sym here; base = refl; len = refl; used = omega arith; most = most; cells = e ∙ ap (λ f. moved cs f (at + n) (m .base + m .used - at)) from ∙ ap₂ (λ t k. moved cs (w .at + 0) t k) to rest; long = ap length e ∙ length-moved cs at (at + n) (m .base + m .used - at) })
+
+pub new-within : {cs : List Cell} {limit : ℕ} {m : IntMap} {key at : ℕ} → HasRoom cs limit m → NewAt cs m key at → (m .base ≤ at) × (at ≤ m .base + m .used)
+new-within {cs} {limit} {m} {key} has new = subst (λ q. (m .base ≤ q) × (q ≤ m .base + m .used)) (new .here) (found-in cs m key _ (room-map has) refl)
 
 -- behind all entries nothing moves
 module _ (cs : List Cell) (limit : ℕ) (m : IntMap) (key n : ℕ) (has : HasRoom cs limit m) (behind : Behind cs m key) where
@@ -144,7 +148,7 @@ module _ (cs : List Cell) (limit : ℕ) (m : IntMap) (key n : ℕ) (has : HasRoo
   behind-full over = new-full cs limit m (found (m .base + m .used) 0 false) _ n at-end refl over
 
   pub behind-opened : m .used + n ≤ limit → Opens cs cs limit m (seek cs levels key (m .len) (m .base)) n (place.At (m .base + m .used) (longer m n))
-  behind-opened most = new-opened cs limit m (found (m .base + m .used) 0 false) _ n at-end refl most cs (moved-none cs _ _ _ (omega arith))
+  behind-opened most = new-opened cs limit m (found (m .base + m .used) 0 false) _ n at-end refl most (m .base + m .used) refl cs (moved-none cs _ _ _ (omega arith))
 
 pub frame-same : (cs ds : List Cell) (base n : ℕ) → ds ≡ cs → Frame cs ds base n
 frame-same cs ds base n e = record { long = ap length e; below = λ j lt. ap (λ (l : List Cell). getD l j blank) e; above = λ j le. ap (λ (l : List Cell). getD l j blank) e }

@@ -6,6 +6,7 @@ use mathlib.Core.List.{List, [], _∷_}
 use Prim.Native.Nat.{ℕ, _+_, _-_, _<_, _≤_}
 use lib.ListN.{length}
 use lib.Dec.{leb}
+use mathlib.Core.Bool.{false}
 use lib.IntN.{ℤ}
 use Rattle.model.specs.Walk.{Tried, refused, done}
 use Rattle.model.specs.Access.{index, judgeDepth, _>>=_}
@@ -98,6 +99,11 @@ pub record Inserts (cs ds : List Cell) (limit : ℕ) (m : IntMap) (run : List Ce
   pub answer : answerOf ds r ≡ judgeRuns limit (put run (runsAt cs m))
   pub leaves : Leaves cs ds limit m r
   pub frame : Frame cs ds (m .base) limit
+
+-- a search for the key leads there, and finds none
+pub record NewAt (cs : List Cell) (m : IntMap) (key at : ℕ) : Type 0 where
+  pub here : seek cs levels key (m .len) (m .base) .at ≡ at
+  pub none : seek cs levels key (m .len) (m .base) .present ≡ false
 
 -- a run of n cells above the map's room
 pub record RunAbove (cs : List Cell) (limit : ℕ) (m : IntMap) (from n : ℕ) : Type 0 where

@@ -10,7 +10,7 @@ ghost use Rattle.intmap.specs.Runs.{size, sizes, IsColumn, AreColumns, e
 ghost use Rattle.intmap.specs.Depth.{nesting};
 ghost use Rattle.intmap.specs.Find.{seek};
 ghost use Rattle.intmap.specs.Map.{levels, empty, IsMap, HasRoom, Compares, CopiedMap};
-ghost use Rattle.intmap.specs.Store.{RoomMade, IsFound, Opens, Inserts, Behind, RunAbove, Removes, asStored, Stores, RemovesAt};
+ghost use Rattle.intmap.specs.Store.{RoomMade, IsFound, Opens, Inserts, Behind, NewAt, RunAbove, Removes, asStored, Stores, RemovesAt};
 ghost use Rattle.intmap.specs.Get.{Judges, Gets};
 ghost use Rattle.intmap.specs.Change.{rekey, Writable, FromElem};
 ghost use Rattle.intmap.specs.Entries.{span};
@@ -377,7 +377,7 @@ pub fn find_from(area: &[u8], at: usize, n: u64, key: u64, depth: usize) -> Foun
 }
 
 // An insertion's answer with 01's number.
-fn as_stored(x: Insertion) -> Stored
+pub fn as_stored(x: Insertion) -> Stored
     ensures { λ r. ⌜ r ≡ asStored x ⌝ }
 {
     match x {
@@ -459,6 +459,23 @@ impl IntMap {
         }
     }
 
+    // Puts a cell that is no record under its key, where a search for that led and found none.
+    pub fn insert_new(self, area: &mut [u8], at: usize, c: Cell, limit: usize) -> Insertion
+        requires { ⌜ HasRoom (cells (now area)) limit self × (tagOf c ≡ 2 → ⊥) × NewAt (cells (now area)) self (keyOf c) at ⌝ }
+        ensures { λ r. ⌜ Inserts (cells (now (area .entry))) (cells (now (area .exit))) limit self (c ∷ []) r ⌝ }
+    {
+        if limit <= self.used {
+            return Insertion::Full;
+        }
+        area::move_cells(area, at, at + 1, self.base + self.used - at);
+        area::put_cell(area, at, c);
+        Insertion::Done(IntMap {
+            base: self.base,
+            len: self.len + 1,
+            used: self.used + 1,
+        })
+    }
+
     // Puts a cell that is no record under its key: where there is none, or in the place of another, without a call that takes or gives a struct.
     pub fn insert_cell(self, area: &mut [u8], c: Cell, limit: usize) -> Insertion
         requires { ⌜ HasRoom (cells (now area)) limit self × (tagOf c ≡ 2 → ⊥) ⌝ }
@@ -474,16 +491,7 @@ impl IntMap {
             area::put_cell(area, at, c);
             return Insertion::Done(self);
         }
-        if limit <= self.used {
-            return Insertion::Full;
-        }
-        area::move_cells(area, at, at + 1, self.base + self.used - at);
-        area::put_cell(area, at, c);
-        Insertion::Done(IntMap {
-            base: self.base,
-            len: self.len + 1,
-            used: self.used + 1,
-        })
+        self.insert_new(area, at, c, limit)
     }
 
     // Puts a cell that is no record behind all entries, whose keys are lower.

@@ -10,7 +10,7 @@ use native.Mathlib.Decide.{ℕ-discrete}
 use lib.Dec.{eqb, leb, ltb}
 use lib.ListN.{length, getD, set, length-set}
 use lib.Seq.{getD-set-other}
-use borrow.Author.Tests.{ltb-true, lt-ltb, le-ltb, eqb-true, eq-eqb, ne-eqb, leb-true, leb-false, le-leb, lt-leb}
+use borrow.Author.Tests.{ltb-true, ltb-false, lt-ltb, le-ltb, eqb-true, eq-eqb, ne-eqb, leb-true, leb-false, le-leb, lt-leb}
 use Rattle.model.specs.Walk.{Tried, refused, done}
 use Rattle.model.specs.State.{MemoryState}
 use Rattle.area.specs.Cells.{blank}
@@ -21,7 +21,7 @@ use Rattle.intmap.specs.Get.{indexOf, Judges, Gets}
 use Rattle.intmap.specs.Map.{levels, IsMap, HasRoom, Frame}
 use Rattle.intmap.specs.Pack.{tagOf, keyOf, withKey, classKey}
 use Rattle.intmap.specs.Pick.{pick}
-use Rattle.intmap.specs.Store.{Stores}
+use Rattle.intmap.specs.Store.{NewAt, Stores}
 use Rattle.intmap.specs.declared.Found.{Found}
 use Rattle.intmap.specs.declared.Index.{Index}
 use Rattle.intmap.specs.declared.Index.the-variants as index-is
@@ -31,15 +31,15 @@ use Rattle.intmap.specs.declared.Slot.{Slot}
 use Rattle.intmap.specs.declared.Slot.the-variants as slot
 use Rattle.intmap.specs.declared.Stored.{Stored}
 use Rattle.intmap.specs.declared.Stored.the-variants as stored
-use Rattle.intmap.proofs.FindLaws.{found-within, found-whole, found-key}
+use Rattle.intmap.proofs.FindLaws.{found-within, found-whole, found-key, seek-beyond, seek-after}
 use Rattle.intmap.proofs.RunLaws.{size-pos, size-record}
 use Rattle.intmap.proofs.GetLaws.{get-absent, get-at}
 use Rattle.intmap.proofs.JudgedLaws.{store-tried}
 use Rattle.intmap.proofs.Overwritten.{alike, alike-room, overwritten}
 use Rattle.intmap.proofs.PackLaws.{keyed-tag, keyed-key}
 use Rattle.encoding.proofs.Places.{sizes-many, held-place, held-behind}
-use Rattle.state.specs.Leads.{HoldsMap, Leaves, Held, Leads}
-use Rattle.state.specs.Own.{foundSlot, entrySlot, isAt, isFlat, Among, Guesses, FlatSize, LastBelow, HasKey, Own, OverwritesOwn, StoresCell, Overwrites}
+use Rattle.state.specs.Leads.{HoldsMap, Leaves, Held, Current, Leads}
+use Rattle.state.specs.Own.{foundSlot, entrySlot, isAt, isFlat, Among, Guesses, FlatSize, Follows, HasKey, Own, OverwritesOwn, StoresCell, Overwrites}
 use Rattle.state.proofs.StoreLeads.{wider}
 
 -- what the tests of a cell tell
@@ -137,29 +137,58 @@ module _ (cs : List Cell) (a : IntMap) (class k key : ℕ) (ke : key ≡ classKe
       let same = ap (λ n. seek cs levels n (a .len) (a .base)) (has .is) in
       ap slot.At (sym (w .0) ∙ ap (λ f. f .at) same) ∙ entry-there (seek cs levels key (a .len) (a .base)) refl (sym (ap (λ f. f .present) same) ∙ w .1)
 
--- a key above that of the last entry belongs at the map's end
-module _ (cs : List Cell) (a : IntMap) (held : Held cs a) (key : ℕ) (below : LastBelow cs a key) where
-  abbrev p : ℕ
-  p = below .last
+-- where a new entry belongs
+module _ (cs : List Cell) (a : IntMap) (held : Held cs a) (key p : ℕ) (f : Follows cs (a .base) (a .base + a .used) key p) where
+  abbrev q : ℕ
+  q = f .last
 
-  at-p : (seek cs levels (keyOf (getD cs p blank)) (a .len) (a .base) .at ≡ p) × (seek cs levels (keyOf (getD cs p blank)) (a .len) (a .base) .present ≡ true)
-  at-p = held-place (held .holds) p (below .low) (below .inside) (below .begins)
+  abbrev low : ℕ
+  low = keyOf (getD cs q blank)
 
-  within : p + size cs levels p ≤ a .base + a .used
-  within =
-      let w = found-whole cs levels (keyOf (getD cs p blank)) (a .len) (a .base) _ refl (at-p .1) in
-      let e : seek cs levels (keyOf (getD cs p blank)) (a .len) (a .base) .at + size cs levels (seek cs levels (keyOf (getD cs p blank)) (a .len) (a .base) .at) ≡ p + size cs levels p = ap (λ q. q + size cs levels q) (at-p .0) in
-      omega (arith, w, e, held .map .used)
+  inside : q < a .base + a .used
+  inside = omega (arith, f .flat .some, f .reaches, f .within)
 
-  least : below .size ≤ size cs levels p
-  least = go (ℕ-discrete (tagOf (getD cs p blank)) 2)
+  at-q : (seek cs levels low (a .len) (a .base) .at ≡ q) × (seek cs levels low (a .len) (a .base) .present ≡ true)
+  at-q = held-place (held .holds) q (f .low) inside (f .begins)
+
+  -- the place behind it
+  behind : seek cs levels low (a .len) (a .base) .at + size cs levels (seek cs levels low (a .len) (a .base) .at) ≡ q + size cs levels q
+  behind = ap (λ z. z + size cs levels z) (at-q .0)
+
+  whole : q + size cs levels q ≤ a .base + a .used
+  whole = omega (arith, behind, found-whole cs levels low (a .len) (a .base) _ refl (at-q .1), held .map .used)
+
+  least : f .size ≤ size cs levels q
+  least = go (ℕ-discrete (tagOf (getD cs q blank)) 2)
     where
-      go : Dec (tagOf (getD cs p blank) ≡ 2) → below .size ≤ size cs levels p
-      go (yes t) = omega (arith, below .flat .most .0 t, size-record cs 9 p (getD cs p blank) refl (omega arith) t, sizes-many cs 8 (getD cs p blank .payload) (p + 1))
-      go (no t) = omega (arith, below .flat .most .1 t, size-pos cs levels p)
+      go : Dec (tagOf (getD cs q blank) ≡ 2) → f .size ≤ size cs levels q
+      go (yes t) = omega (arith, f .flat .most .0 t, size-record cs 9 q (getD cs q blank) refl (omega arith) t, sizes-many cs 8 (getD cs q blank .payload) (q + 1))
+      go (no t) = omega (arith, f .flat .most .1 t, size-pos cs levels q)
 
-  pub place-behind : place (a .base + a .used) 0 false ≡ seek cs levels key (a .len) (a .base)
-  place-behind = sym (held-behind (held .holds) p key (below .low) (below .inside) (below .begins) (below .less) (omega (arith, within, least, below .reaches)))
+  most : 65536 ≤ key → q + size cs levels q ≤ p
+  most big = go (ltb p (a .base + a .used)) refl
+    where
+      go : (b : Bool) → ltb p (a .base + a .used) ≡ b → q + size cs levels q ≤ p
+      go false e = omega (arith, whole, ltb-false p (a .base + a .used) e)
+      go true e =
+          let lt = ltb-true p (a .base + a .used) e in
+          let up = f .next lt in
+          let w = held-place (held .holds) p (omega (arith, f .low, f .reaches)) lt (omega (arith, up, big)) in
+          let far = seek-beyond cs levels low (keyOf (getD cs p blank)) (omega (arith, f .less, up)) (a .len) (a .base) (at-q .1) in
+          omega (arith, behind, far, w .0)
+
+  pub new-at : 65536 ≤ key → NewAt cs a key p
+  new-at big =
+      let here : p ≡ q + size cs levels q = omega (arith, f .reaches, least, most big) in
+      let s = seek-after cs levels low key (f .less) (a .len) (a .base) p (at-q .1) (here ∙ sym behind) (next (ltb p (a .base + a .used)) refl) in
+      record { here = s .0; none = s .1 }
+    where
+      next : (b : Bool) → ltb p (a .base + a .used) ≡ b → (p ≡ a .base + sizes (size cs levels) (a .len) (a .base)) ⊎ (key < keyOf (getD cs p blank))
+      next true e = inr (f .next (ltb-true p (a .base + a .used) e))
+      next false e = inl (omega (arith, ltb-false p (a .base + a .used) e, f .within, held .map .used))
+
+  pub new-behind : 65536 ≤ key → p ≡ a .base + a .used → place (a .base + a .used) 0 false ≡ seek cs levels key (a .len) (a .base)
+  new-behind big e = sym (held-behind (held .holds) q key (f .low) inside (f .begins) (f .less) (omega (arith, least, most big, f .reaches, e)))
 
 -- by its index
 pub entry-gets : (cs : List Cell) (a : IntMap) (class i k : ℕ) (x : Index) → Judges i x → IsMap cs a → x ≡ index-is.At k → (r : Slot) → r ≡ entrySlot cs a class k → Gets cs a class i r
@@ -276,29 +305,34 @@ map-stored limit cs ds a class i c r st = record { says = λ bound m h. st; leav
     left (stored.Refused n) st = tt
     left (stored.Done b) st = record { base = st .leaves .base; room = st .leaves .room }
 
--- the same where nothing was written over
-pub none-written : {cs es : List Cell} {a : IntMap} {class i : ℕ} {c : Cell} {r : Bool} → OverwritesOwn cs es a class i c r → r ≡ false → {limit : ℕ} → HasRoom cs limit a → HasRoom es limit a
-none-written {cs} {es} {a} o e {limit} has = subst (λ l. HasRoom l limit a) (sym (o .no e)) has
+-- where nothing was written over
+pub still-current : {cs es : List Cell} {a : IntMap} {class i : ℕ} {c : Cell} {r : Bool} → OverwritesOwn cs es a class i c r → r ≡ false → {limit : ℕ} → Current limit cs a → Current limit es a
+still-current {cs} {es} {a} o e {limit} current = subst (λ l. Current limit l a) (sym (o .no e)) current
 
-pub stored-then : {cs es ds : List Cell} {a : IntMap} {class i : ℕ} {c : Cell} {b : Bool} → OverwritesOwn cs es a class i c b → b ≡ false → {limit : ℕ} {r : Stored} → Stores es ds limit a class i 0 (c ∷ []) r → StoresCell limit cs ds a class i c r
-stored-then {cs} {es} {ds} {a} {class} {i} {c} o e {limit} {r} st = map-stored limit cs ds a class i c r (subst (λ l. Stores l ds limit a class i 0 (c ∷ []) r) (o .no e) st)
+pub stored-then : {cs es ds : List Cell} {a : IntMap} {class i : ℕ} {c : Cell} {b : Bool} → OverwritesOwn cs es a class i c b → b ≡ false → {limit : ℕ} {r : Stored} → StoresCell limit es ds a class i c r → StoresCell limit cs ds a class i c r
+stored-then {cs} {es} {ds} {a} {class} {i} {c} o e {limit} {r} st = subst (λ l. StoresCell limit l ds a class i c r) (o .no e) st
+
+-- the cell c under a key, where that belongs
+pub keyed-new : {cs : List Cell} {a : IntMap} {key p : ℕ} → NewAt cs a key p → (c x : Cell) → x ≡ withKey key c → (tagOf c ≡ 2 → ⊥) → (tagOf x ≡ 2 → ⊥) × NewAt cs a (keyOf x) p
+keyed-new {cs} {a} {key} {p} new c x xe plain = (λ t. plain (sym (keyed-tag key c) ∙ ap tagOf (sym xe) ∙ t), subst (λ k. NewAt cs a k p) (sym (ap keyOf xe ∙ keyed-key key c)) new)
 
 -- what such a store leads to
 pub cell-leads : {limit : ℕ} {cs ds : List Cell} {a : IntMap} {class i : ℕ} {c : Cell} {r : Stored} {f : MemoryState → Tried MemoryState} → StoresCell limit cs ds a class i c r → (Stores cs ds limit a class i 0 (c ∷ []) r → Leads limit cs ds a r f) → Leads limit cs ds a r f
 cell-leads {limit} {cs} {ds} {a} st leads = record { says = λ bound m le h. leads (st .says bound m h) .says bound m le h; leaves = st .leaves; frame = wider cs ds (a .base) limit (st .frame) }
 
--- what the tests of the last entry tell
-pub last-below : (cs : List Cell) (a : IntMap) (key p : ℕ) → a .base ≤ p → p < a .base + a .used → (c : Cell) → c ≡ getD cs p blank → (b : Bool) → b ≡ leb 65536 (keyOf c) → b ≡ true → (k : ℕ) → k ≡ keyOf c → k < key → (n : ℕ) → FlatSize c n → p + n ≡ a .base + a .used → LastBelow cs a key
-last-below cs a key p low inside c ce b be bt k ke less n flat reaches =
+-- what the tests of an entry tell
+pub follows : (cs : List Cell) (base end key p q : ℕ) → base ≤ q → (c : Cell) → c ≡ getD cs q blank → (b : Bool) → b ≡ leb 65536 (keyOf c) → b ≡ true → (k : ℕ) → k ≡ keyOf c → k < key → (n : ℕ) → FlatSize c n → q + n ≡ p → p ≤ end → (p < end → key < keyOf (getD cs p blank)) → Follows cs base end key p
+follows cs base end key p q low c ce b be bt k ke less n flat reaches within next =
     record {
-      last = p;
+      last = q;
       low = low;
-      inside = inside;
       begins = subst (λ y. 65536 ≤ keyOf y) ce (leb-true 65536 (keyOf c) (sym be ∙ bt));
       less = subst (λ y. keyOf y < key) ce (subst (λ x. x < key) ke less);
       size = n;
       flat = subst (λ y. FlatSize y n) ce flat;
       reaches = reaches;
+      within = within;
+      next = next;
     }
 
 pub key-as : (cs : List Cell) (a : IntMap) (key k : ℕ) (w : Found) → key ≡ k → w ≡ seek cs levels key (a .len) (a .base) → w ≡ seek cs levels k (a .len) (a .base)

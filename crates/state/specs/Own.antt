@@ -1,5 +1,5 @@
 -- Where an entry is, and what tells it at once: a cell of the map with its key, which in cells that hold a state is the entry; what follows a
--- record of so many columns; the last entry. And what a store over a register's or cursor's own cell gives. Assumes nothing.
+-- record of so many columns; where a new entry belongs. And what a store over a register's or cursor's own cell gives. Assumes nothing.
 use mathlib.Core.Path.{_≡_}
 use mathlib.Core.Bool.{Bool, true, false, _&&_}
 use mathlib.Core.List.{List, [], _∷_}
@@ -59,16 +59,17 @@ pub record FlatSize (c : Cell) (r : ℕ) : Type 0 where
   pub few : r ≤ 65536
   pub most : (tagOf c ≡ 2 → r ≤ 1 + c .payload) × ((tagOf c ≡ 2 → ⊥) → r ≡ 1)
 
--- the last entry, which as many cells reach to the map's end, has a lower key
-pub record LastBelow (cs : List Cell) (a : IntMap) (key : ℕ) : Type 0 where
+-- a key belongs at p: the entry that as many cells reach to p has a lower key, and at p is `end` or a higher key
+pub record Follows (cs : List Cell) (base end key p : ℕ) : Type 0 where
   pub last : ℕ
-  pub low : a .base ≤ last
-  pub inside : last < a .base + a .used
+  pub low : base ≤ last
   pub begins : 65536 ≤ keyOf (getD cs last blank)
   pub less : keyOf (getD cs last blank) < key
   pub size : ℕ
   pub flat : FlatSize (getD cs last blank) size
-  pub reaches : last + size ≡ a .base + a .used
+  pub reaches : last + size ≡ p
+  pub within : p ≤ end
+  pub next : p < end → key < keyOf (getD cs p blank)
 
 -- a cell of the map has the key
 pub record HasKey (cs : List Cell) (a : IntMap) (key p : ℕ) : Type 0 where

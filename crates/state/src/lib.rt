@@ -17,7 +17,7 @@ ghost use Rattle.encoding.specs.Encode.{single};
 ghost use Rattle.encoding.specs.Decode.{nullables};
 ghost use Rattle.rows.specs.Rows.{Operand};
 ghost use Rattle.state.specs.Leads.{Held, Current, Leads};
-ghost use Rattle.state.specs.Own.{entrySlot, isAt, isFlat, Among, Guesses, FlatSize, LastBelow, OverwritesOwn, StoresCell, Overwrites};
+ghost use Rattle.state.specs.Own.{entrySlot, isAt, isFlat, Among, Guesses, FlatSize, Follows, OverwritesOwn, StoresCell, Overwrites};
 ghost use Rattle.state.specs.Reads.{registerIn, Reads};
 use area::Cell;
 use intmap::Found;
@@ -211,6 +211,38 @@ fn near(area: &[u8], base: usize, end: usize, key: u64) -> usize
     near_last(area, base, end, key)
 }
 
+// Where a new entry of a key belongs, if that is behind one of the last entries: registers are often stored in their order, and no more than
+// cursors and tables are behind them. Else more than `end`.
+fn place_last(area: &[u8], base: usize, end: usize, key: u64) -> usize
+    requires { ⌜ Among (cells (now area)) base end ⌝ }
+    ensures { λ r. ⌜ (r ≤ end → Follows (cells (now (area .entry))) base end key r) ⌝ }
+{
+    let mut high = end;
+    let mut left: usize = LAST;
+    while 0 < left {
+        if high <= base {
+            return end + 1;
+        }
+        let p = entry_below(area, base, high - 1);
+        let c = area::cell_at(area, p);
+        if !intmap::begins(c) {
+            return end + 1;
+        }
+        if intmap::key_of(c) < key {
+            if p + flat_size(c) == high {
+                return high;
+            }
+            return end + 1;
+        }
+        if intmap::key_of(c) == key {
+            return end + 1;
+        }
+        high = p;
+        left -= 1;
+    }
+    end + 1
+}
+
 // Looks for a key by halves, and at each cell for what is at the distance of its key.
 fn by_halves(area: &[u8], base: usize, end: usize, key: u64) -> usize
     requires { ⌜ Among (cells (now area)) base end × (key < 1099511627776) ⌝ }
@@ -286,35 +318,16 @@ pub fn entry_at(map: IntMap, area: &[u8], class: u64, k: u64) -> Slot
     Slot::Absent
 }
 
-// Whether the last entry has a lower key than this, so that an entry of it belongs at the map's end.
-fn is_behind(map: IntMap, area: &[u8], key: u64) -> bool
-    requires { ⌜ IsMap (cells (now area)) map ⌝ }
-    ensures { λ r. ⌜ (r ≡ true → LastBelow (cells (now (area .entry))) map key) ⌝ }
-{
-    if map.used == 0 {
-        return false;
-    }
-    let end = map.base + map.used;
-    let p = entry_below(area, map.base, end - 1);
-    let c = area::cell_at(area, p);
-    if !intmap::begins(c) {
-        return false;
-    }
-    if key <= intmap::key_of(c) {
-        return false;
-    }
-    p + flat_size(c) == end
-}
-
 // Where a place in a class is or belongs: at the map's end, if its key is above all, or by a search of all entries.
 pub fn place_of(map: IntMap, area: &[u8], class: u64, k: u64) -> Found
     requires { ⌜ Held (cells (now area)) map × (class < 3) × (k ≤ 65535) ⌝ }
     ensures { λ r. ⌜ r ≡ seek (cells (now (area .entry))) levels (classKey class k) (map .len) (map .base) ⌝ }
 {
     let key = intmap::class_key(class, k);
-    if is_behind(map, area, key) {
+    let end = map.base + map.used;
+    if place_last(area, map.base, end, key) == end {
         return Found {
-            at: map.base + map.used,
+            at: end,
             left: 0,
             present: false,
         };
@@ -334,7 +347,7 @@ pub fn get(map: IntMap, area: &[u8], class: u64, i: u64) -> Slot
     }
 }
 
-// Where the cell of a key is found, or `end`, without a search of all entries.
+// Where the cell of a key is found, or `end`, without a search of all entries. A key that belongs behind one of the last entries is new.
 fn guess(area: &[u8], base: usize, end: usize, key: u64) -> usize
     requires { ⌜ Among (cells (now area)) base end × (key < 1099511627776) ⌝ }
     ensures { λ r. ⌜ Guesses (cells (now (area .entry))) base end key r ⌝ }
@@ -342,6 +355,9 @@ fn guess(area: &[u8], base: usize, end: usize, key: u64) -> usize
     let p = near(area, base, end, key);
     if p < end {
         return p;
+    }
+    if place_last(area, base, end, key) <= end {
+        return end;
     }
     far(area, base, end, 0, key)
 }
@@ -368,6 +384,24 @@ pub fn overwrite_own(map: IntMap, area: &mut [u8], class: u64, i: u64, c: Cell) 
     true
 }
 
+// Stores a cell that is no record's under index i of a class: where that belongs among the last entries, or by a search.
+fn store_new(map: IntMap, area: &mut [u8], class: u64, i: u64, c: Cell, limit: usize) -> Stored
+    requires { ⌜ Current limit (cells (now area)) map × (class < 3) × (tagOf c ≡ 2 → ⊥) ⌝ }
+    ensures { λ r. ⌜ StoresCell limit (cells (now (area .entry))) (cells (now (area .exit))) map class i c r ⌝ }
+{
+    let x = intmap::judge_index(i);
+    let Index::At(k) = x else {
+        return map.store_cell(area, class, i, c, limit);
+    };
+    let key = intmap::class_key(class, k);
+    let end = map.base + map.used;
+    let p = place_last(area, map.base, end, key);
+    if end < p {
+        return map.store_cell(area, class, i, c, limit);
+    }
+    intmap::as_stored(map.insert_new(area, p, intmap::with_key(c, key), limit))
+}
+
 // Stores a cell that is no record's under index i of a class: over its own cell, if that is found at once.
 pub fn store_cell(map: IntMap, area: &mut [u8], class: u64, i: u64, c: Cell, limit: usize) -> Stored
     requires { ⌜ Current limit (cells (now area)) map × (class < 3) × (tagOf c ≡ 2 → ⊥) ⌝ }
@@ -376,7 +410,7 @@ pub fn store_cell(map: IntMap, area: &mut [u8], class: u64, i: u64, c: Cell, lim
     if overwrite_own(map, area, class, i, c) {
         return Stored::Done(map);
     }
-    map.store_cell(area, class, i, c, limit)
+    store_new(map, area, class, i, c, limit)
 }
 
 // Writes c over the cell at p, if that is register i's own and no record's. Says whether it was.

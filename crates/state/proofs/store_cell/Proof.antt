@@ -1,6 +1,6 @@
 use Rattle.state.proofs.LeadsLaws.{current-held}
-use Rattle.state.proofs.OwnLaws.{none-written, stored-then}
--- `state::store_cell` writes over the own cell, or stores by the map. Assumes nothing.
+use Rattle.state.proofs.OwnLaws.{still-current, stored-then}
+-- `state::store_cell` writes over the own cell, or stores a new one. Assumes nothing.
 use native.Mathlib.Omega.{arith}
 use borrow.Author.Needs.{needs}
 use Rattle.state.proofs.store_cell.Statement.{statement}
@@ -15,14 +15,14 @@ same-length c = search needs
 returns : tie.Need-returns
 returns c = c .before .before .before .overwrite-own .ensures .yes (c .if1 .taken) _ (c .before .before .before .before .before .before .pre .0 .room)
 
-store-cell-requires : tie.Need-store-cell-requires
-store-cell-requires c κs = (none-written (c .before .before .before .before .overwrite-own .ensures) (c .before .if1 .left) (c .before .before .before .before .before .before .before .pre .0 .room), c .before .before .before .before .before .before .before .pre .1, c .before .before .before .before .before .before .before .pre .2)
+store-new-requires : tie.Need-store-new-requires
+store-new-requires c κs = (still-current (c .before .before .before .before .overwrite-own .ensures) (c .before .if1 .left) (c .before .before .before .before .before .before .before .pre .0), c .before .before .before .before .before .before .before .pre .1, c .before .before .before .before .before .before .before .pre .2)
 
 same-length-2 : tie.Need-same-length-2
 same-length-2 c = search needs
 
 returns-2 : tie.Need-returns-2
-returns-2 c = stored-then (c .before .before .before .before .before .before .before .overwrite-own .ensures) (c .before .before .before .before .if1 .left) (c .before .before .store-cell .ensures)
+returns-2 c = stored-then (c .before .before .before .before .before .before .before .overwrite-own .ensures) (c .before .before .before .before .if1 .left) (c .before .before .store-new .ensures)
 
 pub store-cell-spec : {M : Type 1} → statement M
 store-cell-spec =
@@ -31,6 +31,6 @@ store-cell-spec =
     overwrite-own-requires
     same-length
     returns
-    store-cell-requires
+    store-new-requires
     same-length-2
     returns-2)

@@ -1,0 +1,88 @@
+use mathlib.Core.Path.{ap, subst}
+use mathlib.Core.List.{[], _∷_}
+use Rattle.area.specs.declared.Cell.{Cell}
+use Rattle.intmap.specs.Get.{Within}
+use Rattle.intmap.proofs.JudgedLaws.{store-tried}
+use Rattle.intmap.proofs.StoreLaws.{room-map}
+use Rattle.state.proofs.LeadsLaws.{current-held}
+use Rattle.state.proofs.OwnLaws.{among-map, new-at, keyed-new, map-stored}
+-- `state::store_new` puts the cell where it belongs, or stores by the map. Assumes nothing.
+use native.Mathlib.Omega.{arith}
+use borrow.Author.Needs.{needs}
+use Rattle.state.proofs.store_new.Statement.{statement}
+use Rattle.state.proofs.store_new.Tie as tie
+
+judge-index-requires : tie.Need-judge-index-requires
+judge-index-requires c κs = search needs
+
+enum-known-x : tie.Need-enum-known-x
+enum-known-x c = search needs
+
+enum-told : tie.Need-enum-told
+enum-told c = search needs
+
+store-cell-requires : tie.Need-store-cell-requires
+store-cell-requires c κs = (c .before .before .before .before .before .pre .0 .room, c .before .before .before .before .before .pre .1, c .before .before .before .before .before .pre .2)
+
+same-length : tie.Need-same-length
+same-length c = search needs
+
+returns : tie.Need-returns
+returns c = map-stored _ _ _ _ _ _ _ _ (c .before .before .store-cell .ensures)
+
+class-key-requires : tie.Need-class-key-requires
+class-key-requires c κs = (c .before .before .before .before .before .pre .1, subst Within (c .before .x .given .1) (c .before .before .before .judge-index .ensures .small))
+
+add-end : tie.Need-add-end
+add-end c = omega (arith, c .before .before .before .before .before .before .before .pre .0 .room .most, c .before .before .before .before .before .before .before .pre .0 .room .room, c .before .before .before .before .before .before .before .pre .0 .room .small)
+
+place-last-requires : tie.Need-place-last-requires
+place-last-requires c κs = among-map (room-map (c .before .before .before .before .before .before .before .before .pre .0 .room))
+
+store-cell-requires-2 : tie.Need-store-cell-requires-2
+store-cell-requires-2 c κs = (c .before .before .before .before .before .before .before .before .before .before .before .pre .0 .room, c .before .before .before .before .before .before .before .before .before .before .before .pre .1, c .before .before .before .before .before .before .before .before .before .before .before .pre .2)
+
+same-length-2 : tie.Need-same-length-2
+same-length-2 c = search needs
+
+returns-2 : tie.Need-returns-2
+returns-2 c = map-stored _ _ _ _ _ _ _ _ (c .before .before .store-cell2 .ensures)
+
+with-key-requires : tie.Need-with-key-requires
+with-key-requires c κs = omega (arith, c .before .before .before .before .before .class-key .ensures, c .before .before .before .before .before .before .before .before .before .before .before .pre .1, subst Within (c .before .before .before .before .before .before .before .x .given .1) (c .before .before .before .before .before .before .before .before .before .judge-index .ensures .small))
+
+insert-new-requires : tie.Need-insert-new-requires
+insert-new-requires c κs = let new = new-at _ (c .before .before .before .before .before .before .before .before .before .before .before .before .args .map) (current-held (c .before .before .before .before .before .before .before .before .before .before .before .before .pre .0)) _ _ (c .before .before .before .place-last .ensures (omega (arith, c .before .before .if1 .left))) (omega (arith, c .before .before .before .before .before .before .class-key .ensures)) in
+    let it = keyed-new new (c .before .before .before .before .before .before .before .before .before .before .before .before .args .c) _ (c .with-key .ensures) (c .before .before .before .before .before .before .before .before .before .before .before .before .pre .2) in
+    (c .before .before .before .before .before .before .before .before .before .before .before .before .pre .0 .room, it .0, it .1)
+
+as-stored-requires : tie.Need-as-stored-requires
+as-stored-requires c κs = search needs
+
+same-length-3 : tie.Need-same-length-3
+same-length-3 c = search needs
+
+returns-3 : tie.Need-returns-3
+returns-3 c = map-stored _ _ _ _ _ _ _ _ (store-tried _ _ _ _ _ _ _ _ _ (c .before .before .before .before .before .before .before .before .before .before .before .before .before .before .judge-index .ensures .answer) _ (c .before .before .before .before .before .before .before .before .before .before .before .before .x .given .1) _ _ _ _ (omega arith) (c .before .before .before .before .before .before .before .before .before .before .class-key .ensures) (ap (λ (h : Cell). h ∷ []) (c .before .before .before .before .with-key .ensures)) (c .before .before .before .insert-new .ensures) (c .as-stored .ensures))
+
+pub store-new-spec : {M : Type 1} → statement M
+store-new-spec =
+    tie.close
+    (tie.spec
+    judge-index-requires
+    enum-known-x
+    enum-told
+    store-cell-requires
+    same-length
+    returns
+    class-key-requires
+    add-end
+    place-last-requires
+    store-cell-requires-2
+    same-length-2
+    returns-2
+    with-key-requires
+    insert-new-requires
+    as-stored-requires
+    same-length-3
+    returns-3)
