@@ -110,7 +110,7 @@ fn store_from(map: IntMap, area: &mut [u8], at: usize, c: Cell, j: u64, limit: u
     ensures { λ r. ⌜ StoresRun limit (cells (now (area .entry))) (cells (now (area .exit))) map at c j r ⌝ }
 {
     if intmap::tag_of(c) != intmap::RECORD {
-        return map.store_cell(area, state::REGISTERS, j, c, limit);
+        return state::store_cell(map, area, state::REGISTERS, j, c, limit);
     }
     cursor_arms::run_behind(map, area, at, state::UNKNOWN, limit);
     let to = map.base + limit;

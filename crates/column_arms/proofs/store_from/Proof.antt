@@ -1,5 +1,4 @@
 use Rattle.column_arms.proofs.RunLaws.{behind-inside, run-room, run-above, stores-run, stores-alone}
-use Rattle.state.proofs.OwnLaws.{map-stored}
 use mathlib.Core.Path.{_∙_}
 -- `column_arms::store_from` stores a cell alone, or moves the run behind the map, writes its head, and stores it. Assumes nothing.
 use native.Mathlib.Omega.{arith}
@@ -11,13 +10,13 @@ tag-of-requires : tie.Need-tag-of-requires
 tag-of-requires c κs = search needs
 
 store-cell-requires : tie.Need-store-cell-requires
-store-cell-requires c κs = (c .before .before .before .before .pre .0 .room, omega arith, λ e. c .before .if1 .taken (c .before .before .tag-of .ensures ∙ e))
+store-cell-requires c κs = (c .before .before .before .before .pre .0, omega arith, λ e. c .before .if1 .taken (c .before .before .tag-of .ensures ∙ e))
 
 same-length : tie.Need-same-length
 same-length c = search needs
 
 returns : tie.Need-returns
-returns c = stores-alone _ _ _ _ _ (c .before .before .before .before .before .before .before .pre .3) (λ e. c .before .before .before .before .if1 .taken (c .before .before .before .before .before .tag-of .ensures ∙ e)) _ _ _ (map-stored _ _ _ _ _ _ _ _ (c .before .before .store-cell .ensures))
+returns c = stores-alone _ _ _ _ _ (c .before .before .before .before .before .before .before .pre .3) (λ e. c .before .before .before .before .if1 .taken (c .before .before .before .before .before .tag-of .ensures ∙ e)) _ _ _ (c .before .before .store-cell .ensures)
 
 run-behind-requires : tie.Need-run-behind-requires
 run-behind-requires c κs = search needs
