@@ -5,6 +5,7 @@ use mathlib.Core.Option.{Option}
 use mathlib.Core.List.{List}
 use Prim.Native.Nat.{ℕ, zero, suc, _+_, _-_, _<_, _≤_}
 use native.Mathlib.Omega.{arith}
+use native.Mathlib.Decide.{ℕ-discrete}
 use lib.Dec.{eqb}
 use lib.IntN.{ℤ}
 use lib.ListN.{length, getD, set, length-set}
@@ -49,7 +50,7 @@ use Rattle.cursor_arms.specs.declared.CursorDataType.the-variants as cursor
 use Rattle.cursor_arms.proofs.DupLaws.{frame-same}
 use Rattle.cursor_arms.proofs.StandsLaws.{led-at, led-nowhere, led-bad, table-tells, table-tag, head-there, HeadLed, columns-led}
 use Rattle.cursor_arms.proofs.TableLaws.{sizes-alike, size-alike}
-use Rattle.table_arms.specs.Nulled.{Nulled}
+use Rattle.table_arms.specs.Nulled.{AreNullable, Nulled}
 
 -- ---- a head
 
@@ -148,6 +149,31 @@ module _ (now after : List Cell) (left p : ℕ) (lt : 0 < left) (w : after ≡ s
       ap₂ (λ (l : List Cell) (q : ℕ). sizes (size l 8) (left - 1) (p + q)) w null-one
       ∙ changed-sizes (singleNullable 2) 8 now p (left - 1)
       ∙ omega (arith, flat, sizes-step (size now 8) left p lt, null-one)
+
+-- those that may be null already are passed
+pub one-more : (cs : List Cell) (p k : ℕ) → AreNullable cs p k → nullableOf (getD cs (p + k) blank) ≡ 2 → AreNullable cs p (k + 1)
+one-more cs p k all last j lt = go (ℕ-discrete j k)
+  where
+    go : Dec (j ≡ k) → nullableOf (getD cs (p + j) blank) ≡ 2
+    go (yes e) = subst (λ i. nullableOf (getD cs (p + i) blank) ≡ 2) (sym e) last
+    go (no ne) = all j (omega (arith, lt, ne))
+
+pub skipped : (cs : List Cell) (k n p : ℕ) → k ≤ n → sizes (size cs 8) n p ≡ n → AreNullable cs p k → (onHeads (singleNullable 2) 8 cs (n - k) (p + k) ≡ onHeads (singleNullable 2) 8 cs n p) × (sizes (size cs 8) (n - k) (p + k) ≡ n - k)
+skipped cs zero n p le flat all =
+    let z : n - 0 ≡ n = omega arith in
+    let y : p + 0 ≡ p = omega arith in
+    rw (z, y) (refl, flat)
+skipped cs (suc k) n p le flat all =
+    let lt : 0 < n = omega (arith, le) in
+    let z : p + 0 ≡ p = omega arith in
+    let first = subst (λ q. nullableOf (getD cs q blank) ≡ 2) z (all 0 (omega arith)) in
+    let kept = cell-kept cs p (getD cs p blank) refl (already-head (getD cs p blank) first) in
+    let others : AreNullable cs (p + 1) k = λ j l. let y : p + suc j ≡ p + 1 + j = omega arith in subst (λ q. nullableOf (getD cs q blank) ≡ 2) y (all (suc j) (omega (arith, l))) in
+    let rest = skipped cs k (n - 1) (p + 1) (omega (arith, le)) (null-flat cs cs n p lt kept flat) others in
+    let turn = null-turn cs cs n p 1 (getD cs p blank) (singleNullable 2 (getD cs p blank)) lt refl (null-one cs cs n p lt kept flat) refl kept (onHeads (singleNullable 2) 8 cs n p) refl in
+    let fewer : n - suc k ≡ n - 1 - k = omega (arith, le) in
+    let further : p + suc k ≡ p + 1 + k = omega arith in
+    rw (fewer, further) (rest .0 ∙ turn, rest .1)
 
 pub null-done : (cs ds : List Cell) (n at left p : ℕ) → left ≤ 0 → onHeads (singleNullable 2) 8 ds left p ≡ onHeads (singleNullable 2) 8 cs n at → Nulled cs ds n at
 unfolding onHeads

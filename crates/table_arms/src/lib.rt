@@ -1,5 +1,6 @@
 // The arms of `explain` that change what a cursor stands for: NullRow, Insert, IdxInsert and SorterInsert. Translated from sqlx-sqlite 0.9.0, src/connection/explain.rs.
 ghost use mathlib.Core.Path.{_≡_};
+ghost use lib.ListN.{length};
 ghost use Prim.Native.Nat.{ℕ, _+_, _≤_};
 ghost use Rattle.model.specs.Operation.{opNullRow, opInsert};
 ghost use Rattle.area.specs.Cells.{cells, Inside};
@@ -10,7 +11,7 @@ ghost use Rattle.encoding.specs.Heads.{singleNullable};
 ghost use Rattle.rows.specs.Judged.{IsRow};
 ghost use Rattle.state.specs.Leads.{Current, SomeCurrent, Leads};
 ghost use Rattle.state.specs.Arms.{CursorArm};
-ghost use Rattle.table_arms.specs.Nulled.{NulledCell, Nulled};
+ghost use Rattle.table_arms.specs.Nulled.{NulledCell, AreNullable, Nulled};
 ghost use Rattle.table_arms.specs.Inserted.{fillTable, StoresTable, InsertsRecord, InsertsFrom};
 use area::Cell;
 use cursor_arms::CursorDataType;
@@ -61,13 +62,30 @@ fn null_cell(area: &mut [u8], p: usize)
     area::put_cell(area, p, as_nullable(c));
 }
 
+// How many of the n cells from `from` on may be null, before the first that may not. Tables are passed over like this most often: the test that the
+// loop makes is one of a byte.
+fn nullable_cells(area: &[u8], from: usize, n: u64) -> u64
+    requires { ⌜ (from + n ≤ length (cells (now area))) × (length (cells (now area)) ≤ 1048576) ⌝ }
+    ensures { λ r. ⌜ (r ≤ n) × AreNullable (cells (now (area .entry))) from r ⌝ }
+{
+    let mut k: u64 = 0;
+    while k < n {
+        if intmap::nullable_of(area::cell_at(area, from + k as usize)) != state::NULLABLE {
+            return k;
+        }
+        k += 1;
+    }
+    k
+}
+
 // As `null_columns`, where each of the columns has one cell.
 fn null_cells(area: &mut [u8], from: usize, n: u64)
     requires { ⌜ AreColumns (cells (now area)) 8 n from × (sizes (size (cells (now area)) 8) n from ≡ n) ⌝ }
     ensures { λ _. ⌜ Nulled (cells (now (area .entry))) (cells (now (area .exit))) n from ⌝ }
 {
-    let mut p = from;
-    let mut left = n;
+    let k = nullable_cells(area, from, n);
+    let mut p = from + k as usize;
+    let mut left = n - k;
     while 0 < left {
         null_cell(area, p);
         p += 1;
