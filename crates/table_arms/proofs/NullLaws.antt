@@ -158,6 +158,12 @@ one-more cs p k all last j lt = go (ℕ-discrete j k)
     go (yes e) = subst (λ i. nullableOf (getD cs (p + i) blank) ≡ 2) (sym e) last
     go (no ne) = all j (omega (arith, lt, ne))
 
+pub two-more : (cs : List Cell) (p k : ℕ) → AreNullable cs p k → nullableOf (getD cs (p + k) blank) ≡ 2 → nullableOf (getD cs (p + k + 1) blank) ≡ 2 → AreNullable cs p (k + 2)
+two-more cs p k all one two =
+    let next : p + k + 1 ≡ p + (k + 1) = omega arith in
+    let many : k + 1 + 1 ≡ k + 2 = omega arith in
+    subst (AreNullable cs p) many (one-more cs p (k + 1) (one-more cs p k all one) (subst (λ q. nullableOf (getD cs q blank) ≡ 2) next two))
+
 pub skipped : (cs : List Cell) (k n p : ℕ) → k ≤ n → sizes (size cs 8) n p ≡ n → AreNullable cs p k → (onHeads (singleNullable 2) 8 cs (n - k) (p + k) ≡ onHeads (singleNullable 2) 8 cs n p) × (sizes (size cs 8) (n - k) (p + k) ≡ n - k)
 skipped cs zero n p le flat all =
     let z : n - 0 ≡ n = omega arith in
