@@ -151,7 +151,7 @@ fn flat_size(c: Cell) -> usize
 // How many of the first and of the last entries a search tries.
 const FIRST: usize = 2;
 
-const LAST: usize = 8;
+const LAST: usize = 24;
 
 // Looks for a key at its distance from the first entries of a map, whose cells are from `base` on and before `end`.
 fn near_first(area: &[u8], base: usize, end: usize, key: u64) -> usize
