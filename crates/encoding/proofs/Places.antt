@@ -15,7 +15,7 @@ use Rattle.model.specs.Good.{SortedColumn, SortedColumns, GoodRegister, GoodTab
 use Rattle.area.specs.Cells.{blank}
 use Rattle.area.specs.declared.Cell.{Cell}
 use Rattle.intmap.specs.Pack.{keyOf, classKey}
-use Rattle.intmap.specs.Find.{place, seek}
+use Rattle.intmap.specs.Find.{seek}
 use Rattle.intmap.specs.Runs.{size, sizes}
 use Rattle.intmap.specs.Entries.{Runs, span, entries, keyRun}
 use Rattle.intmap.proofs.FindLaws.{seek-here, seek-past}
@@ -149,47 +149,6 @@ module _ (cs : List Cell) (d p : ℕ) (outer : 65536 ≤ keyOf (getD cs p blank)
               let low : keyOf (getD cs at blank) < key = omega (arith, b .from, first-key cs at (size cs d at) (size-pos cs d at)) in
               let w = seek-past cs d key n at low in
               record { from = omega (arith, s .0, first-key cs at z pos, low); here = ap (λ x. x .at) w ∙ b .here; present = ap (λ x. x .present) w ∙ b .present }
-
--- the cell at p begins the last of the entries from `at` on, and a key above its own belongs behind them
-record Ends (cs : List Cell) (d key n at low p : ℕ) : Type 0 where
-  from : low ≤ keyOf (getD cs p blank)
-  behind : seek cs d key n at ≡ place (at + sizes (size cs d) n at) 0 false
-
-module _ (cs : List Cell) (d p key : ℕ) (outer : 65536 ≤ keyOf (getD cs p blank)) (less : keyOf (getD cs p blank) < key) where
-  none-left : (n q : ℕ) → n ≡ 0 → seek cs d key n q ≡ place q 0 false
-  unfolding seek
-  none-left zero q e = refl
-  none-left (suc n) q e = absurd (omega (arith, e))
-
-  ends : (n at low : ℕ) → Apart low (entries cs d n at) → at ≤ p → p < at + sizes (size cs d) n at → p + size cs d p ≡ at + sizes (size cs d) n at → Ends cs d key n at low p
-  unfolding entries sizes
-  ends zero at low s from to last = absurd (omega arith)
-  ends (suc n) at low s from to last = by (ℕ-discrete p at) (ltb p (at + size cs d at)) refl (ends n (at + size cs d at) (suc (keyRun (span cs at (size cs d at)))))
-    where
-      by : Dec (p ≡ at) → (t : Bool) → ltb p (at + size cs d at) ≡ t
-          → (Apart (suc (keyRun (span cs at (size cs d at)))) (entries cs d n (at + size cs d at)) → at + size cs d at ≤ p → p < at + size cs d at + sizes (size cs d) n (at + size cs d at) → p + size cs d p ≡ at + size cs d at + sizes (size cs d) n (at + size cs d at) → Ends cs d key n (at + size cs d at) (suc (keyRun (span cs at (size cs d at)))) p)
-          → Ends cs d key (suc n) at low p
-      by (yes q) t f ih =
-          let same : keyOf (getD cs at blank) ≡ keyOf (getD cs p blank) = ap (λ x. keyOf (getD cs x blank)) (sym q) in
-          let size-same : size cs d p ≡ size cs d at = ap (size cs d) q in
-          let none : n ≡ 0 = omega (arith, last, q, size-same, sizes-many cs d n (at + size cs d at)) in
-          let rest : sizes (size cs d) n (at + size cs d at) ≡ 0 = omega (arith, last, q, size-same) in
-          let w = seek-past cs d key n at (omega (arith, same, less)) ∙ none-left n (at + size cs d at) none in
-          record { from = omega (arith, s .0, first-key cs at (size cs d at) (size-pos cs d at), same); behind = w ∙ ap (λ k. place k 0 false) (omega (arith, rest)) }
-      by (no ne) true f ih = absurd (omega (arith, outer, other-key cs at p (size cs d at) (size-pos cs d at) (s .1) (omega (arith, ne)) (ltb-true p (at + size cs d at) f)))
-      by (no ne) false f ih =
-          let b = ih (s .2) (ltb-false p (at + size cs d at) f) (omega arith) (omega (arith, last)) in
-          let low-key : keyOf (getD cs at blank) < keyOf (getD cs p blank) = omega (arith, b .from, first-key cs at (size cs d at) (size-pos cs d at)) in
-          let w = seek-past cs d key n at (omega (arith, low-key, less)) in
-          record { from = omega (arith, s .0, first-key cs at (size cs d at) (size-pos cs d at), low-key); behind = w ∙ b .behind ∙ ap (λ k. place k 0 false) (omega arith) }
-
--- a key above that of the last entry, whose run reaches the map's end, belongs there
-pub held-behind : {limit bound : ℕ} {cs : List Cell} {base len used : ℕ} {m : MemoryState} → Holds limit bound cs base len used m
-    → (p key : ℕ) → base ≤ p → p < base + used → 65536 ≤ keyOf (getD cs p blank) → keyOf (getD cs p blank) < key → p + size cs 9 p ≡ base + used
-    → seek cs 9 key len base ≡ place (base + used) 0 false
-held-behind {limit} {bound} {cs} {base} {len} {used} {m} h p key from to outer less last =
-    ends cs 9 p key outer less len base 65536 (subst (Apart 65536) (sym (h .runs)) (state-apart limit m (h .good))) from (omega (arith, h .takes)) (omega (arith, last, h .takes)) .behind
-    ∙ ap (λ k. place k 0 false) (omega (arith, h .takes))
 
 -- what a search for its key finds
 pub held-place : {limit bound : ℕ} {cs : List Cell} {base len used : ℕ} {m : MemoryState} → Holds limit bound cs base len used m

@@ -1,13 +1,12 @@
 -- The laws of a search: what each turn of its loop leaves, and where what it finds lies. Assumes nothing.
-use mathlib.Core.Path.{_≡_, refl, sym, ap, subst, _∙_}
+use mathlib.Core.Path.{_≡_, refl, ap, _∙_}
 use mathlib.Core.List.{List}
 use mathlib.Core.Bool.{Bool, true, false, false≢true}
-use mathlib.Core.Logic.{_⊎_, inl, inr}
 use Prim.Native.Nat.{ℕ, zero, suc, _+_, _-_, _<_, _≤_}
 use native.Mathlib.Omega.{arith}
 use lib.ListN.{getD}
 use lib.Dec.{eqb, ltb}
-use borrow.Author.Tests.{ltb-true, lt-ltb, le-ltb, eqb-true, ne-eqb}
+use borrow.Author.Tests.{ltb-true, ltb-false, lt-ltb, le-ltb, eqb-true}
 use Rattle.area.specs.Cells.{blank}
 use Rattle.area.specs.declared.Cell.{Cell}
 use Rattle.intmap.specs.Pack.{keyOf}
@@ -87,6 +86,30 @@ module _ (cs : List Cell) (d key : ℕ) where
       go true h ih = ih h ∙ ap (λ x. place x 0 false) (omega arith)
       go false h ih = absurd (omega arith)
 
+  -- nor does one that ends where they do
+  pub seek-last : (n p : ℕ) → seek cs d key n p .at ≡ p + sizes (size cs d) n p → seek cs d key n p ≡ place (p + sizes (size cs d) n p) 0 false
+  unfolding seek sizes
+  seek-last zero p h = ap (λ x. place x 0 false) (omega arith)
+  seek-last (suc n) p h = go (ltb (keyOf (getD cs p blank)) key) h (seek-last n (p + size cs d p))
+    where
+      go : (t : Bool) → pick t (seek cs d key n (p + size cs d p)) (place p (suc n) (eqb (keyOf (getD cs p blank)) key)) .at ≡ p + (size cs d p + sizes (size cs d) n (p + size cs d p))
+          → (seek cs d key n (p + size cs d p) .at ≡ p + size cs d p + sizes (size cs d) n (p + size cs d p) → seek cs d key n (p + size cs d p) ≡ place (p + size cs d p + sizes (size cs d) n (p + size cs d p)) 0 false)
+          → pick t (seek cs d key n (p + size cs d p)) (place p (suc n) (eqb (keyOf (getD cs p blank)) key)) ≡ place (p + (size cs d p + sizes (size cs d) n (p + size cs d p))) 0 false
+      go true h ih = ih (h ∙ omega arith) ∙ ap (λ x. place x 0 false) (omega arith)
+      go false h ih = absurd (omega (arith, h, size-pos cs d p))
+
+  -- what a search ends at is not below the key
+  pub seek-stop : (n p : ℕ) → seek cs d key n p .at < p + sizes (size cs d) n p → key ≤ keyOf (getD cs (seek cs d key n p .at) blank)
+  unfolding seek sizes
+  seek-stop zero p h = absurd (omega (arith, h))
+  seek-stop (suc n) p h = go (ltb (keyOf (getD cs p blank)) key) refl h (seek-stop n (p + size cs d p))
+    where
+      go : (t : Bool) → ltb (keyOf (getD cs p blank)) key ≡ t → pick t (seek cs d key n (p + size cs d p)) (place p (suc n) (eqb (keyOf (getD cs p blank)) key)) .at < p + (size cs d p + sizes (size cs d) n (p + size cs d p))
+          → (seek cs d key n (p + size cs d p) .at < p + size cs d p + sizes (size cs d) n (p + size cs d p) → key ≤ keyOf (getD cs (seek cs d key n (p + size cs d p) .at) blank))
+          → key ≤ keyOf (getD cs (pick t (seek cs d key n (p + size cs d p)) (place p (suc n) (eqb (keyOf (getD cs p blank)) key)) .at) blank)
+      go true l h ih = ih (omega (arith, h))
+      go false l h ih = ltb-false (keyOf (getD cs p blank)) key l
+
 pub seek-pos : (cs : List Cell) (d key n p : ℕ) → seek cs d key n p .present ≡ true → 0 < n
 unfolding seek
 seek-pos cs d key zero p h = absurd (false≢true h)
@@ -117,30 +140,12 @@ module _ (cs : List Cell) (d low key : ℕ) (less : low < key) where
       go true l h ih = let lt = ltb-true (keyOf (getD cs p blank)) low l in rw (seek-past cs d key n p (omega (arith, lt, less))) (ih h)
       go false l h ih = let e = eqb-true (keyOf (getD cs p blank)) low h in rw (seek-past cs d key n p (omega (arith, e, less))) (seek-from cs d key n (p + size cs d p))
 
-  -- and ends right behind it, if no entry is there or one above the key
-  stops : (n p : ℕ) → (p ≡ p + sizes (size cs d) n p) ⊎ (key < keyOf (getD cs p blank)) → (seek cs d key n p .at ≡ p) × (seek cs d key n p .present ≡ false)
-  unfolding seek sizes
-  stops zero p next = (refl, refl)
-  stops (suc n) p (inl e) = absurd (omega (arith, e, size-pos cs d p))
-  stops (suc n) p (inr lt) =
-      let e = seek-here cs d key (suc n) p (getD cs p blank) (omega arith) refl (omega (arith, lt)) in
-      (ap (λ f. f .at) (sym e), ap (λ f. f .present) (sym e) ∙ ne-eqb (keyOf (getD cs p blank)) key (omega (arith, lt)))
-
-  pub seek-after : (n p q : ℕ) → seek cs d low n p .present ≡ true → q ≡ seek cs d low n p .at + size cs d (seek cs d low n p .at) → (q ≡ p + sizes (size cs d) n p) ⊎ (key < keyOf (getD cs q blank)) → (seek cs d key n p .at ≡ q) × (seek cs d key n p .present ≡ false)
-  unfolding seek sizes
-  seek-after zero p q h qe next = absurd (false≢true h)
-  seek-after (suc n) p q h qe next = go (ltb (keyOf (getD cs p blank)) low) refl h qe next (λ h qe next. seek-after n (p + size cs d p) q h qe next)
-    where
-      on : p + (size cs d p + sizes (size cs d) n (p + size cs d p)) ≡ p + size cs d p + sizes (size cs d) n (p + size cs d p)
-      on = omega arith
-
-      go : (t : Bool) → ltb (keyOf (getD cs p blank)) low ≡ t → pick t (seek cs d low n (p + size cs d p)) (place p (suc n) (eqb (keyOf (getD cs p blank)) low)) .present ≡ true
-          → q ≡ pick t (seek cs d low n (p + size cs d p)) (place p (suc n) (eqb (keyOf (getD cs p blank)) low)) .at + size cs d (pick t (seek cs d low n (p + size cs d p)) (place p (suc n) (eqb (keyOf (getD cs p blank)) low)) .at)
-          → (q ≡ p + (size cs d p + sizes (size cs d) n (p + size cs d p))) ⊎ (key < keyOf (getD cs q blank))
-          → (seek cs d low n (p + size cs d p) .present ≡ true → q ≡ seek cs d low n (p + size cs d p) .at + size cs d (seek cs d low n (p + size cs d p) .at) → (q ≡ p + size cs d p + sizes (size cs d) n (p + size cs d p)) ⊎ (key < keyOf (getD cs q blank)) → (seek cs d key n (p + size cs d p) .at ≡ q) × (seek cs d key n (p + size cs d p) .present ≡ false))
-          → (seek cs d key (suc n) p .at ≡ q) × (seek cs d key (suc n) p .present ≡ false)
-      go true l h qe next ih = let lt = ltb-true (keyOf (getD cs p blank)) low l in rw (seek-past cs d key n p (omega (arith, lt, less))) (ih h qe (subst (λ z. (q ≡ z) ⊎ (key < keyOf (getD cs q blank))) on next))
-      go false l h qe next ih =
-          let e = eqb-true (keyOf (getD cs p blank)) low h in
-          let s = stops n (p + size cs d p) (subst (λ z. (z ≡ p + size cs d p + sizes (size cs d) n (p + size cs d p)) ⊎ (key < keyOf (getD cs z blank))) qe (subst (λ z. (q ≡ z) ⊎ (key < keyOf (getD cs q blank))) on next)) in
-          rw (seek-past cs d key n p (omega (arith, e, less))) (s .0 ∙ sym qe, s .1)
+-- a search for a lower key ends no later
+pub seek-mono : (cs : List Cell) (d low key : ℕ) → low ≤ key → (n p : ℕ) → seek cs d low n p .at ≤ seek cs d key n p .at
+unfolding seek
+seek-mono cs d low key le zero p = omega arith
+seek-mono cs d low key le (suc n) p = go (ltb (keyOf (getD cs p blank)) low) refl (seek-mono cs d low key le n (p + size cs d p))
+  where
+    go : (t : Bool) → ltb (keyOf (getD cs p blank)) low ≡ t → seek cs d low n (p + size cs d p) .at ≤ seek cs d key n (p + size cs d p) .at → pick t (seek cs d low n (p + size cs d p)) (place p (suc n) (eqb (keyOf (getD cs p blank)) low)) .at ≤ seek cs d key (suc n) p .at
+    go true l ih = let lt = ltb-true (keyOf (getD cs p blank)) low l in rw (seek-past cs d key n p (omega (arith, lt, le))) ih
+    go false l ih = seek-from cs d key (suc n) p

@@ -21,7 +21,7 @@ use Rattle.intmap.specs.Entries.{Runs, span, entries, keyRun, total}
 use Rattle.intmap.specs.Swap.{swap, lookup}
 use Rattle.intmap.specs.Map.{levels, runsAt, IsMap, HasRoom, Frame}
 use Rattle.intmap.specs.Change.{rekey}
-use Rattle.intmap.specs.Store.{RoomMade, oldCells, newLen, Behind, NewAt, Opens, put, Inserts, RunAbove, Removes}
+use Rattle.intmap.specs.Store.{RoomMade, oldCells, newLen, NewAt, Opens, put, Inserts, RunAbove, Removes}
 use Rattle.intmap.specs.declared.Found.{Found}
 use Rattle.intmap.specs.declared.IntMap.{IntMap}
 use Rattle.intmap.specs.declared.Place.{Place}
@@ -139,16 +139,19 @@ module _ (cs : List Cell) (limit : ℕ) (m : IntMap) (w v : Found) (n : ℕ) (we
 pub new-within : {cs : List Cell} {limit : ℕ} {m : IntMap} {key at : ℕ} → HasRoom cs limit m → NewAt cs m key at → (m .base ≤ at) × (at ≤ m .base + m .used)
 new-within {cs} {limit} {m} {key} has new = subst (λ q. (m .base ≤ q) × (q ≤ m .base + m .used)) (new .here) (found-in cs m key _ (room-map has) refl)
 
--- behind all entries nothing moves
-module _ (cs : List Cell) (limit : ℕ) (m : IntMap) (key n : ℕ) (has : HasRoom cs limit m) (behind : Behind cs m key) where
-  at-end : found (m .base + m .used) 0 false ≡ seek cs levels key (m .len) (m .base)
-  at-end = ap (λ u. found (m .base + u) 0 false) (has .used) ∙ sym (seek-behind cs levels key (m .len) (m .base) behind)
+-- a search with no entry left leads to their end
+pub behind-new : {cs : List Cell} {m : IntMap} {key : ℕ} → IsMap cs m → seek cs levels key (m .len) (m .base) .left ≡ 0 → NewAt cs m key (m .base + m .used)
+behind-new {cs} {m} {key} is none-left =
+    let end = seek-behind cs levels key (m .len) (m .base) none-left in
+    record { here = ap (λ f. f .at) end ∙ ap (λ u. m .base + u) (sym (is .used)); none = ap (λ f. f .present) end }
 
+-- and there nothing moves
+module _ (cs : List Cell) (limit : ℕ) (m : IntMap) (key n : ℕ) (has : HasRoom cs limit m) (new : NewAt cs m key (m .base + m .used)) where
   pub behind-full : limit < m .used + n → Opens cs cs limit m (seek cs levels key (m .len) (m .base)) n place.Full
-  behind-full over = new-full cs limit m (found (m .base + m .used) 0 false) _ n at-end refl over
+  behind-full over = new-full cs limit m (seek cs levels key (m .len) (m .base)) _ n refl (new .none) over
 
   pub behind-opened : m .used + n ≤ limit → Opens cs cs limit m (seek cs levels key (m .len) (m .base)) n (place.At (m .base + m .used) (longer m n))
-  behind-opened most = new-opened cs limit m (found (m .base + m .used) 0 false) _ n at-end refl most (m .base + m .used) refl cs (moved-none cs _ _ _ (omega arith))
+  behind-opened most = new-opened cs limit m (seek cs levels key (m .len) (m .base)) _ n refl (new .none) most (m .base + m .used) (new .here) cs (moved-none cs _ _ _ (omega arith))
 
 pub frame-same : (cs ds : List Cell) (base n : ℕ) → ds ≡ cs → Frame cs ds base n
 frame-same cs ds base n e = record { long = ap length e; below = λ j lt. ap (λ (l : List Cell). getD l j blank) e; above = λ j le. ap (λ (l : List Cell). getD l j blank) e }
@@ -367,15 +370,6 @@ removed-map cs ds m key r is d =
       used = d .used ∙ sym (ap total (d .runs)) ∙ sym (total-sizes ds levels (r .len) (r .base));
       inside = omega (arith, is .inside, d .base, d .fewer, d .frame .long);
       small = omega (arith, is .small, d .frame .long);
-    }
-
-pub removed-room : (cs ds : List Cell) (limit : ℕ) (m : IntMap) (key : ℕ) (r : IntMap) → HasRoom cs limit m → Removes cs ds m key r → HasRoom ds limit r
-removed-room cs ds limit m key r has d =
-    record {
-      used = removed-map cs ds m key r (room-map has) d .used;
-      most = omega (arith, has .most, d .fewer);
-      room = omega (arith, has .room, d .base, d .frame .long);
-      small = omega (arith, has .small, d .frame .long);
     }
 
 -- room where a search led, which is told otherwise

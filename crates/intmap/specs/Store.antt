@@ -63,10 +63,6 @@ pub record IsFound (cs : List Cell) (m : IntMap) (w : Found) : Type 0 where
   pub key : ℕ
   pub is : w ≡ seek cs levels key (m .len) (m .base)
 
--- a search for the key leads behind all entries
-abbrev pub Behind : List Cell → IntMap → ℕ → Type 0
-Behind cs m key = seek cs levels key (m .len) (m .base) .left ≡ 0
-
 -- room for n cells where a search led
 abbrev pub Opens : List Cell → List Cell → ℕ → IntMap → Found → ℕ → Place → Type 0
 Opens cs ds limit m w n p = RoomMade cs ds limit m (w .at) (oldCells cs w) n (newLen (m .len) w) p

@@ -10,7 +10,7 @@ ghost use Rattle.intmap.specs.Runs.{size, sizes, IsColumn, AreColumns, e
 ghost use Rattle.intmap.specs.Depth.{nesting};
 ghost use Rattle.intmap.specs.Find.{seek};
 ghost use Rattle.intmap.specs.Map.{levels, empty, IsMap, HasRoom, Compares, CopiedMap};
-ghost use Rattle.intmap.specs.Store.{RoomMade, IsFound, Opens, Inserts, Behind, NewAt, RunAbove, Removes, asStored, Stores, RemovesAt};
+ghost use Rattle.intmap.specs.Store.{RoomMade, IsFound, Opens, Inserts, NewAt, RunAbove, Removes, asStored, Stores, RemovesAt};
 ghost use Rattle.intmap.specs.Get.{Judges, Gets};
 ghost use Rattle.intmap.specs.Change.{rekey, Writable, FromElem};
 ghost use Rattle.intmap.specs.Entries.{span};
@@ -494,22 +494,6 @@ impl IntMap {
         self.insert_new(area, at, c, limit)
     }
 
-    // Puts a cell that is no record behind all entries, whose keys are lower.
-    pub fn append_cell(self, area: &mut [u8], c: Cell, limit: usize) -> Insertion
-        requires { ⌜ HasRoom (cells (now area)) limit self × (tagOf c ≡ 2 → ⊥) × Behind (cells (now area)) self (keyOf c) ⌝ }
-        ensures { λ r. ⌜ Inserts (cells (now (area .entry))) (cells (now (area .exit))) limit self (c ∷ []) r ⌝ }
-    {
-        if limit <= self.used {
-            return Insertion::Full;
-        }
-        area::put_cell(area, self.base + self.used, c);
-        Insertion::Done(IntMap {
-            base: self.base,
-            len: self.len + 1,
-            used: self.used + 1,
-        })
-    }
-
     // Puts the run of n cells at `from`, above the map's room, under a key, where a search for it led. The run there keeps its own key.
     pub fn insert_run_at(
         self,
@@ -560,7 +544,7 @@ impl IntMap {
         n: usize,
         limit: usize,
     ) -> Insertion
-        requires { ⌜ HasRoom (cells (now area)) limit self × RunAbove (cells (now area)) limit self from n × (key < 1099511627776) × Behind (cells (now area)) self key ⌝ }
+        requires { ⌜ HasRoom (cells (now area)) limit self × RunAbove (cells (now area)) limit self from n × (key < 1099511627776) × NewAt (cells (now area)) self key (self .base + self .used) ⌝ }
         ensures { λ r. ⌜ Inserts (cells (now (area .entry))) (cells (now (area .exit))) limit self (rekey key (span (cells (now (area .entry))) from n)) r ⌝ }
     {
         if limit < self.used + n {

@@ -4,7 +4,7 @@ use mathlib.Core.Path.{_≡_, refl, sym, ap, ap₂, subst, _∙_}
 use mathlib.Core.Logic.{_⊎_, inl, inr}
 use mathlib.Core.Bool.{Bool, true, false, _&&_, true≢false}
 use mathlib.Core.List.{List, [], _∷_}
-use Prim.Native.Nat.{ℕ, _+_, _<_, _≤_}
+use Prim.Native.Nat.{ℕ, _+_, _-_, _<_, _≤_}
 use native.Mathlib.Omega.{arith}
 use native.Mathlib.Decide.{ℕ-discrete}
 use lib.Dec.{eqb, leb, ltb}
@@ -31,15 +31,15 @@ use Rattle.intmap.specs.declared.Slot.{Slot}
 use Rattle.intmap.specs.declared.Slot.the-variants as slot
 use Rattle.intmap.specs.declared.Stored.{Stored}
 use Rattle.intmap.specs.declared.Stored.the-variants as stored
-use Rattle.intmap.proofs.FindLaws.{found-within, found-whole, found-key, seek-beyond, seek-after}
+use Rattle.intmap.proofs.FindLaws.{found-within, found-whole, found-key, seek-last, seek-stop, seek-beyond, seek-mono}
 use Rattle.intmap.proofs.RunLaws.{size-pos, size-record}
 use Rattle.intmap.proofs.GetLaws.{get-absent, get-at}
 use Rattle.intmap.proofs.JudgedLaws.{store-tried}
 use Rattle.intmap.proofs.Overwritten.{alike, alike-room, overwritten}
 use Rattle.intmap.proofs.PackLaws.{keyed-tag, keyed-key}
-use Rattle.encoding.proofs.Places.{sizes-many, held-place, held-behind}
+use Rattle.encoding.proofs.Places.{sizes-many, held-place}
 use Rattle.state.specs.Leads.{HoldsMap, Leaves, Held, Current, Leads}
-use Rattle.state.specs.Own.{foundSlot, entrySlot, isAt, isFlat, Among, Guesses, FlatSize, Follows, HasKey, Own, OverwritesOwn, StoresCell, Overwrites}
+use Rattle.state.specs.Own.{foundSlot, entrySlot, isAt, isFlat, HeldAmong, Guesses, FlatSize, Reaches, EntryBelow, Belongs, Locates, HasKey, Own, PutsPlain, OverwritesOwn, StoresCell, Overwrites}
 use Rattle.state.proofs.StoreLeads.{wider}
 
 -- what the tests of a cell tell
@@ -71,23 +71,168 @@ has-key cs a key p low e = record { low = low; inside = told-key cs (a .base + a
 pub guessed-end : (cs : List Cell) (base end key : ℕ) → base ≤ end → Guesses cs base end key end
 guessed-end cs base end key le = record { low = le; high = omega arith; is = λ lt. absurd (omega (arith, lt)) }
 
-pub among-map : {cs : List Cell} {a : IntMap} → IsMap cs a → Among cs (a .base) (a .base + a .used)
-among-map is = record { ordered = omega arith; inside = is .inside; small = is .small }
+pub held-among : {cs : List Cell} {a : IntMap} → Held cs a → HeldAmong cs (a .base) (a .base + a .used)
+held-among {a = a} held = record { map = a; held = held; first = refl; ordered = omega arith; last = omega arith }
 
-pub guess-key : {cs : List Cell} {a : IntMap} {key p : ℕ} → Guesses cs (a .base) (a .base + a .used) key p → p < a .base + a .used → HasKey cs a key p
-guess-key g lt = record { low = g .low; inside = lt; is = g .is lt }
+-- ---- entries in the order of their keys
 
-pub none-fit : (cs : List Cell) (base end : ℕ) → base ≤ end → base + sizes (size cs levels) 0 base ≤ end
-unfolding sizes
-none-fit cs base end le = omega (arith, le)
+-- an entry has at least as many cells
+flat-least : (cs : List Cell) (p n : ℕ) → FlatSize (getD cs p blank) n → n ≤ size cs levels p
+flat-least cs p n flat = go (ℕ-discrete (tagOf (getD cs p blank)) 2)
+  where
+    go : Dec (tagOf (getD cs p blank) ≡ 2) → n ≤ size cs levels p
+    go (yes t) = omega (arith, flat .most .0 t, size-record cs 9 p (getD cs p blank) refl (omega arith) t, sizes-many cs 8 (getD cs p blank .payload) (p + 1))
+    go (no t) = omega (arith, flat .most .1 t, size-pos cs levels p)
 
--- where what a search found lies
-pub found-guess : (cs : List Cell) (base end key len : ℕ) → base + sizes (size cs levels) len base ≤ end → (w : Found) → w ≡ seek cs levels key len base → w .present ≡ true → (Guesses cs base end key (w .at)) × (w .at < end)
-found-guess cs base end key len fits w we there =
-    let whole = found-whole cs levels key len base w we there in
-    let some-cell = size-pos cs levels (w .at) in
-    let lt : w .at < end = omega (arith, whole, some-cell) in
-    (record { low = found-within cs levels key len base w we .0; high = omega (arith, lt); is = λ _. found-key cs levels key len base w we there }, lt)
+module _ {cs : List Cell} {base end : ℕ} (h : HeldAmong cs base end) where
+  pub among-inside : (end ≤ length cs) × (length cs ≤ 1048576)
+  among-inside = (omega (arith, h .last, h .held .map .inside), h .held .map .small)
+
+  pub among-to : (at : ℕ) → base ≤ at → at < end → HeldAmong cs base (at + 1)
+  among-to at from to = record { map = h .map; held = h .held; first = h .first; ordered = omega (arith, from); last = omega (arith, to, h .last) }
+
+  abbrev sought : ℕ → Found
+  sought p = seek cs levels (keyOf (getD cs p blank)) (h .map .len) (h .map .base)
+
+  at-place : (p : ℕ) → base ≤ p → p < end → 65536 ≤ keyOf (getD cs p blank) → (sought p .at ≡ p) × (sought p .present ≡ true)
+  at-place p from to outer = held-place (h .held .holds) p (omega (arith, h .first, from)) (omega (arith, h .last, to)) outer
+
+  -- an entry of a higher key is beyond the other
+  above : (q p : ℕ) → base ≤ q → q < end → base ≤ p → p < end → 65536 ≤ keyOf (getD cs q blank) → keyOf (getD cs q blank) < keyOf (getD cs p blank) → q + size cs levels q ≤ p
+  above q p q-from q-to p-from p-to outer less =
+      let at-q = at-place q q-from q-to outer in
+      let at-p = at-place p p-from p-to (omega (arith, outer, less)) in
+      let behind = ap (λ z. z + size cs levels z) (at-q .0) in
+      omega (arith, behind, at-p .0, seek-beyond cs levels (keyOf (getD cs q blank)) (keyOf (getD cs p blank)) less (h .map .len) (h .map .base) (at-q .1))
+
+  -- one that is behind another has a higher key, and is beyond it
+  module _ (q p : ℕ) (from : base ≤ q) (less : q < p) (to : p < end) (outer-q : 65536 ≤ keyOf (getD cs q blank)) (outer-p : 65536 ≤ keyOf (getD cs p blank)) where
+    pub higher : keyOf (getD cs q blank) < keyOf (getD cs p blank)
+    higher = go (ltb (keyOf (getD cs q blank)) (keyOf (getD cs p blank))) (ltb (keyOf (getD cs p blank)) (keyOf (getD cs q blank))) refl refl
+      where
+        go : (s t : Bool) → ltb (keyOf (getD cs q blank)) (keyOf (getD cs p blank)) ≡ s → ltb (keyOf (getD cs p blank)) (keyOf (getD cs q blank)) ≡ t → keyOf (getD cs q blank) < keyOf (getD cs p blank)
+        go true t e f = ltb-true (keyOf (getD cs q blank)) (keyOf (getD cs p blank)) e
+        go false true e f = absurd (omega (arith, less, size-pos cs levels p, above p q (omega (arith, from, less)) to from (omega (arith, less, to)) outer-p (ltb-true (keyOf (getD cs p blank)) (keyOf (getD cs q blank)) f)))
+        go false false e f =
+            let same : keyOf (getD cs q blank) ≡ keyOf (getD cs p blank) = omega (arith, ltb-false (keyOf (getD cs q blank)) (keyOf (getD cs p blank)) e, ltb-false (keyOf (getD cs p blank)) (keyOf (getD cs q blank)) f) in
+            let places = ap (λ k. seek cs levels k (h .map .len) (h .map .base) .at) same in
+            absurd (omega (arith, less, places, at-place q from (omega (arith, less, to)) outer-q .0, at-place p (omega (arith, from, less)) to outer-p .0))
+
+    pub beyond : q + size cs levels q ≤ p
+    beyond = above q p from (omega (arith, less, to)) (omega (arith, from, less)) to outer-q higher
+
+  -- none begins within the cells that an entry has at least
+  pub reached : (p at n : ℕ) → base ≤ p → at < end → 65536 ≤ keyOf (getD cs p blank) → FlatSize (getD cs p blank) n → at < p + n → (q : ℕ) → p < q → q ≤ at → keyOf (getD cs q blank) < 65536
+  reached p at n from to outer flat reaches q gt le = go (ltb (keyOf (getD cs q blank)) 65536) refl
+    where
+      go : (b : Bool) → ltb (keyOf (getD cs q blank)) 65536 ≡ b → keyOf (getD cs q blank) < 65536
+      go true e = ltb-true (keyOf (getD cs q blank)) 65536 e
+      go false e = absurd (omega (arith, reaches, le, flat-least cs p n flat, beyond p q from gt (omega (arith, le, to)) outer (ltb-false (keyOf (getD cs q blank)) 65536 e)))
+
+  -- where the last entry from `low` to `at` is below a key, all to `at` are that are before `low`
+  pub lower : (low at p key : ℕ) → base ≤ low → at < end → EntryBelow cs low at p → keyOf (getD cs p blank) < key
+      → ((q : ℕ) → base ≤ q → q < low → 65536 ≤ keyOf (getD cs q blank) → keyOf (getD cs q blank) < key)
+      → (q : ℕ) → base ≤ q → q ≤ at → 65536 ≤ keyOf (getD cs q blank) → keyOf (getD cs q blank) < key
+  lower low at p key from to b less before q ge le outer = go (ltb q p) (ltb p q) (ltb low p) refl refl refl
+    where
+      go : (s t u : Bool) → ltb q p ≡ s → ltb p q ≡ t → ltb low p ≡ u → keyOf (getD cs q blank) < key
+      go true t true e f g = omega (arith, less, higher q p ge (ltb-true q p e) (omega (arith, b .high, to)) outer (b .begins (ltb-true low p g)))
+      go true t false e f g = before q ge (omega (arith, ltb-true q p e, ltb-false low p g)) outer
+      go false true u e f g = absurd (omega (arith, outer, b .last q (ltb-true p q f) le))
+      go false false u e f g = subst (λ z. keyOf (getD cs z blank) < key) (omega (arith, ltb-false q p e, ltb-false p q f)) less
+
+-- no entry begins from p to `at`
+pub record NoneFrom (cs : List Cell) (p at : ℕ) : Type 0 where
+  pub none : (q : ℕ) → p ≤ q → q ≤ at → keyOf (getD cs q blank) < 65536
+
+-- what the test of the cell at p tells, where none begins behind it
+module _ {cs : List Cell} {p at : ℕ} (c : Cell) (ce : c ≡ getD cs p blank) (b : Bool) (be : b ≡ leb 65536 (keyOf c)) (behind : (q : ℕ) → p < q → q ≤ at → keyOf (getD cs q blank) < 65536) where
+  pub none-there : b ≡ false → NoneFrom cs p at
+  none-there f = record { none = λ q ge le. go q ge le (ltb p q) refl }
+    where
+      go : (q : ℕ) → p ≤ q → q ≤ at → (t : Bool) → ltb p q ≡ t → keyOf (getD cs q blank) < 65536
+      go q ge le true e = behind q (ltb-true p q e) le
+      go q ge le false e = subst (λ z. keyOf (getD cs z blank) < 65536) (omega (arith, ge, ltb-false p q e)) (subst (λ y. keyOf y < 65536) ce (leb-false 65536 (keyOf c) (sym be ∙ f)))
+
+  pub below-there : {low : ℕ} → low ≤ p → p ≤ at → b ≡ true → EntryBelow cs low at p
+  below-there low high t = record { low = low; high = high; begins = λ _. subst (λ y. 65536 ≤ keyOf y) ce (leb-true 65536 (keyOf c) (sym be ∙ t)); last = behind }
+
+pub below-at : {cs : List Cell} {low at p : ℕ} → low ≤ p → p ≤ at → (65536 ≤ keyOf (getD cs p blank)) × ((q : ℕ) → p < q → q ≤ at → keyOf (getD cs q blank) < 65536) → EntryBelow cs low at p
+below-at low high it = record { low = low; high = high; begins = λ _. it .0; last = it .1 }
+
+pub below-none : {cs : List Cell} {low at : ℕ} (p : ℕ) → low ≤ at → p ≤ low → ((q : ℕ) → p < q → q ≤ at → keyOf (getD cs q blank) < 65536) → EntryBelow cs low at low
+below-none {low = low} p ordered le last = record { low = omega arith; high = ordered; begins = λ lt. absurd (omega (arith, lt)); last = λ q lt to. last q (omega (arith, le, lt)) to }
+
+pub below-last : {cs : List Cell} {low at p : ℕ} → low ≤ at → p ≤ low → NoneFrom cs p at → EntryBelow cs low at low
+below-last {p = p} ordered le n = below-none p ordered le (λ q lt to. n .none q (omega (arith, lt)) to)
+
+-- a head reaches to `at`
+pub reached-to : {cs : List Cell} {base at p : ℕ} → HeldAmong cs base (at + 1) → base ≤ p → p ≤ at → (c : Cell) → c ≡ getD cs p blank → Reaches c (at - p) → (65536 ≤ keyOf (getD cs p blank)) × ((q : ℕ) → p < q → q ≤ at → keyOf (getD cs q blank) < 65536)
+reached-to {cs} {base} {at} {p} h from le c ce it =
+    let outer = subst (λ y. 65536 ≤ keyOf y) ce (it .begins) in
+    (outer, reached h p at (it .size) from (omega arith) outer (subst (λ y. FlatSize y (it .size)) ce (it .flat)) (omega (arith, le, it .more)))
+
+-- the place where a key belongs is where a search for it ends
+module _ {cs : List Cell} {a : IntMap} (held : Held cs a) {key p : ℕ} (big : 65536 ≤ key) (b : Belongs cs (a .base) (a .base + a .used) key p) where
+  abbrev w : Found
+  w = seek cs levels key (a .len) (a .base)
+
+  within : (a .base ≤ w .at) × (w .at ≤ a .base + sizes (size cs levels) (a .len) (a .base))
+  within = found-within cs levels key (a .len) (a .base) w refl
+
+  not-before : w .at < p → ⊥
+  not-before lt =
+      let stop = seek-stop cs levels key (a .len) (a .base) (omega (arith, lt, b .high, held .map .used)) in
+      omega (arith, stop, b .before (w .at) (within .0) lt (omega (arith, big, stop)))
+
+  not-behind : p < w .at → ⊥
+  not-behind lt =
+      let inside : p < a .base + a .used = omega (arith, lt, within .1, held .map .used) in
+      let there = held-place (held .holds) p (b .low) inside (omega (arith, big, b .after inside)) in
+      omega (arith, lt, there .0, seek-mono cs levels key (keyOf (getD cs p blank)) (b .after inside) (a .len) (a .base))
+
+  pub belongs-at : w .at ≡ p
+  belongs-at = go (ltb (w .at) p) (ltb p (w .at)) refl refl
+    where
+      go : (s t : Bool) → ltb (w .at) p ≡ s → ltb p (w .at) ≡ t → w .at ≡ p
+      go true t e f = absurd (not-before (ltb-true (w .at) p e))
+      go false true e f = absurd (not-behind (ltb-true p (w .at) f))
+      go false false e f = omega (arith, ltb-false (w .at) p e, ltb-false p (w .at) f)
+
+  -- the key is new, if it is not there
+  pub belongs-new : isAt cs (a .base + a .used) key p ≡ false → NewAt cs a key p
+  unfolding isAt
+  belongs-new absent = record { here = belongs-at; none = go (w .present) refl }
+    where
+      go : (t : Bool) → w .present ≡ t → t ≡ false
+      go false e = refl
+      go true e =
+          let whole = found-whole cs levels key (a .len) (a .base) w refl e in
+          let is = found-key cs levels key (a .len) (a .base) w refl e in
+          absurd (true≢false (sym (ap₂ (λ s t. s && t) (lt-ltb p (a .base + a .used) (omega (arith, belongs-at, whole, size-pos cs levels (w .at), held .map .used))) (eq-eqb (keyOf (getD cs p blank)) key (sym (ap (λ z. keyOf (getD cs z blank)) belongs-at) ∙ is))) ∙ absent))
+
+  pub belongs-last : p ≡ a .base + a .used → place (a .base + a .used) 0 false ≡ seek cs levels key (a .len) (a .base)
+  belongs-last e =
+      let last : a .base + a .used ≡ a .base + sizes (size cs levels) (a .len) (a .base) = omega (arith, held .map .used) in
+      ap (λ z. place z 0 false) last ∙ sym (seek-last cs levels key (a .len) (a .base) (belongs-at ∙ e ∙ last))
+
+-- where a key was located
+pub guess-locates : {cs : List Cell} {base end key p : ℕ} → Guesses cs base end key p → p < end → Locates cs base end key p
+guess-locates g lt = record { low = g .low; is = g .is; new = λ le. absurd (omega (arith, lt, le)) }
+
+pub located-here : {cs : List Cell} {base end key p : ℕ} → base ≤ p → isAt cs end key p ≡ true → Locates cs base end key p
+located-here {cs} {base} {end} {key} {p} low e = record { low = low; is = λ lt. told-key cs end key p e .1; new = λ le. absurd (omega (arith, told-key cs end key p e .0, le)) }
+
+pub located-new : {cs : List Cell} {base end key p : ℕ} → base ≤ end → Belongs cs base end key p → isAt cs end key p ≡ false → Locates cs base end key (end + p)
+located-new {cs} {base} {end} {key} {p} ordered b absent =
+    let same : end + p - end ≡ p = omega arith in
+    record { low = omega (arith, ordered); is = λ lt. absurd (omega (arith, lt)); new = λ le. rw same (b, absent) }
+
+pub located-key : {cs : List Cell} {a : IntMap} {key p : ℕ} → Locates cs (a .base) (a .base + a .used) key p → p < a .base + a .used → HasKey cs a key p
+located-key l lt = record { low = l .low; inside = lt; is = l .is lt }
+
+pub located-nowhere : {cs : List Cell} {a : IntMap} {key p : ℕ} → Held cs a → 65536 ≤ key → Locates cs (a .base) (a .base + a .used) key p → a .base + a .used ≤ p → NewAt cs a key (p - (a .base + a .used))
+located-nowhere held big l le = belongs-new held big (l .new le .0) (l .new le .1)
 
 module _ (cs : List Cell) (a : IntMap) (at n : ℕ) where
   pub flat-not : a .base + a .used ≤ at + n → false ≡ isFlat cs a at n
@@ -137,59 +282,6 @@ module _ (cs : List Cell) (a : IntMap) (class k key : ℕ) (ke : key ≡ classKe
       let same = ap (λ n. seek cs levels n (a .len) (a .base)) (has .is) in
       ap slot.At (sym (w .0) ∙ ap (λ f. f .at) same) ∙ entry-there (seek cs levels key (a .len) (a .base)) refl (sym (ap (λ f. f .present) same) ∙ w .1)
 
--- where a new entry belongs
-module _ (cs : List Cell) (a : IntMap) (held : Held cs a) (key p : ℕ) (f : Follows cs (a .base) (a .base + a .used) key p) where
-  abbrev q : ℕ
-  q = f .last
-
-  abbrev low : ℕ
-  low = keyOf (getD cs q blank)
-
-  inside : q < a .base + a .used
-  inside = omega (arith, f .flat .some, f .reaches, f .within)
-
-  at-q : (seek cs levels low (a .len) (a .base) .at ≡ q) × (seek cs levels low (a .len) (a .base) .present ≡ true)
-  at-q = held-place (held .holds) q (f .low) inside (f .begins)
-
-  -- the place behind it
-  behind : seek cs levels low (a .len) (a .base) .at + size cs levels (seek cs levels low (a .len) (a .base) .at) ≡ q + size cs levels q
-  behind = ap (λ z. z + size cs levels z) (at-q .0)
-
-  whole : q + size cs levels q ≤ a .base + a .used
-  whole = omega (arith, behind, found-whole cs levels low (a .len) (a .base) _ refl (at-q .1), held .map .used)
-
-  least : f .size ≤ size cs levels q
-  least = go (ℕ-discrete (tagOf (getD cs q blank)) 2)
-    where
-      go : Dec (tagOf (getD cs q blank) ≡ 2) → f .size ≤ size cs levels q
-      go (yes t) = omega (arith, f .flat .most .0 t, size-record cs 9 q (getD cs q blank) refl (omega arith) t, sizes-many cs 8 (getD cs q blank .payload) (q + 1))
-      go (no t) = omega (arith, f .flat .most .1 t, size-pos cs levels q)
-
-  most : 65536 ≤ key → q + size cs levels q ≤ p
-  most big = go (ltb p (a .base + a .used)) refl
-    where
-      go : (b : Bool) → ltb p (a .base + a .used) ≡ b → q + size cs levels q ≤ p
-      go false e = omega (arith, whole, ltb-false p (a .base + a .used) e)
-      go true e =
-          let lt = ltb-true p (a .base + a .used) e in
-          let up = f .next lt in
-          let w = held-place (held .holds) p (omega (arith, f .low, f .reaches)) lt (omega (arith, up, big)) in
-          let far = seek-beyond cs levels low (keyOf (getD cs p blank)) (omega (arith, f .less, up)) (a .len) (a .base) (at-q .1) in
-          omega (arith, behind, far, w .0)
-
-  pub new-at : 65536 ≤ key → NewAt cs a key p
-  new-at big =
-      let here : p ≡ q + size cs levels q = omega (arith, f .reaches, least, most big) in
-      let s = seek-after cs levels low key (f .less) (a .len) (a .base) p (at-q .1) (here ∙ sym behind) (next (ltb p (a .base + a .used)) refl) in
-      record { here = s .0; none = s .1 }
-    where
-      next : (b : Bool) → ltb p (a .base + a .used) ≡ b → (p ≡ a .base + sizes (size cs levels) (a .len) (a .base)) ⊎ (key < keyOf (getD cs p blank))
-      next true e = inr (f .next (ltb-true p (a .base + a .used) e))
-      next false e = inl (omega (arith, ltb-false p (a .base + a .used) e, f .within, held .map .used))
-
-  pub new-behind : 65536 ≤ key → p ≡ a .base + a .used → place (a .base + a .used) 0 false ≡ seek cs levels key (a .len) (a .base)
-  new-behind big e = sym (held-behind (held .holds) q key (f .low) inside (f .begins) (f .less) (omega (arith, least, most big, f .reaches, e)))
-
 -- by its index
 pub entry-gets : (cs : List Cell) (a : IntMap) (class i k : ℕ) (x : Index) → Judges i x → IsMap cs a → x ≡ index-is.At k → (r : Slot) → r ≡ entrySlot cs a class k → Gets cs a class i r
 unfolding entrySlot
@@ -202,24 +294,12 @@ entry-gets cs a class i k x judges is xe r re = subst (Gets cs a class i) (sym r
     go : (w : Found) → w ≡ seek cs levels (classKey class k) (a .len) (a .base) → Gets cs a class i (foundSlot w)
     go w e = by w e (w .present) refl
 
-pub owned : (cs : List Cell) (a : IntMap) (class i k key p : ℕ) (x : Index) → Judges i x → x ≡ index-is.At k → key ≡ classKey class k → HasKey cs a key p → (c : Cell) (tag : ℕ) → c ≡ getD cs p blank → tag ≡ tagOf c → (tag ≡ 2 → ⊥) → Own cs a class i p
-owned cs a class i k key p x judges xe ke has c tag ce te plain =
-    record {
-      place = k;
-      judged = sym (judges .answer) ∙ ap indexOf xe;
-      has = record { low = has .low; inside = has .inside; is = has .is ∙ ke };
-      plain = λ t. plain (te ∙ ap tagOf ce ∙ t);
-    }
-
 module _ {cs : List Cell} {a : IntMap} {class i p : ℕ} (own : Own cs a class i p) where
   abbrev key : ℕ
   key = classKey class (own .place)
 
   pub own-within : p < a .base + a .used
   own-within = own .has .inside
-
-  pub own-key : (c : Cell) (k : ℕ) → c ≡ getD cs p blank → k ≡ keyOf c → k ≡ classKey class (own .place)
-  own-key c k ce ke = ke ∙ ap keyOf ce ∙ own .has .is
 
   module _ {limit bound : ℕ} {m : MemoryState} (h : HoldsMap limit bound cs a m) where
     found : (seek cs levels key (a .len) (a .base) .at ≡ p) × (seek cs levels key (a .len) (a .base) .present ≡ true)
@@ -263,39 +343,73 @@ abbrev answer : ℕ → Tried ℕ → ℕ
 answer k (refused n) = k
 answer k (done j) = j
 
--- why a cell is not a register's own
-module _ (cs : List Cell) (a : IntMap) (p i : ℕ) (x : Index) (judges : Judges i x) where
-  pub bad-own : (n : ℕ) → x ≡ index-is.Bad n → Own cs a 0 i p → ⊥
-  bad-own n e own = subst Answers (sym (own .judged) ∙ sym (judges .answer) ∙ ap indexOf e) tt
+-- what the test of a cell that is to be written over tells
+module _ {cs : List Cell} {p key : ℕ} {c : Cell} (d : Cell) (de : d ≡ getD cs p blank) (tag : ℕ) (te : tag ≡ tagOf d) where
+  pub puts-not : tag ≡ 2 → PutsPlain cs cs p key c false
+  puts-not is = record { yes = λ e. absurd (true≢false (sym e)); no = λ _. (ap tagOf (sym de) ∙ sym te ∙ is, refl) }
 
-  pub other-own : (k key : ℕ) → x ≡ index-is.At k → key ≡ classKey 0 k → (r : Bool) → r ≡ isAt cs (a .base + a .used) key p → r ≡ false → Own cs a 0 i p → ⊥
-  unfolding isAt
-  other-own k key e ke r re rf own =
-      let place-is : own .place ≡ k = ap (answer k) (sym (own .judged) ∙ sym (judges .answer) ∙ ap indexOf e) in
-      let key-is : keyOf (getD cs p blank) ≡ key = own .has .is ∙ ap (classKey 0) place-is ∙ sym ke in
-      true≢false (sym (ap₂ (λ s t. s && t) (lt-ltb p (a .base + a .used) (own .has .inside)) (eq-eqb (keyOf (getD cs p blank)) key key-is)) ∙ sym re ∙ rf)
+  pub puts-it : {ds : List Cell} → (tag ≡ 2 → ⊥) → (x : Cell) → x ≡ withKey key c → ds ≡ set cs p x → PutsPlain cs ds p key c true
+  puts-it plain x xe e = record { yes = λ _. (λ is. plain (te ∙ ap tagOf de ∙ is), e ∙ ap (set cs p) xe); no = λ e. absurd (true≢false e) }
 
-pub record-own : (cs : List Cell) (a : IntMap) (p i : ℕ) (c : Cell) (t : ℕ) → c ≡ getD cs p blank → t ≡ tagOf c → t ≡ 2 → Own cs a 0 i p → ⊥
-record-own cs a p i c t ce te is own = own .plain (ap tagOf (sym ce) ∙ sym te ∙ is)
+-- why a cell is not an index's own
+pub bad-own : {cs : List Cell} {a : IntMap} {class i : ℕ} {x : Index} → Judges i x → (n : ℕ) → x ≡ index-is.Bad n → (p : ℕ) → Own cs a class i p → ⊥
+bad-own judges n e p own = subst Answers (sym (own .judged) ∙ sym (judges .answer) ∙ ap indexOf e) tt
 
-pub overwrites-not : (cs : List Cell) (a : IntMap) (p i : ℕ) (c : Cell) → (Own cs a 0 i p → ⊥) → Overwrites cs cs a p i c false
-overwrites-not cs a p i c none = record { own = λ o. absurd (none o); inside = λ e. absurd (true≢false (sym e)); yes = λ e. absurd (true≢false (sym e)); no = λ e. refl }
+pub overwrites-bad : {cs : List Cell} {a : IntMap} {p i : ℕ} (c : Cell) → (Own cs a 0 i p → ⊥) → Overwrites cs cs a p i c false
+overwrites-bad c none = record { own = λ own. absurd (none own); inside = λ e. absurd (true≢false (sym e)); yes = λ e. absurd (true≢false (sym e)); no = λ e. refl }
 
--- the own cell that was found
-pub overwrites-none : (cs : List Cell) (a : IntMap) (class i : ℕ) (c : Cell) → OverwritesOwn cs cs a class i c false
-overwrites-none cs a class i c = record { yes = λ e. absurd (true≢false (sym e)); no = λ e. refl }
+pub overwrites-none : {cs : List Cell} {a : IntMap} {class i : ℕ} (c : Cell) → ((p : ℕ) → Own cs a class i p → ⊥) → OverwritesOwn cs cs a class i c false
+overwrites-none c none = record { yes = λ e. absurd (true≢false (sym e)); none = λ e. none; no = λ e. refl }
 
-pub overwrites-it : {cs : List Cell} {a : IntMap} {class i p : ℕ} → (own : Own cs a class i p) → (c x : Cell) → (tagOf c ≡ 2 → ⊥) → (k : ℕ) → k ≡ keyOf (getD cs p blank) → x ≡ withKey k c → (ds : List Cell) → ds ≡ set cs p x → OverwritesOwn cs ds a class i c true
-overwrites-it own c x plain k ke xe ds e = record { yes = λ _ limit has. own-stored own limit c x has plain (xe ∙ ap (λ n. withKey n c) (ke ∙ own .has .is)) ds e; no = λ e. absurd (true≢false e) }
+pub other-own : {cs : List Cell} {a : IntMap} {class i k key p : ℕ} {x : Index} {r : Bool} → Judges i x → x ≡ index-is.At k → key ≡ classKey class k → r ≡ isAt cs (a .base + a .used) key p → r ≡ false → Own cs a class i p → ⊥
+unfolding isAt
+other-own {cs} {a} {class} {i} {k} {key} {p} judges e ke re rf own =
+    let place-is : own .place ≡ k = ap (answer k) (sym (own .judged) ∙ sym (judges .answer) ∙ ap indexOf e) in
+    let key-is : keyOf (getD cs p blank) ≡ key = own .has .is ∙ ap (classKey class) place-is ∙ sym ke in
+    true≢false (sym (ap₂ (λ s t. s && t) (lt-ltb p (a .base + a .used) (own .has .inside)) (eq-eqb (keyOf (getD cs p blank)) key key-is)) ∙ sym re ∙ rf)
 
-pub overwrites-own : {cs : List Cell} {a : IntMap} {p i : ℕ} → Own cs a 0 i p → (c x : Cell) → (tagOf c ≡ 2 → ⊥) → (k : ℕ) → k ≡ keyOf (getD cs p blank) → x ≡ withKey k c → (ds : List Cell) → ds ≡ set cs p x → Overwrites cs ds a p i c true
-overwrites-own own c x plain k ke xe ds e =
-    record {
-      own = λ _. refl;
-      inside = λ _. own-within own;
-      yes = overwrites-it own c x plain k ke xe ds e .yes;
-      no = λ e. absurd (true≢false e);
-    }
+-- a good index
+module _ {cs : List Cell} {a : IntMap} {class i k key : ℕ} {x : Index} (judges : Judges i x) (xe : x ≡ index-is.At k) (ke : key ≡ classKey class k) where
+  its-key : {q : ℕ} → (own : Own cs a class i q) → classKey class (own .place) ≡ key
+  its-key own = ap (classKey class) (ap (answer k) (sym (own .judged) ∙ sym (judges .answer) ∙ ap indexOf xe)) ∙ sym ke
+
+  -- has no own cell, if its key is new
+  pub new-own : Held cs a → {p : ℕ} → NewAt cs a key p → (q : ℕ) → Own cs a class i q → ⊥
+  new-own held new q own = true≢false (sym (found own (held .holds) .1) ∙ ap (λ n. seek cs levels n (a .len) (a .base) .present) (its-key own) ∙ new .none)
+
+  -- c was written over the cell that has its key, or that is a record's
+  module _ {ds : List Cell} {p : ℕ} {c : Cell} {r : Bool} (has : HasKey cs a key p) (plain : tagOf c ≡ 2 → ⊥) (o : PutsPlain cs ds p key c r) where
+    its-own : r ≡ true → Own cs a class i p
+    its-own e = record { place = k; judged = sym (judges .answer) ∙ ap indexOf xe; has = record { low = has .low; inside = has .inside; is = has .is ∙ ke }; plain = o .yes e .0 }
+
+    not-own : r ≡ false → Own cs a class i p → ⊥
+    not-own e own = own .plain (o .no e .0)
+
+    pub put-stored : r ≡ true → (limit : ℕ) → HasRoom cs limit a → StoresCell limit cs ds a class i c (stored.Done a)
+    put-stored e limit room =
+        let own = its-own e in
+        own-stored own limit c (withKey key c) room plain (ap (λ n. withKey n c) (sym (its-key own))) ds (o .yes e .1)
+
+    pub overwrites-own : Held cs a → OverwritesOwn cs ds a class i c r
+    overwrites-own held = record { yes = put-stored; none = λ e q own. not-own e (subst (Own cs a class i) (same q own) own); no = λ e. o .no e .1 }
+      where
+        same : (q : ℕ) → Own cs a class i q → q ≡ p
+        same q own =
+            let there = held-place (held .holds) p (has .low) (has .inside) (omega (arith, has .is, ke)) in
+            sym (found own (held .holds) .0) ∙ ap (λ n. seek cs levels n (a .len) (a .base) .at) (its-key own ∙ sym (has .is)) ∙ there .0
+
+    pub its-overwritten : (r ≡ true → p < a .base + a .used) × (Own cs a class i p → r ≡ true)
+    its-overwritten = (λ e. has .inside, λ own. go r refl own)
+      where
+        go : (b : Bool) → r ≡ b → Own cs a class i p → r ≡ true
+        go true e own = e
+        go false e own = absurd (not-own e own)
+
+-- of a register
+pub overwrites-at : {cs ds : List Cell} {a : IntMap} {i k key p : ℕ} {x : Index} {c : Cell} {r : Bool} → Judges i x → x ≡ index-is.At k → key ≡ classKey 0 k → HasKey cs a key p → (tagOf c ≡ 2 → ⊥) → PutsPlain cs ds p key c r → Overwrites cs ds a p i c r
+overwrites-at judges xe ke has plain o =
+    let it = its-overwritten judges xe ke has plain o in
+    record { own = it .1; inside = it .0; yes = put-stored judges xe ke has plain o; no = λ e. o .no e .1 }
 
 -- by the map
 pub map-stored : (limit : ℕ) (cs ds : List Cell) (a : IntMap) (class i : ℕ) (c : Cell) (r : Stored) → Stores cs ds limit a class i 0 (c ∷ []) r → StoresCell limit cs ds a class i c r
@@ -306,11 +420,11 @@ map-stored limit cs ds a class i c r st = record { says = λ bound m h. st; leav
     left (stored.Done b) st = record { base = st .leaves .base; room = st .leaves .room }
 
 -- where nothing was written over
-pub still-current : {cs es : List Cell} {a : IntMap} {class i : ℕ} {c : Cell} {r : Bool} → OverwritesOwn cs es a class i c r → r ≡ false → {limit : ℕ} → Current limit cs a → Current limit es a
-still-current {cs} {es} {a} o e {limit} current = subst (λ l. Current limit l a) (sym (o .no e)) current
+pub still-current : {cs ds : List Cell} {p key : ℕ} {c : Cell} {r : Bool} → PutsPlain cs ds p key c r → r ≡ false → {limit : ℕ} {a : IntMap} → Current limit cs a → Current limit ds a
+still-current o e {limit} {a} current = subst (λ l. Current limit l a) (sym (o .no e .1)) current
 
-pub stored-then : {cs es ds : List Cell} {a : IntMap} {class i : ℕ} {c : Cell} {b : Bool} → OverwritesOwn cs es a class i c b → b ≡ false → {limit : ℕ} {r : Stored} → StoresCell limit es ds a class i c r → StoresCell limit cs ds a class i c r
-stored-then {cs} {es} {ds} {a} {class} {i} {c} o e {limit} {r} st = subst (λ l. StoresCell limit l ds a class i c r) (o .no e) st
+pub stored-then : {cs es ds : List Cell} {p key : ℕ} {c : Cell} {b : Bool} → PutsPlain cs es p key c b → b ≡ false → {limit : ℕ} {a : IntMap} {class i : ℕ} {r : Stored} → StoresCell limit es ds a class i c r → StoresCell limit cs ds a class i c r
+stored-then {ds = ds} {c = c} o e {limit} {a} {class} {i} {r} st = subst (λ l. StoresCell limit l ds a class i c r) (o .no e .1) st
 
 -- the cell c under a key, where that belongs
 pub keyed-new : {cs : List Cell} {a : IntMap} {key p : ℕ} → NewAt cs a key p → (c x : Cell) → x ≡ withKey key c → (tagOf c ≡ 2 → ⊥) → (tagOf x ≡ 2 → ⊥) × NewAt cs a (keyOf x) p
@@ -319,21 +433,6 @@ keyed-new {cs} {a} {key} {p} new c x xe plain = (λ t. plain (sym (keyed-tag key
 -- what such a store leads to
 pub cell-leads : {limit : ℕ} {cs ds : List Cell} {a : IntMap} {class i : ℕ} {c : Cell} {r : Stored} {f : MemoryState → Tried MemoryState} → StoresCell limit cs ds a class i c r → (Stores cs ds limit a class i 0 (c ∷ []) r → Leads limit cs ds a r f) → Leads limit cs ds a r f
 cell-leads {limit} {cs} {ds} {a} st leads = record { says = λ bound m le h. leads (st .says bound m h) .says bound m le h; leaves = st .leaves; frame = wider cs ds (a .base) limit (st .frame) }
-
--- what the tests of an entry tell
-pub follows : (cs : List Cell) (base end key p q : ℕ) → base ≤ q → (c : Cell) → c ≡ getD cs q blank → (b : Bool) → b ≡ leb 65536 (keyOf c) → b ≡ true → (k : ℕ) → k ≡ keyOf c → k < key → (n : ℕ) → FlatSize c n → q + n ≡ p → p ≤ end → (p < end → key < keyOf (getD cs p blank)) → Follows cs base end key p
-follows cs base end key p q low c ce b be bt k ke less n flat reaches within next =
-    record {
-      last = q;
-      low = low;
-      begins = subst (λ y. 65536 ≤ keyOf y) ce (leb-true 65536 (keyOf c) (sym be ∙ bt));
-      less = subst (λ y. keyOf y < key) ce (subst (λ x. x < key) ke less);
-      size = n;
-      flat = subst (λ y. FlatSize y n) ce flat;
-      reaches = reaches;
-      within = within;
-      next = next;
-    }
 
 pub key-as : (cs : List Cell) (a : IntMap) (key k : ℕ) (w : Found) → key ≡ k → w ≡ seek cs levels key (a .len) (a .base) → w ≡ seek cs levels k (a .len) (a .base)
 key-as cs a key k w e f = f ∙ ap (λ n. seek cs levels n (a .len) (a .base)) e

@@ -1,11 +1,11 @@
--- Where an entry is, and what tells it at once: a cell of the map with its key, which in cells that hold a state is the entry; what follows a
--- record of so many columns; where a new entry belongs. And what a store over a register's or cursor's own cell gives. Assumes nothing.
+-- Where an entry is or belongs, and what tells it at once: a cell of the map with its key, which in cells that hold a state is the entry; what
+-- follows a record of so many columns. And what a store over a register's or cursor's own cell gives. Assumes nothing.
 use mathlib.Core.Path.{_≡_}
 use mathlib.Core.Bool.{Bool, true, false, _&&_}
 use mathlib.Core.List.{List, [], _∷_}
-use Prim.Native.Nat.{ℕ, _+_, _<_, _≤_}
+use Prim.Native.Nat.{ℕ, _+_, _-_, _<_, _≤_}
 use lib.Dec.{eqb, leb, ltb}
-use lib.ListN.{length, getD}
+use lib.ListN.{getD, set}
 use Rattle.model.specs.Walk.{done}
 use Rattle.model.specs.State.{MemoryState}
 use Rattle.model.specs.Access.{index}
@@ -13,7 +13,7 @@ use Rattle.area.specs.Cells.{blank}
 use Rattle.area.specs.declared.Cell.{Cell}
 use Rattle.intmap.specs.Find.{seek}
 use Rattle.intmap.specs.Map.{levels, HasRoom, Frame}
-use Rattle.intmap.specs.Pack.{tagOf, keyOf, classKey}
+use Rattle.intmap.specs.Pack.{tagOf, keyOf, withKey, classKey}
 use Rattle.intmap.specs.Pick.{pick}
 use Rattle.intmap.specs.Signed.{intOf}
 use Rattle.intmap.specs.Store.{Stores}
@@ -23,7 +23,7 @@ use Rattle.intmap.specs.declared.Slot.{Slot}
 use Rattle.intmap.specs.declared.Slot.the-variants as slot
 use Rattle.intmap.specs.declared.Stored.{Stored}
 use Rattle.intmap.specs.declared.Stored.the-variants as stored
-use Rattle.state.specs.Leads.{HoldsMap, Leaves}
+use Rattle.state.specs.Leads.{HoldsMap, Leaves, Held}
 
 -- where a search led, if it found the key
 abbrev pub foundSlot : Found → Slot
@@ -41,11 +41,13 @@ isAt cs end key p = ltb p end && eqb (keyOf (getD cs p blank)) key
 unfoldable pub isFlat : List Cell → IntMap → ℕ → ℕ → Bool
 isFlat cs a at n = pick (leb (a .base + a .used) (at + n)) false (pick (eqb (at + 1 + n) (a .base + a .used)) true (leb 65536 (keyOf (getD cs (at + 1 + n) blank))))
 
--- cells from `base` on and before `end`, of an area as large as may be lent
-pub record Among (cs : List Cell) (base end : ℕ) : Type 0 where
+-- the cells from `base` on and before `end` are the first of a map that holds a state
+pub record HeldAmong (cs : List Cell) (base end : ℕ) : Type 0 where
+  pub map : IntMap
+  pub held : Held cs map
+  pub first : map .base ≡ base
   pub ordered : base ≤ end
-  pub inside : end ≤ length cs
-  pub small : length cs ≤ 1048576
+  pub last : end ≤ map .base + map .used
 
 -- one of them that has the key, or `end`
 pub record Guesses (cs : List Cell) (base end key p : ℕ) : Type 0 where
@@ -59,17 +61,32 @@ pub record FlatSize (c : Cell) (r : ℕ) : Type 0 where
   pub few : r ≤ 65536
   pub most : (tagOf c ≡ 2 → r ≤ 1 + c .payload) × ((tagOf c ≡ 2 → ⊥) → r ≡ 1)
 
--- a key belongs at p: the entry that as many cells reach to p has a lower key, and at p is `end` or a higher key
-pub record Follows (cs : List Cell) (base end key p : ℕ) : Type 0 where
-  pub last : ℕ
-  pub low : base ≤ last
-  pub begins : 65536 ≤ keyOf (getD cs last blank)
-  pub less : keyOf (getD cs last blank) < key
+-- c begins an entry that has more than n cells
+pub record Reaches (c : Cell) (n : ℕ) : Type 0 where
+  pub begins : 65536 ≤ keyOf c
   pub size : ℕ
-  pub flat : FlatSize (getD cs last blank) size
-  pub reaches : last + size ≡ p
-  pub within : p ≤ end
-  pub next : p < end → key < keyOf (getD cs p blank)
+  pub flat : FlatSize c size
+  pub more : n < size
+
+-- the last cell from `from` to `at` that begins an entry, or `from` if none does
+pub record EntryBelow (cs : List Cell) (from at r : ℕ) : Type 0 where
+  pub low : from ≤ r
+  pub high : r ≤ at
+  pub begins : from < r → 65536 ≤ keyOf (getD cs r blank)
+  pub last : (q : ℕ) → r < q → q ≤ at → keyOf (getD cs q blank) < 65536
+
+-- where a key is or belongs among entries in the order of their keys: those before p are lower, and at p is `end` or one that is not
+pub record Belongs (cs : List Cell) (base end key p : ℕ) : Type 0 where
+  pub low : base ≤ p
+  pub high : p ≤ end
+  pub before : (q : ℕ) → base ≤ q → q < p → 65536 ≤ keyOf (getD cs q blank) → keyOf (getD cs q blank) < key
+  pub after : p < end → key ≤ keyOf (getD cs p blank)
+
+-- where a key is; or it is nowhere, and `end` and where it belongs are added
+pub record Locates (cs : List Cell) (base end key r : ℕ) : Type 0 where
+  pub low : base ≤ r
+  pub is : r < end → keyOf (getD cs r blank) ≡ key
+  pub new : end ≤ r → Belongs cs base end key (r - end) × (isAt cs end key (r - end) ≡ false)
 
 -- a cell of the map has the key
 pub record HasKey (cs : List Cell) (a : IntMap) (key p : ℕ) : Type 0 where
@@ -90,9 +107,15 @@ pub record StoresCell (limit : ℕ) (cs ds : List Cell) (a : IntMap) (class i : 
   pub leaves : Leaves limit ds a r
   pub frame : Frame cs ds (a .base) limit
 
--- a store of c was made over the own cell of index i, or nothing has changed
+-- c was written under a key over the cell at p, which is no record's; or it is one's, and nothing has changed
+pub record PutsPlain (cs ds : List Cell) (p key : ℕ) (c : Cell) (r : Bool) : Type 0 where
+  pub yes : r ≡ true → (tagOf (getD cs p blank) ≡ 2 → ⊥) × (ds ≡ set cs p (withKey key c))
+  pub no : r ≡ false → (tagOf (getD cs p blank) ≡ 2) × (ds ≡ cs)
+
+-- a store of c was made over the own cell of index i; or there is none, and nothing has changed
 pub record OverwritesOwn (cs ds : List Cell) (a : IntMap) (class i : ℕ) (c : Cell) (r : Bool) : Type 0 where
   pub yes : r ≡ true → (limit : ℕ) → HasRoom cs limit a → StoresCell limit cs ds a class i c (stored.Done a)
+  pub none : r ≡ false → (p : ℕ) → Own cs a class i p → ⊥
   pub no : r ≡ false → ds ≡ cs
 
 -- the cell at p was register i's own, and a store of c was made there; or nothing has changed

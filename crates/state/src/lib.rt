@@ -6,18 +6,17 @@ ghost use lib.ListN.{length, getD};
 ghost use mathlib.Core.Option.{none};
 ghost use Rattle.model.specs.State.{Column, Single, Int, datatypeCode};
 ghost use Rattle.model.specs.Access.{storeRegister};
-ghost use Rattle.area.specs.Cells.{cells};
+ghost use Rattle.area.specs.Cells.{cells, Inside};
 ghost use Rattle.intmap.specs.Get.{Gets};
 ghost use Rattle.intmap.specs.Find.{seek};
 ghost use Rattle.intmap.specs.Map.{levels, IsMap};
 ghost use Rattle.intmap.specs.Pack.{tagOf, classKey};
-ghost use Rattle.intmap.specs.Runs.{size, sizes};
 ghost use Rattle.intmap.specs.Signed.{intOf};
 ghost use Rattle.encoding.specs.Encode.{single};
 ghost use Rattle.encoding.specs.Decode.{nullables};
 ghost use Rattle.rows.specs.Rows.{Operand};
 ghost use Rattle.state.specs.Leads.{Held, Current, Leads};
-ghost use Rattle.state.specs.Own.{entrySlot, isAt, isFlat, Among, Guesses, FlatSize, Follows, OverwritesOwn, StoresCell, Overwrites};
+ghost use Rattle.state.specs.Own.{entrySlot, isAt, isFlat, HeldAmong, Guesses, FlatSize, Reaches, EntryBelow, Belongs, Locates, PutsPlain, OverwritesOwn, StoresCell, Overwrites};
 ghost use Rattle.state.specs.Reads.{registerIn, Reads};
 use area::Cell;
 use intmap::Found;
@@ -86,26 +85,47 @@ pub fn single(d: DataType, nullable: u64) -> Cell
     }
 }
 
-// The nearest cell from `at` down to `low` that begins an entry, or `low`. A column inside a record tells by its key how far away the head is, if
-// none before it is absent or a record.
-fn entry_below(area: &[u8], low: usize, at: usize) -> usize
-    requires { ⌜ (low ≤ at) × (at < length (cells (now area))) × (length (cells (now area)) ≤ 1048576) ⌝ }
-    ensures { λ r. ⌜ (low ≤ r) × (r ≤ at) ⌝ }
+// Where the head of the entry is whose cell at `at` has key k, if that is a record's column and none before it is absent or a record; `base`, if
+// that is outside.
+fn head_before(base: usize, at: usize, k: u64) -> usize
+    requires { ⌜ (base ≤ at) × (at ≤ 1048576) ⌝ }
+    ensures { λ r. ⌜ (base ≤ r) × (r ≤ at) ⌝ }
+{
+    if k < (at - base) as u64 {
+        return at - 1 - k as usize;
+    }
+    base
+}
+
+// Whether a cell begins an entry that has more than n cells.
+fn reaches(c: Cell, n: usize) -> bool
+    ensures { λ r. ⌜ (r ≡ true → Reaches c n) ⌝ }
+{
+    intmap::begins(c) && n < flat_size(c)
+}
+
+// The last cell from `low` to `at` that begins an entry, or `low`: at once, where the head that the cell tells reaches this far.
+fn entry_below(area: &[u8], base: usize, low: usize, at: usize) -> usize
+    requires { ⌜ HeldAmong (cells (now area)) base (at + 1) × (base ≤ low) × (low ≤ at) ⌝ }
+    ensures { λ r. ⌜ EntryBelow (cells (now (area .entry))) low at r ⌝ }
 {
     let c = area::cell_at(area, at);
     if intmap::begins(c) {
         return at;
     }
-    let k = intmap::key_of(c);
-    if ((at - low) as u64) <= k {
-        return low;
+    let head = head_before(base, at, intmap::key_of(c));
+    if reaches(area::cell_at(area, head), at - head) {
+        if head < low {
+            return low;
+        }
+        return head;
     }
-    let mut p = at - 1 - k as usize;
+    let mut p = at;
     while low < p {
+        p -= 1;
         if intmap::begins(area::cell_at(area, p)) {
             return p;
         }
-        p -= 1;
     }
     low
 }
@@ -155,7 +175,7 @@ const LAST: usize = 24;
 
 // Looks for a key at its distance from the first entries of a map, whose cells are from `base` on and before `end`.
 fn near_first(area: &[u8], base: usize, end: usize, key: u64) -> usize
-    requires { ⌜ Among (cells (now area)) base end × (key < 1099511627776) ⌝ }
+    requires { ⌜ HeldAmong (cells (now area)) base end × (key < 1099511627776) ⌝ }
     ensures { λ r. ⌜ Guesses (cells (now (area .entry))) base end key r ⌝ }
 {
     let mut p = base;
@@ -175,9 +195,21 @@ fn near_first(area: &[u8], base: usize, end: usize, key: u64) -> usize
     end
 }
 
+// Where the entry begins that the cell at `at` belongs to, if the cell tells that.
+fn head_near(area: &[u8], base: usize, at: usize) -> usize
+    requires { ⌜ (base ≤ at) × (at < length (cells (now area))) × (length (cells (now area)) ≤ 1048576) ⌝ }
+    ensures { λ r. ⌜ (base ≤ r) × (r ≤ at) ⌝ }
+{
+    let c = area::cell_at(area, at);
+    if intmap::begins(c) {
+        return at;
+    }
+    head_before(base, at, intmap::key_of(c))
+}
+
 // Looks for a key among the last entries.
 fn near_last(area: &[u8], base: usize, end: usize, key: u64) -> usize
-    requires { ⌜ Among (cells (now area)) base end × (key < 1099511627776) ⌝ }
+    requires { ⌜ HeldAmong (cells (now area)) base end × (key < 1099511627776) ⌝ }
     ensures { λ r. ⌜ Guesses (cells (now (area .entry))) base end key r ⌝ }
 {
     let mut high = end;
@@ -186,7 +218,7 @@ fn near_last(area: &[u8], base: usize, end: usize, key: u64) -> usize
         if high <= base {
             return end;
         }
-        let p = entry_below(area, base, high - 1);
+        let p = head_near(area, base, high - 1);
         if is_at(area, end, p, key) {
             return p;
         }
@@ -202,7 +234,7 @@ const LATER: u64 = 131072;
 // Where a key is found with few tests, or `end`: registers stand close, and cursors and tables are the last entries. It calls nothing that the
 // compiler leaves a call, so that a search costs no copies of what it is given.
 fn near(area: &[u8], base: usize, end: usize, key: u64) -> usize
-    requires { ⌜ Among (cells (now area)) base end × (key < 1099511627776) ⌝ }
+    requires { ⌜ HeldAmong (cells (now area)) base end × (key < 1099511627776) ⌝ }
     ensures { λ r. ⌜ Guesses (cells (now (area .entry))) base end key r ⌝ }
 {
     if key < LATER {
@@ -211,77 +243,66 @@ fn near(area: &[u8], base: usize, end: usize, key: u64) -> usize
     near_last(area, base, end, key)
 }
 
-// Where a new entry of a key belongs, if that is behind one of the last entries: registers are often stored in their order, and no more than
-// cursors and tables are behind them. Else more than `end`.
-fn place_last(area: &[u8], base: usize, end: usize, key: u64) -> usize
-    requires { ⌜ Among (cells (now area)) base end ⌝ }
-    ensures { λ r. ⌜ (r ≤ end → Follows (cells (now (area .entry))) base end key r) ⌝ }
+// How many of the last cells a search tests one after the other.
+const CLOSE: usize = 8;
+
+// Which cell to test of those from `low` on and before `high`: the last, while that is close to `end`; one twice as far from it; or the middle.
+fn probe(low: usize, high: usize, end: usize) -> usize
+    requires { ⌜ (low < high) × (high ≤ end) × (end ≤ 1048576) ⌝ }
+    ensures { λ r. ⌜ (low ≤ r) × (r < high) ⌝ }
 {
-    let mut high = end;
-    let mut left: usize = LAST;
-    while 0 < left {
-        if high <= base {
-            return end + 1;
-        }
-        let p = entry_below(area, base, high - 1);
-        let c = area::cell_at(area, p);
-        if !intmap::begins(c) {
-            return end + 1;
-        }
-        if intmap::key_of(c) < key {
-            if p + flat_size(c) == high {
-                return high;
-            }
-            return end + 1;
-        }
-        if intmap::key_of(c) == key {
-            return end + 1;
-        }
-        high = p;
-        left -= 1;
+    let n = high - low;
+    let far = end - high;
+    if far < CLOSE {
+        return high - 1;
     }
-    end + 1
+    if far < n {
+        return high - 1 - far;
+    }
+    low + n / 2
 }
 
-// Looks for a key by halves, and at each cell for what is at the distance of its key.
-fn by_halves(area: &[u8], base: usize, end: usize, key: u64) -> usize
-    requires { ⌜ Among (cells (now area)) base end × (key < 1099511627776) ⌝ }
-    ensures { λ r. ⌜ Guesses (cells (now (area .entry))) base end key r ⌝ }
+// Where a key is or belongs: back from the end in steps that double, since registers are often stored in their order, then by halves.
+fn place(area: &[u8], base: usize, end: usize, key: u64) -> usize
+    requires { ⌜ HeldAmong (cells (now area)) base end × (65536 ≤ key) ⌝ }
+    ensures { λ r. ⌜ Belongs (cells (now (area .entry))) base end key r ⌝ }
 {
     let mut low = base;
     let mut high = end;
     while low < high {
-        let mid = low + (high - low) / 2;
-        let p = entry_below(area, low, mid);
-        let k = intmap::key_of(area::cell_at(area, p));
-        let q = at_distance(base, end, p, k, key);
-        if is_at(area, end, q, key) {
-            return q;
-        }
-        if k < key {
+        let mid = probe(low, high, end);
+        let p = entry_below(area, base, low, mid);
+        if intmap::key_of(area::cell_at(area, p)) < key {
             low = mid + 1;
         } else {
             high = p;
         }
     }
-    end
+    high
 }
 
-// Where a key is found by halves, or by a search of the first `len` entries, or `end`.
-fn far(area: &[u8], base: usize, end: usize, len: u64, key: u64) -> usize
-    requires { ⌜ Among (cells (now area)) base end × (key < 1099511627776) × (base + sizes (size (cells (now area)) levels) len base ≤ end) ⌝ }
-    ensures { λ r. ⌜ Guesses (cells (now (area .entry))) base end key r × (r ≡ end → seek (cells (now (area .entry))) levels key len base .present ≡ false) ⌝ }
+// Where a key is; if it is nowhere, `end` and where it belongs are added.
+fn far(area: &[u8], base: usize, end: usize, key: u64) -> usize
+    requires { ⌜ HeldAmong (cells (now area)) base end × (65536 ≤ key) × (key < 1099511627776) ⌝ }
+    ensures { λ r. ⌜ Locates (cells (now (area .entry))) base end key r ⌝ }
 {
-    let q = by_halves(area, base, end, key);
-    if q < end {
-        return q;
+    let p = place(area, base, end, key);
+    if is_at(area, end, p, key) {
+        return p;
     }
-    let found = intmap::find_from(area, base, len, key, intmap::LEVELS);
-    let there = found.present;
-    if there {
-        return found.at;
+    end + p
+}
+
+// The same, with few tests where they find it.
+fn locate(area: &[u8], base: usize, end: usize, key: u64) -> usize
+    requires { ⌜ HeldAmong (cells (now area)) base end × (65536 ≤ key) × (key < 1099511627776) ⌝ }
+    ensures { λ r. ⌜ Locates (cells (now (area .entry))) base end key r ⌝ }
+{
+    let p = near(area, base, end, key);
+    if p < end {
+        return p;
     }
-    end
+    far(area, base, end, key)
 }
 
 // Whether the n cells behind `at` are followed by an entry or by the map's end.
@@ -307,13 +328,9 @@ pub fn entry_at(map: IntMap, area: &[u8], class: u64, k: u64) -> Slot
 {
     let key = intmap::class_key(class, k);
     let end = map.base + map.used;
-    let p = near(area, map.base, end, key);
+    let p = locate(area, map.base, end, key);
     if p < end {
         return Slot::At(p);
-    }
-    let q = far(area, map.base, end, map.len, key);
-    if q < end {
-        return Slot::At(q);
     }
     Slot::Absent
 }
@@ -325,7 +342,7 @@ pub fn place_of(map: IntMap, area: &[u8], class: u64, k: u64) -> Found
 {
     let key = intmap::class_key(class, k);
     let end = map.base + map.used;
-    if place_last(area, map.base, end, key) == end {
+    if place(area, map.base, end, key) == end {
         return Found {
             at: end,
             left: 0,
@@ -347,22 +364,19 @@ pub fn get(map: IntMap, area: &[u8], class: u64, i: u64) -> Slot
     }
 }
 
-// Where the cell of a key is found, or `end`, without a search of all entries. A key that belongs behind one of the last entries is new.
-fn guess(area: &[u8], base: usize, end: usize, key: u64) -> usize
-    requires { ⌜ Among (cells (now area)) base end × (key < 1099511627776) ⌝ }
-    ensures { λ r. ⌜ Guesses (cells (now (area .entry))) base end key r ⌝ }
+// Writes c under a key over the cell at p, if that is no record's. Says whether it was.
+fn put_plain(area: &mut [u8], p: usize, key: u64, c: Cell) -> bool
+    requires { ⌜ Inside (now area) p 1 × (key < 1099511627776) ⌝ }
+    ensures { λ r. ⌜ PutsPlain (cells (now (area .entry))) (cells (now (area .exit))) p key c r ⌝ }
 {
-    let p = near(area, base, end, key);
-    if p < end {
-        return p;
+    if intmap::tag_of(area::cell_at(area, p)) == intmap::RECORD {
+        return false;
     }
-    if place_last(area, base, end, key) <= end {
-        return end;
-    }
-    far(area, base, end, 0, key)
+    area::put_cell(area, p, intmap::with_key(c, key));
+    true
 }
 
-// Writes c over the cell of index i in a class, if that is found without a search of all entries and is no record's. Says whether it was.
+// Writes c over the cell of index i in a class, if there is one and it is no record's. Says whether it was.
 pub fn overwrite_own(map: IntMap, area: &mut [u8], class: u64, i: u64, c: Cell) -> bool
     requires { ⌜ Held (cells (now area)) map × (class < 3) × (tagOf c ≡ 2 → ⊥) ⌝ }
     ensures { λ r. ⌜ OverwritesOwn (cells (now (area .entry))) (cells (now (area .exit))) map class i c r ⌝ }
@@ -373,19 +387,15 @@ pub fn overwrite_own(map: IntMap, area: &mut [u8], class: u64, i: u64, c: Cell) 
     };
     let key = intmap::class_key(class, k);
     let end = map.base + map.used;
-    let p = guess(area, map.base, end, key);
+    let p = locate(area, map.base, end, key);
     if end <= p {
         return false;
     }
-    if intmap::tag_of(area::cell_at(area, p)) == intmap::RECORD {
-        return false;
-    }
-    area::put_cell(area, p, intmap::with_key(c, key));
-    true
+    put_plain(area, p, key, c)
 }
 
-// Stores a cell that is no record's under index i of a class: where that belongs among the last entries, or by a search.
-fn store_new(map: IntMap, area: &mut [u8], class: u64, i: u64, c: Cell, limit: usize) -> Stored
+// Stores a cell that is no record's under index i of a class: over its own cell, or where that belongs, or in the place of a record.
+pub fn store_cell(map: IntMap, area: &mut [u8], class: u64, i: u64, c: Cell, limit: usize) -> Stored
     requires { ⌜ Current limit (cells (now area)) map × (class < 3) × (tagOf c ≡ 2 → ⊥) ⌝ }
     ensures { λ r. ⌜ StoresCell limit (cells (now (area .entry))) (cells (now (area .exit))) map class i c r ⌝ }
 {
@@ -395,22 +405,14 @@ fn store_new(map: IntMap, area: &mut [u8], class: u64, i: u64, c: Cell, limit: u
     };
     let key = intmap::class_key(class, k);
     let end = map.base + map.used;
-    let p = place_last(area, map.base, end, key);
-    if end < p {
-        return map.store_cell(area, class, i, c, limit);
+    let p = locate(area, map.base, end, key);
+    if end <= p {
+        return intmap::as_stored(map.insert_new(area, p - end, intmap::with_key(c, key), limit));
     }
-    intmap::as_stored(map.insert_new(area, p, intmap::with_key(c, key), limit))
-}
-
-// Stores a cell that is no record's under index i of a class: over its own cell, if that is found at once.
-pub fn store_cell(map: IntMap, area: &mut [u8], class: u64, i: u64, c: Cell, limit: usize) -> Stored
-    requires { ⌜ Current limit (cells (now area)) map × (class < 3) × (tagOf c ≡ 2 → ⊥) ⌝ }
-    ensures { λ r. ⌜ StoresCell limit (cells (now (area .entry))) (cells (now (area .exit))) map class i c r ⌝ }
-{
-    if overwrite_own(map, area, class, i, c) {
+    if put_plain(area, p, key, c) {
         return Stored::Done(map);
     }
-    store_new(map, area, class, i, c, limit)
+    map.store_cell(area, class, i, c, limit)
 }
 
 // Writes c over the cell at p, if that is register i's own and no record's. Says whether it was.
@@ -426,11 +428,7 @@ pub fn overwrite(map: IntMap, area: &mut [u8], p: usize, i: u64, c: Cell) -> boo
     if !is_at(area, map.base + map.used, p, key) {
         return false;
     }
-    if intmap::tag_of(area::cell_at(area, p)) == intmap::RECORD {
-        return false;
-    }
-    area::put_cell(area, p, intmap::with_key(c, key));
-    true
+    put_plain(area, p, key, c)
 }
 
 // Stores a plain column in register i.

@@ -1,6 +1,6 @@
-use Rattle.state.proofs.OwnLaws.{among-map, guess-key, entry-none, entry-hinted}
 use mathlib.Core.Path.{refl}
--- `state::entry_at` takes what is found at once, or searches the map. Assumes nothing.
+use Rattle.state.proofs.OwnLaws.{held-among, located-key, located-nowhere, entry-none, entry-hinted}
+-- `state::entry_at` takes what was located. Assumes nothing.
 use native.Mathlib.Omega.{arith}
 use borrow.Author.Needs.{needs}
 use Rattle.state.proofs.entry_at.Statement.{statement}
@@ -12,20 +12,14 @@ class-key-requires c κs = search needs
 add-end : tie.Need-add-end
 add-end c = search needs
 
-near-requires : tie.Need-near-requires
-near-requires c κs = (among-map (c .before .before .before .pre .0 .map), omega (arith, c .before .class-key .ensures, c .before .before .before .pre .1, c .before .before .before .pre .2))
+locate-requires : tie.Need-locate-requires
+locate-requires c κs = (held-among (c .before .before .before .pre .0), omega (arith, c .before .class-key .ensures), omega (arith, c .before .class-key .ensures, c .before .before .before .pre .1, c .before .before .before .pre .2))
 
 returns : tie.Need-returns
-returns c = entry-hinted _ _ _ _ _ (c .before .before .before .class-key .ensures) (c .before .before .before .before .before .pre .0) _ (guess-key (c .before .near .ensures) (c .if1 .taken))
-
-far-requires : tie.Need-far-requires
-far-requires c κs = (among-map (c .before .before .before .before .before .pre .0 .map), omega (arith, c .before .before .before .class-key .ensures, c .before .before .before .before .before .pre .1, c .before .before .before .before .before .pre .2), omega (arith, c .before .before .before .before .before .pre .0 .map .used))
+returns c = entry-hinted _ _ _ _ _ (c .before .before .before .class-key .ensures) (c .before .before .before .before .before .pre .0) _ (located-key (c .before .locate .ensures) (c .if1 .taken))
 
 returns-2 : tie.Need-returns-2
-returns-2 c = entry-hinted _ _ _ _ _ (c .before .before .before .before .before .class-key .ensures) (c .before .before .before .before .before .before .before .pre .0) _ (guess-key (c .before .far .ensures .0) (c .if2 .taken))
-
-returns-3 : tie.Need-returns-3
-returns-3 c = entry-none _ _ _ _ _ (c .before .before .before .before .before .class-key .ensures) _ refl (c .before .far .ensures .1 (omega (arith, c .before .far .ensures .0 .high, c .if2 .left)))
+returns-2 c = entry-none _ _ _ _ _ (c .before .before .before .class-key .ensures) _ refl (located-nowhere (c .before .before .before .before .before .pre .0) (omega (arith, c .before .before .before .class-key .ensures)) (c .before .locate .ensures) (c .if1 .left) .none)
 
 pub entry-at-spec : {M : Type 1} → statement M
 entry-at-spec =
@@ -33,8 +27,6 @@ entry-at-spec =
     (tie.spec
     class-key-requires
     add-end
-    near-requires
+    locate-requires
     returns
-    far-requires
-    returns-2
-    returns-3)
+    returns-2)

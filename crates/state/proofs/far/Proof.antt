@@ -1,32 +1,32 @@
-use Rattle.state.proofs.OwnLaws.{guessed-end, found-guess}
-use mathlib.Core.Path.{ap, sym, _∙_}
--- `state::far` takes what is found by halves, or searches. Assumes nothing.
+use mathlib.Core.Path.{sym, _∙_}
+use Rattle.state.proofs.OwnLaws.{among-inside, located-here, located-new}
+-- `state::far` tests the cell where the key belongs. Assumes nothing.
 use native.Mathlib.Omega.{arith}
 use borrow.Author.Needs.{needs}
 use Rattle.state.proofs.far.Statement.{statement}
 use Rattle.state.proofs.far.Tie as tie
 
-by-halves-requires : tie.Need-by-halves-requires
-by-halves-requires c κs = search needs
+place-requires : tie.Need-place-requires
+place-requires c κs = (c .before .pre .0, c .before .pre .1)
+
+is-at-requires : tie.Need-is-at-requires
+is-at-requires c κs = let i = among-inside (c .before .before .pre .0) in (i .0, i .1, c .before .before .pre .2)
 
 returns : tie.Need-returns
-returns c = (c .before .by-halves .ensures, λ e. absurd (omega (arith, e, c .if1 .taken)))
+returns c = located-here (c .before .before .place .ensures .low) (sym (c .before .is-at .ensures) ∙ c .if1 .taken)
 
-find-from-requires : tie.Need-find-from-requires
-find-from-requires c κs = record { fits = omega (arith, c .before .before .before .pre .2, c .before .before .before .pre .0 .inside); small = c .before .before .before .pre .0 .small }
+add-result : tie.Need-add-result
+add-result c = let i = among-inside (c .before .before .before .before .pre .0) in omega (arith, i .0, i .1, c .before .before .place .ensures .high)
 
 returns-2 : tie.Need-returns-2
-returns-2 c = let found = found-guess _ _ _ _ _ (c .before .before .before .before .before .pre .2) _ (c .before .find-from .ensures) (c .if2 .taken) in (found .0, λ e. absurd (omega (arith, e, found .1)))
-
-returns-3 : tie.Need-returns-3
-returns-3 c = (guessed-end _ _ _ _ (c .before .before .before .before .before .pre .0 .ordered), λ e. sym (ap (λ f. f .present) (c .before .find-from .ensures)) ∙ c .if2 .left)
+returns-2 c = located-new (c .before .before .before .before .pre .0 .ordered) (c .before .before .place .ensures) (sym (c .before .is-at .ensures) ∙ c .if1 .left)
 
 pub far-spec : {M : Type 1} → statement M
 far-spec =
     tie.close
     (tie.spec
-    by-halves-requires
+    place-requires
+    is-at-requires
     returns
-    find-from-requires
-    returns-2
-    returns-3)
+    add-result
+    returns-2)

@@ -1,35 +1,35 @@
-use Rattle.state.proofs.OwnLaws.{guessed, guessed-end}
 use mathlib.Core.Path.{sym, _∙_}
+use Rattle.state.proofs.OwnLaws.{among-inside, guessed, guessed-end}
 -- `state::near_last` passes an entry a turn. The measure is how many are left. Assumes nothing.
 use native.Mathlib.Omega.{arith}
-use Prim.Native.Nat.{_-_, _≤_}
+use Prim.Native.Nat.{_+_, _-_, _<_, _≤_}
 use borrow.Author.Needs.{needs}
 use Rattle.state.proofs.near_last.Statement.{statement}
 use Rattle.state.proofs.near_last.Tie as tie
 
 abbrev Inv-loop : tie.InvT-loop
-Inv-loop area base end key high₀ left₀ high left = high ≤ end
+Inv-loop area base end key high₀ left₀ high left = (base ≤ high) × (high ≤ end)
 
 abbrev μ-loop : tie.MeasureT-loop
 μ-loop area base end key high₀ left₀ high left = left
 
 loop-holds : tie.Need-loop-holds Inv-loop μ-loop
-loop-holds c = search needs
+loop-holds c = (c .before .pre .0 .ordered, omega arith)
 
 returns : tie.Need-returns Inv-loop μ-loop
 returns c = guessed-end _ _ _ _ (c .before .before .before .before .pre .0 .ordered)
 
-sub-entry-below : tie.Need-sub-entry-below Inv-loop μ-loop
-sub-entry-below c = search needs
+sub-head-near : tie.Need-sub-head-near Inv-loop μ-loop
+sub-head-near c = search needs
 
-entry-below-requires : tie.Need-entry-below-requires Inv-loop μ-loop
-entry-below-requires c κs = search needs
+head-near-requires : tie.Need-head-near-requires Inv-loop μ-loop
+head-near-requires c κs = let i = among-inside (c .before .before .before .before .pre .0) in omega (arith, i .0, i .1, c .if1 .left, c .before .before .loop .inv .1)
 
 is-at-requires : tie.Need-is-at-requires Inv-loop μ-loop
-is-at-requires c κs = search needs
+is-at-requires c κs = let i = among-inside (c .before .before .before .before .before .pre .0) in (i .0, i .1, c .before .before .before .before .before .pre .1)
 
 returns-2 : tie.Need-returns-2 Inv-loop μ-loop
-returns-2 c = guessed _ _ _ _ _ (c .before .before .entry-below .ensures .0) (sym (c .before .is-at .ensures) ∙ c .if2 .taken)
+returns-2 c = guessed _ _ _ _ _ (c .before .before .head-near .ensures .0) (sym (c .before .is-at .ensures) ∙ c .if2 .taken)
 
 sub-left : tie.Need-sub-left Inv-loop μ-loop
 sub-left c = search needs
@@ -51,8 +51,8 @@ near-last-spec =
     μ-loop
     loop-holds
     returns
-    sub-entry-below
-    entry-below-requires
+    sub-head-near
+    head-near-requires
     is-at-requires
     returns-2
     sub-left

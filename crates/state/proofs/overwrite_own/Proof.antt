@@ -1,7 +1,7 @@
-use mathlib.Core.Path.{sym, subst}
+use mathlib.Core.Path.{subst}
 use Rattle.intmap.specs.Get.{Within}
-use Rattle.state.proofs.OwnLaws.{among-map, guess-key, owned, overwrites-none, overwrites-it}
--- `state::overwrite_own` judges the index, and tests the cell that was found. Assumes nothing.
+use Rattle.state.proofs.OwnLaws.{held-among, located-key, located-nowhere, bad-own, new-own, overwrites-none, overwrites-own}
+-- `state::overwrite_own` judges the index, and tests the cell that was located. Assumes nothing.
 use native.Mathlib.Omega.{arith}
 use borrow.Author.Needs.{needs}
 use Rattle.state.proofs.overwrite_own.Statement.{statement}
@@ -17,7 +17,7 @@ enum-told : tie.Need-enum-told
 enum-told c = search needs
 
 returns : tie.Need-returns
-returns c = overwrites-none _ _ _ _ _
+returns c = overwrites-none _ (bad-own (c .before .before .judge-index .ensures) _ (c .enum-told .given .1))
 
 class-key-requires : tie.Need-class-key-requires
 class-key-requires c κs = (c .before .before .before .before .before .pre .1, subst Within (c .before .x .given .1) (c .before .before .before .judge-index .ensures .small))
@@ -25,38 +25,23 @@ class-key-requires c κs = (c .before .before .before .before .before .pre .1, s
 add-end : tie.Need-add-end
 add-end c = search needs
 
-guess-requires : tie.Need-guess-requires
-guess-requires c κs = (among-map (c .before .before .before .before .before .before .before .before .pre .0 .map), omega (arith, c .before .before .class-key .ensures, c .before .before .before .before .before .before .before .before .pre .1, subst Within (c .before .before .before .before .x .given .1) (c .before .before .before .before .before .before .judge-index .ensures .small)))
+locate-requires : tie.Need-locate-requires
+locate-requires c κs = (held-among (c .before .before .before .before .before .before .before .before .pre .0), omega (arith, c .before .before .class-key .ensures), let w = subst Within (c .before .before .before .before .x .given .1) (c .before .before .before .before .before .before .judge-index .ensures .small) in omega (arith, c .before .before .class-key .ensures, c .before .before .before .before .before .before .before .before .pre .1, w))
 
 same-length : tie.Need-same-length
 same-length c = search needs
 
 returns-2 : tie.Need-returns-2
-returns-2 c = overwrites-none _ _ _ _ _
+returns-2 c = overwrites-none _ (new-own (c .before .before .before .before .before .before .before .before .judge-index .ensures) (c .before .before .before .before .before .before .x .given .1) (c .before .before .before .before .class-key .ensures) (c .before .before .before .before .before .before .before .before .before .before .pre .0) (located-nowhere (c .before .before .before .before .before .before .before .before .before .before .pre .0) (omega (arith, c .before .before .before .before .class-key .ensures)) (c .before .locate .ensures) (c .if1 .taken)))
 
-cell-at-requires : tie.Need-cell-at-requires
-cell-at-requires c κs = omega (arith, c .before .if1 .left, c .before .before .before .before .before .before .before .before .before .before .before .pre .0 .map .inside, c .before .before .before .before .before .before .before .before .before .before .before .pre .0 .map .small)
-
-tag-of-requires : tie.Need-tag-of-requires
-tag-of-requires c κs = search needs
+put-plain-requires : tie.Need-put-plain-requires
+put-plain-requires c κs = let w = subst Within (c .before .before .before .before .before .before .before .x .given .1) (c .before .before .before .before .before .before .before .before .before .judge-index .ensures .small) in (omega (arith, c .before .if1 .left, c .before .before .before .before .before .before .before .before .before .before .before .pre .0 .map .inside, c .before .before .before .before .before .before .before .before .before .before .before .pre .0 .map .small), omega (arith, c .before .before .before .before .before .class-key .ensures, c .before .before .before .before .before .before .before .before .before .before .before .pre .1, w))
 
 same-length-2 : tie.Need-same-length-2
 same-length-2 c = search needs
 
 returns-3 : tie.Need-returns-3
-returns-3 c = overwrites-none _ _ _ _ _
-
-with-key-requires : tie.Need-with-key-requires
-with-key-requires c κs = omega (arith, c .before .before .before .before .before .before .before .before .before .class-key .ensures, c .before .before .before .before .before .before .before .before .before .before .before .before .before .before .before .pre .1, subst Within (c .before .before .before .before .before .before .before .before .before .before .before .x .given .1) (c .before .before .before .before .before .before .before .before .before .before .before .before .before .judge-index .ensures .small))
-
-put-cell-requires : tie.Need-put-cell-requires
-put-cell-requires c κs = omega (arith, c .before .before .before .before .before .before .if1 .left, c .before .before .before .before .before .before .before .before .before .before .before .before .before .before .before .before .pre .0 .map .inside, c .before .before .before .before .before .before .before .before .before .before .before .before .before .before .before .before .pre .0 .map .small)
-
-same-length-3 : tie.Need-same-length-3
-same-length-3 c = search needs
-
-returns-4 : tie.Need-returns-4
-returns-4 c = let has = guess-key (c .before .before .before .before .before .before .before .before .before .before .guess .ensures) (c .before .before .before .before .before .before .before .before .before .if1 .left) in overwrites-it (owned _ _ _ _ _ _ _ _ (c .before .before .before .before .before .before .before .before .before .before .before .before .before .before .before .before .before .judge-index .ensures) (c .before .before .before .before .before .before .before .before .before .before .before .before .before .before .before .x .given .1) (c .before .before .before .before .before .before .before .before .before .before .before .before .before .class-key .ensures) has _ _ (c .before .before .before .before .before .before .before .cell-at .ensures) (c .before .before .before .before .before .before .tag-of .ensures) (c .before .before .before .before .before .if2 .left)) _ _ (c .before .before .before .before .before .before .before .before .before .before .before .before .before .before .before .before .before .before .before .pre .2) _ (sym (has .is)) (c .before .before .before .with-key .ensures) _ (c .before .before .put-cell .ensures .cells)
+returns-3 c = overwrites-own (c .before .before .before .before .before .before .before .before .before .before .before .before .judge-index .ensures) (c .before .before .before .before .before .before .before .before .before .before .x .given .1) (c .before .before .before .before .before .before .before .before .class-key .ensures) (located-key (c .before .before .before .before .before .locate .ensures) (c .before .before .before .before .if1 .left)) (c .before .before .before .before .before .before .before .before .before .before .before .before .before .before .pre .2) (c .before .before .put-plain .ensures) (c .before .before .before .before .before .before .before .before .before .before .before .before .before .before .pre .0)
 
 pub overwrite-own-spec : {M : Type 1} → statement M
 overwrite-own-spec =
@@ -68,14 +53,9 @@ overwrite-own-spec =
     returns
     class-key-requires
     add-end
-    guess-requires
+    locate-requires
     same-length
     returns-2
-    cell-at-requires
-    tag-of-requires
+    put-plain-requires
     same-length-2
-    returns-3
-    with-key-requires
-    put-cell-requires
-    same-length-3
-    returns-4)
+    returns-3)

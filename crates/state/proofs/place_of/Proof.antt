@@ -1,5 +1,5 @@
-use Rattle.state.proofs.OwnLaws.{among-map, new-behind, key-as}
--- `state::place_of` takes the map's end, or searches the map. Assumes nothing.
+use Rattle.state.proofs.OwnLaws.{held-among, belongs-last, key-as}
+-- `state::place_of` takes the end, where the key belongs there, or searches the map. Assumes nothing.
 use native.Mathlib.Omega.{arith}
 use borrow.Author.Needs.{needs}
 use Rattle.state.proofs.place_of.Statement.{statement}
@@ -11,11 +11,11 @@ class-key-requires c κs = search needs
 add-end : tie.Need-add-end
 add-end c = search needs
 
-place-last-requires : tie.Need-place-last-requires
-place-last-requires c κs = among-map (c .before .before .before .pre .0 .map)
+place-requires : tie.Need-place-requires
+place-requires c κs = (held-among (c .before .before .before .pre .0), omega (arith, c .before .class-key .ensures))
 
 returns : tie.Need-returns
-returns c = key-as _ (c .before .before .before .before .before .args .map) _ _ _ (c .before .before .before .class-key .ensures) (new-behind _ (c .before .before .before .before .before .args .map) (c .before .before .before .before .before .pre .0) _ _ (c .before .place-last .ensures (omega (arith, c .if1 .taken))) (omega (arith, c .before .before .before .class-key .ensures)) (c .if1 .taken))
+returns c = key-as _ (c .before .before .before .before .before .args .map) _ _ _ (c .before .before .before .class-key .ensures) (belongs-last (c .before .before .before .before .before .pre .0) (omega (arith, c .before .before .before .class-key .ensures)) (c .before .place .ensures) (c .if1 .taken))
 
 find-requires : tie.Need-find-requires
 find-requires c κs = c .before .before .before .before .before .pre .0 .map
@@ -29,7 +29,7 @@ place-of-spec =
     (tie.spec
     class-key-requires
     add-end
-    place-last-requires
+    place-requires
     returns
     find-requires
     returns-2)
