@@ -2,7 +2,7 @@
 // src/connection/explain.rs.
 ghost use mathlib.Core.Path.{_≡_};
 ghost use Prim.Native.Nat.{ℕ, _+_, _<_, _≤_};
-ghost use mathlib.Core.Bool.{true};
+ghost use mathlib.Core.Bool.{true, false};
 ghost use lib.Dec.{ltb};
 ghost use lib.ListN.{length, getD};
 ghost use Rattle.model.specs.State.{Record, end, Column};
@@ -118,11 +118,11 @@ fn store_from(map: IntMap, area: &mut [u8], at: usize, c: Cell, j: u64, limit: u
     map.store_run(area, state::REGISTERS, j, to, limit)
 }
 
-// Stores the cell c over register j's own, if it is no record's and that is found at once. Says whether it was: then the map is as it was, and no
-// call hands it over and back.
+// Stores the cell c over register j's own, if neither is a record's. Says whether it was: then the map is as it was, and no call hands it over and
+// back.
 fn store_over(map: IntMap, area: &mut [u8], c: Cell, j: u64) -> bool
     requires { ⌜ Held (cells (now area)) map ⌝ }
-    ensures { λ r. ⌜ (r ≡ true → tagOf c ≡ 2 → ⊥) × OverwritesOwn (cells (now (area .entry))) (cells (now (area .exit))) map 0 j c r ⌝ }
+    ensures { λ r. ⌜ (r ≡ true → tagOf c ≡ 2 → ⊥) × ((tagOf c ≡ 2 → ⊥) → OverwritesOwn (cells (now (area .entry))) (cells (now (area .exit))) map 0 j c r) × (r ≡ false → cells (now (area .exit)) ≡ cells (now (area .entry))) ⌝ }
 {
     if intmap::tag_of(c) == intmap::RECORD {
         return false;

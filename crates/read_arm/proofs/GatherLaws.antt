@@ -25,13 +25,13 @@ use Rattle.intmap.specs.Pack.{tagOf, keyOf}
 use Rattle.intmap.specs.Pick.{pick}
 use Rattle.intmap.specs.Entries.{Runs, entries, keyRun, total}
 use Rattle.intmap.specs.Map.{levels, empty, runsAt, HasRoom, Frame}
-use Rattle.intmap.specs.Store.{put, judgeRuns, answerOf, Behind, Inserts}
+use Rattle.intmap.specs.Store.{put, judgeRuns, answerOf, NewAt, Inserts}
 use Rattle.intmap.specs.Signed.{offset, intOf}
 use Rattle.intmap.specs.declared.IntMap.{IntMap}
 use Rattle.intmap.specs.declared.Insertion.{Insertion}
 use Rattle.intmap.specs.declared.Insertion.the-variants as insertion
 use Rattle.intmap.proofs.MapLaws.{empty-room}
-use Rattle.intmap.proofs.StoreLaws.{frame-same}
+use Rattle.intmap.proofs.StoreLaws.{room-map, behind-new, frame-same}
 use Rattle.intmap.proofs.SwapLaws.{Under, under-more, under-swap}
 use Rattle.intmap.proofs.Swapped.{seek-under}
 use Rattle.intmap.proofs.SignedLaws.{int-below, int-above}
@@ -331,8 +331,8 @@ module _ {limit : ℕ} {cs ds : List Cell} {base : ℕ} {bs : List ℕ} {x : Row
       gathering-passed f = next ds (insertion.Done m) (added-not limit ds m c x f (g .room)) m bound refl (g .under)
 
       -- a key that is not below the bound belongs behind all
-      pub gathering-behind : (key : ℕ) → key ≡ keyOf (columnOf c) → bound ≤ key → Behind ds m (keyOf (columnOf c))
-      gathering-behind key e le = seek-under ds levels (keyOf (columnOf c)) (m .len) (m .base) (under-more bound (keyOf (columnOf c)) (runsAt ds m) (omega (arith, e)) (g .under))
+      pub gathering-behind : (key : ℕ) → key ≡ keyOf (columnOf c) → bound ≤ key → NewAt ds m (keyOf (columnOf c)) (m .base + m .used)
+      gathering-behind key e le = behind-new (room-map (g .room)) (seek-under ds levels (keyOf (columnOf c)) (m .len) (m .base) (under-more bound (keyOf (columnOf c)) (runsAt ds m) (omega (arith, e)) (g .under)))
 
       -- a record that is for the row
       module _ (f : blockFor c x ≡ true) (es : List Cell) (z : Insertion) (ins : Inserts ds es limit m (columnOf c ∷ []) z) where

@@ -62,7 +62,7 @@ fn columns_at(area: &mut [u8], blocks: &[u8], base: usize, x: Row, limit: usize)
         };
         let key = intmap::key_of(column);
         if bound <= key {
-            let Insertion::Done(b) = m.append_cell(area, column, limit) else {
+            let Insertion::Done(b) = m.insert_new(area, m.base + m.used, column, limit) else {
                 return Insertion::Full;
             };
             m = b;

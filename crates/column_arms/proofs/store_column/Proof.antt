@@ -44,10 +44,10 @@ same-length : tie.Need-same-length
 same-length c = search needs
 
 returns : tie.Need-returns
-returns c = column-there _ _ _ _ (c .before .before .before .before .before .before .before .before .before .before .before .before .before .before .before .before .before .pre .0) (c .before .before .before .before .before .before .before .before .before .before .before .before .before .before .before .before .before .pre .1) (c .before .before .before .before .before .before .before .before .before .before .before .before .before .before .before .before .before .pre .2) _ _ _ (c .before .before .before .before .before .before .before .before .before .before .before .before .before .before .before .judge-index .ensures) _ (c .before .before .before .before .before .before .before .before .before .before .before .before .before .x2 .given .1) _ (c .before .before .before .before .before .before .before .before .before .before .find-column .ensures) _ (c .before .before .before .before .before .before .before .before .column2 .given .1) _ (c .before .before .before .before .before .cell-at .ensures) _ _ (stores-alone _ _ _ _ _ (ap (λ (y : Cell). tagOf y) (c .before .before .before .before .before .cell-at .ensures)) (c .before .before .before .store-over .ensures .0 (c .if1 .taken)) _ _ _ (c .before .before .before .store-over .ensures .1 .yes (c .if1 .taken) _ (c .before .before .before .before .before .before .before .before .before .before .before .before .before .before .before .before .before .pre .0 .room)))
+returns c = column-there _ _ _ _ (c .before .before .before .before .before .before .before .before .before .before .before .before .before .before .before .before .before .pre .0) (c .before .before .before .before .before .before .before .before .before .before .before .before .before .before .before .before .before .pre .1) (c .before .before .before .before .before .before .before .before .before .before .before .before .before .before .before .before .before .pre .2) _ _ _ (c .before .before .before .before .before .before .before .before .before .before .before .before .before .before .before .judge-index .ensures) _ (c .before .before .before .before .before .before .before .before .before .before .before .before .before .x2 .given .1) _ (c .before .before .before .before .before .before .before .before .before .before .find-column .ensures) _ (c .before .before .before .before .before .before .before .before .column2 .given .1) _ (c .before .before .before .before .before .cell-at .ensures) _ _ (stores-alone _ _ _ _ _ (ap (λ (y : Cell). tagOf y) (c .before .before .before .before .before .cell-at .ensures)) (c .before .before .before .store-over .ensures .0 (c .if1 .taken)) _ _ _ (c .before .before .before .store-over .ensures .1 (c .before .before .before .store-over .ensures .0 (c .if1 .taken)) .yes (c .if1 .taken) _ (c .before .before .before .before .before .before .before .before .before .before .before .before .before .before .before .before .before .pre .0 .room)))
 
 store-from-requires : tie.Need-store-from-requires
-store-from-requires c κs = let place = column-inside _ _ _ _ (c .before .before .before .before .before .before .before .before .before .before .before .before .before .before .before .before .before .before .pre .0) (c .before .before .before .before .before .before .before .before .before .before .before .before .before .before .before .before .before .before .pre .1) (c .before .before .before .before .before .before .before .before .before .before .before .before .before .before .before .before .before .before .pre .2) _ _ (c .before .before .before .before .before .before .before .before .before .before .before .find-column .ensures) _ (c .before .before .before .before .before .before .before .before .before .column2 .given .1) in still-storable (c .before .before .before .before .store-over .ensures .1 .no (c .before .if1 .left)) _ _ _ (c .before .before .before .before .before .before .before .before .before .before .before .before .before .before .before .before .before .before .pre .0) (place .0) (place .1) (c .before .before .before .before .before .before .cell-at .ensures)
+store-from-requires c κs = let place = column-inside _ _ _ _ (c .before .before .before .before .before .before .before .before .before .before .before .before .before .before .before .before .before .before .pre .0) (c .before .before .before .before .before .before .before .before .before .before .before .before .before .before .before .before .before .before .pre .1) (c .before .before .before .before .before .before .before .before .before .before .before .before .before .before .before .before .before .before .pre .2) _ _ (c .before .before .before .before .before .before .before .before .before .before .before .find-column .ensures) _ (c .before .before .before .before .before .before .before .before .before .column2 .given .1) in still-storable (c .before .before .before .before .store-over .ensures .2 (c .before .if1 .left)) _ _ _ (c .before .before .before .before .before .before .before .before .before .before .before .before .before .before .before .before .before .before .pre .0) (place .0) (place .1) (c .before .before .before .before .before .before .cell-at .ensures)
 
 returns-2 : tie.Need-returns-2
 returns-2 c = column-index _ _ _ _ (c .before .before .before .before .before .pre .0) (c .before .before .before .before .before .pre .1) (c .before .before .before .before .before .pre .2) _ _ _ (c .before .before .before .judge-index .ensures) _ (c .before .x .given .1)
@@ -68,7 +68,7 @@ same-length-4 : tie.Need-same-length-4
 same-length-4 c = search needs
 
 returns-5 : tie.Need-returns-5
-returns-5 c = column-there _ _ _ _ (c .before .before .before .before .before .before .before .before .before .before .before .before .before .before .before .before .before .before .before .before .before .pre .0) (c .before .before .before .before .before .before .before .before .before .before .before .before .before .before .before .before .before .before .before .before .before .pre .1) (c .before .before .before .before .before .before .before .before .before .before .before .before .before .before .before .before .before .before .before .before .before .pre .2) _ _ _ (c .before .before .before .before .before .before .before .before .before .before .before .before .before .before .before .before .before .before .before .judge-index .ensures) _ (c .before .before .before .before .before .before .before .before .before .before .before .before .before .before .before .before .before .x2 .given .1) _ (c .before .before .before .before .before .before .before .before .before .before .before .before .before .before .find-column .ensures) _ (c .before .before .before .before .before .before .before .before .before .before .before .before .column2 .given .1) _ (c .before .before .before .before .before .before .before .before .before .cell-at .ensures) _ _ (still-stored (c .before .before .before .before .before .before .before .store-over .ensures .1 .no (c .before .before .before .before .if1 .left)) _ _ _ (c .before .before .store-from .ensures))
+returns-5 c = column-there _ _ _ _ (c .before .before .before .before .before .before .before .before .before .before .before .before .before .before .before .before .before .before .before .before .before .pre .0) (c .before .before .before .before .before .before .before .before .before .before .before .before .before .before .before .before .before .before .before .before .before .pre .1) (c .before .before .before .before .before .before .before .before .before .before .before .before .before .before .before .before .before .before .before .before .before .pre .2) _ _ _ (c .before .before .before .before .before .before .before .before .before .before .before .before .before .before .before .before .before .before .before .judge-index .ensures) _ (c .before .before .before .before .before .before .before .before .before .before .before .before .before .before .before .before .before .x2 .given .1) _ (c .before .before .before .before .before .before .before .before .before .before .before .before .before .before .find-column .ensures) _ (c .before .before .before .before .before .before .before .before .before .before .before .before .column2 .given .1) _ (c .before .before .before .before .before .before .before .before .before .cell-at .ensures) _ _ (still-stored (c .before .before .before .before .before .before .before .store-over .ensures .2 (c .before .before .before .before .if1 .left)) _ _ _ (c .before .before .store-from .ensures))
 
 pub store-column-spec : {M : Type 1} → statement M
 store-column-spec =

@@ -1,6 +1,7 @@
 -- `open_arms::insert_table` stores the run where a search leads, with nothing to move if that is behind all entries. Assumes nothing.
 use mathlib.Core.Path.{sym, ap, _∙_}
 use native.Mathlib.Omega.{arith}
+use Rattle.intmap.proofs.StoreLaws.{room-map, behind-new}
 use Rattle.state.proofs.LeadsLaws.{current-held}
 use Rattle.state.proofs.OwnLaws.{key-as}
 use Rattle.open_arms.proofs.OpenLaws.{stored-as}
@@ -18,7 +19,7 @@ append-run-requires : tie.Need-append-run-requires
 append-run-requires c κs = let start = c .before .before .before .before .before .before .before in
     let key = c .before .before .before .before .before .class-key .ensures in
     let found = key-as _ (start .args .map) _ _ _ (sym key) (c .before .before .before .place-of .ensures) in
-    (start .pre .0 .room, start .pre .2, omega (arith, key, start .pre .1), ap (λ w. w .left) (sym found) ∙ c .before .if1 .taken)
+    (start .pre .0 .room, start .pre .2, omega (arith, key, start .pre .1), behind-new (room-map (start .pre .0 .room)) (ap (λ w. w .left) (sym found) ∙ c .before .if1 .taken))
 
 same-length : tie.Need-same-length
 same-length c = search needs

@@ -44,9 +44,11 @@ loop-again c = let read = c .before .before .before in let loop = read .before .
 key-of-requires : tie.Need-key-of-requires Inv-loop μ-loop
 key-of-requires c κs = search needs
 
-append-cell-requires : tie.Need-append-cell-requires Inv-loop μ-loop
-append-cell-requires c κs = let read = c .before .before .before .before .before .before .before in let g = read .before .before .loop .inv .1 in let on = read .before .loop-test .taken in
-    (g .room, gathering-plain g on _ (read .cell-at .ensures) (read .before .before .before .before .before .before .before .pre .2), gathering-behind g on _ (read .cell-at .ensures) _ (c .before .before .key-of .ensures) (c .before .if2 .taken))
+add-insert-new : tie.Need-add-insert-new Inv-loop μ-loop
+add-insert-new c = let g = c .before .before .before .before .before .before .before .before .before .before .loop .inv .1 in omega (arith, g .room .most, g .room .room, g .room .small)
+
+insert-new-requires : tie.Need-insert-new-requires Inv-loop μ-loop
+insert-new-requires c κs = (c .before .before .before .before .before .before .before .before .before .before .loop .inv .1 .room, gathering-plain (c .before .before .before .before .before .before .before .before .before .before .loop .inv .1) (c .before .before .before .before .before .before .before .before .before .loop-test .taken) _ (c .before .before .before .before .before .before .before .before .cell-at .ensures) (c .before .before .before .before .before .before .before .before .before .before .before .before .before .before .before .pre .2), gathering-behind (c .before .before .before .before .before .before .before .before .before .before .loop .inv .1) (c .before .before .before .before .before .before .before .before .before .loop-test .taken) _ (c .before .before .before .before .before .before .before .before .cell-at .ensures) _ (c .before .before .before .key-of .ensures) (c .before .before .if2 .taken))
 
 enum-known-b : tie.Need-enum-known-b Inv-loop μ-loop
 enum-known-b c = search needs
@@ -55,21 +57,19 @@ enum-told : tie.Need-enum-told Inv-loop μ-loop
 enum-told c = search needs
 
 same-length : tie.Need-same-length Inv-loop μ-loop
-same-length c = c .before .before .before .before .append-cell .kept .1 .0 ∙ c .before .before .before .before .before .before .before .before .before .before .before .before .before .before .loop .inv .0
+same-length c = c .before .before .before .before .insert-new .kept .1 .0 ∙ c .before .before .before .before .before .before .before .before .before .before .before .before .before .before .before .loop .inv .0
 
 returns : tie.Need-returns Inv-loop μ-loop
-returns c = let read = c .before .before .before .before .before .before .before .before .before .before .before .before in
-    gathering-full (read .before .before .loop .inv .1) (read .before .loop-test .taken) _ (read .cell-at .ensures) (sym (c .before .before .before .before .before .before .before .before .before .before .is-block-for .ensures) ∙ not-false _ (c .before .before .before .before .before .before .before .before .before .if1 .left)) _ _ (c .before .before .before .before .append-cell .ensures) (c .enum-told .given .1)
+returns c = gathering-full (c .before .before .before .before .before .before .before .before .before .before .before .before .before .before .before .loop .inv .1) (c .before .before .before .before .before .before .before .before .before .before .before .before .before .before .loop-test .taken) _ (c .before .before .before .before .before .before .before .before .before .before .before .before .before .cell-at .ensures) (sym (c .before .before .before .before .before .before .before .before .before .before .before .is-block-for .ensures) ∙ not-false _ (c .before .before .before .before .before .before .before .before .before .before .if1 .left)) _ _ (c .before .before .before .before .insert-new .ensures) (c .enum-told .given .1)
 
 add-bound : tie.Need-add-bound Inv-loop μ-loop
-add-bound c = omega (arith, c .before .before .before .before .before .before .before .before .key-of .ensures)
+add-bound c = omega (arith, c .before .before .before .before .before .before .before .before .before .key-of .ensures)
 
 loop-less-2 : tie.Need-loop-less-2 Inv-loop μ-loop
-loop-less-2 c = let read = c .before .before .before .before .before .before .before .before .before .before .before .before .before in gathering-less (read .before .before .loop .inv .1) (read .before .loop-test .taken) _ (read .cell-at .ensures) (read .before .before .before .before .before .before .before .pre .2)
+loop-less-2 c = gathering-less (c .before .before .before .before .before .before .before .before .before .before .before .before .before .before .before .before .loop .inv .1) (c .before .before .before .before .before .before .before .before .before .before .before .before .before .before .before .loop-test .taken) _ (c .before .before .before .before .before .before .before .before .before .before .before .before .before .before .cell-at .ensures) (c .before .before .before .before .before .before .before .before .before .before .before .before .before .before .before .before .before .before .before .before .before .pre .2)
 
 loop-again-2 : tie.Need-loop-again-2 Inv-loop μ-loop
-loop-again-2 c = let read = c .before .before .before .before .before .before .before .before .before .before .before .before .before in let loop = read .before .before .loop in let key = c .before .before .before .before .before .before .before .before .key-of .ensures in
-    (c .before .before .before .before .before .append-cell .kept .1 .0 ∙ loop .inv .0, gathering-added (loop .inv .1) (read .before .loop-test .taken) _ (read .cell-at .ensures) (sym (c .before .before .before .before .before .before .before .before .before .before .before .is-block-for .ensures) ∙ not-false _ (c .before .before .before .before .before .before .before .before .before .before .if1 .left)) _ _ (c .before .before .before .before .before .append-cell .ensures) _ _ (c .before .b .given .1) (omega (arith, key)) (omega (arith, c .before .before .before .before .before .before .before .if2 .taken)))
+loop-again-2 c = (c .before .before .before .before .before .insert-new .kept .1 .0 ∙ c .before .before .before .before .before .before .before .before .before .before .before .before .before .before .before .before .loop .inv .0, gathering-added (c .before .before .before .before .before .before .before .before .before .before .before .before .before .before .before .before .loop .inv .1) (c .before .before .before .before .before .before .before .before .before .before .before .before .before .before .before .loop-test .taken) _ (c .before .before .before .before .before .before .before .before .before .before .before .before .before .before .cell-at .ensures) (sym (c .before .before .before .before .before .before .before .before .before .before .before .before .is-block-for .ensures) ∙ not-false _ (c .before .before .before .before .before .before .before .before .before .before .before .if1 .left)) _ _ (c .before .before .before .before .before .insert-new .ensures) _ _ (c .before .b .given .1) (omega (arith, c .before .before .before .before .before .before .before .before .before .key-of .ensures)) (omega (arith, c .before .before .before .before .before .before .before .before .if2 .taken)))
 
 insert-cell-requires : tie.Need-insert-cell-requires Inv-loop μ-loop
 insert-cell-requires c κs = let read = c .before .before .before .before .before .before .before in let g = read .before .before .loop .inv .1 in
@@ -116,7 +116,8 @@ columns-at-spec =
     loop-less
     loop-again
     key-of-requires
-    append-cell-requires
+    add-insert-new
+    insert-new-requires
     enum-known-b
     enum-told
     same-length
