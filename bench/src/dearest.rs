@@ -127,10 +127,10 @@ fn costly_rows() -> Vec<Case> {
     let half: [Row; 1] = [("Null", 0, 1, 240)];
     vec![
         case("Integer into 490 registers", behind(6, &full, |i| ("Integer", i, (i * 97) % 491, 0), 1_500)),
-case("Integer into 490 new registers", behind(6, &[], |i| ("Integer", i, i % 490, 0), 1_500)),
+        case("Integer into 490 new registers", behind(6, &[], |i| ("Integer", i, i % 490, 0), 1_500)),
         case("the same, downwards", behind(6, &[], |i| ("Integer", i, 489 - i % 490, 0), 1_500)),
         case("the same, out of order", behind(6, &[], |i| ("Integer", i, (i * 97) % 490, 0), 1_500)),
-                case("Column of 240 columns", behind(6, &table, |i| ("Column", 0, i % 240, 2), 1_500)),
+        case("Column of 240 columns", behind(6, &table, |i| ("Column", 0, i % 240, 2), 1_500)),
         case("RowData of 240 columns", behind(6, &table, |_| ("RowData", 0, 1, 0), 1_500)),
         case("Insert of 240 columns", behind(6, &table, |_| ("Insert", 0, 1, 0), 1_500)),
         case("NullRow of 240 columns", behind(6, &table, |_| ("NullRow", 0, 0, 0), 1_500)),

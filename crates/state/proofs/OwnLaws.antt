@@ -38,7 +38,7 @@ use Rattle.intmap.proofs.JudgedLaws.{store-tried}
 use Rattle.intmap.proofs.Overwritten.{alike, alike-room, overwritten}
 use Rattle.intmap.proofs.PackLaws.{keyed-tag, keyed-key}
 use Rattle.encoding.proofs.Places.{sizes-many, held-place}
-use Rattle.state.specs.Leads.{HoldsMap, Leaves, Held, Current, Leads}
+use Rattle.state.specs.Leads.{HoldsMap, Leaves, Held, Leads}
 use Rattle.state.specs.Own.{foundSlot, entrySlot, isAt, isFlat, HeldAmong, Guesses, FlatSize, Reaches, EntryBelow, Belongs, Locates, HasKey, Own, PutsPlain, OverwritesOwn, StoresCell, Overwrites}
 use Rattle.state.proofs.StoreLeads.{wider}
 
@@ -171,6 +171,17 @@ pub reached-to : {cs : List Cell} {base at p : ℕ} → HeldAmong cs base (at + 
 reached-to {cs} {base} {at} {p} h from le c ce it =
     let outer = subst (λ y. 65536 ≤ keyOf y) ce (it .begins) in
     (outer, reached h p at (it .size) from (omega arith) outer (subst (λ y. FlatSize y (it .size)) ce (it .flat)) (omega (arith, le, it .more)))
+
+-- an entry with the key is where it belongs
+pub belongs-there : {cs : List Cell} {base end key p : ℕ} → HeldAmong cs base end → 65536 ≤ key → base ≤ p → p < end → (c : Cell) → c ≡ getD cs p blank → (k : ℕ) → k ≡ keyOf c → k ≡ key → Belongs cs base end key p
+belongs-there {cs} {base} {end} {key} {p} h big low lt c ce k ke is =
+    let same : keyOf (getD cs p blank) ≡ key = ap keyOf (sym ce) ∙ sym ke ∙ is in
+    record {
+      low = low;
+      high = omega (arith, lt);
+      before = λ q from less outer. subst (λ n. keyOf (getD cs q blank) < n) same (higher h q p from less lt outer (omega (arith, big, same)));
+      after = λ _. omega (arith, same);
+    }
 
 -- the place where a key belongs is where a search for it ends
 module _ {cs : List Cell} {a : IntMap} (held : Held cs a) {key p : ℕ} (big : 65536 ≤ key) (b : Belongs cs (a .base) (a .base + a .used) key p) where
@@ -420,8 +431,8 @@ map-stored limit cs ds a class i c r st = record { says = λ bound m h. st; leav
     left (stored.Done b) st = record { base = st .leaves .base; room = st .leaves .room }
 
 -- where nothing was written over
-pub still-current : {cs ds : List Cell} {p key : ℕ} {c : Cell} {r : Bool} → PutsPlain cs ds p key c r → r ≡ false → {limit : ℕ} {a : IntMap} → Current limit cs a → Current limit ds a
-still-current o e {limit} {a} current = subst (λ l. Current limit l a) (sym (o .no e .1)) current
+pub still-room : {cs ds : List Cell} {p key : ℕ} {c : Cell} {r : Bool} → PutsPlain cs ds p key c r → r ≡ false → {limit : ℕ} {a : IntMap} → HasRoom cs limit a → HasRoom ds limit a
+still-room o e {limit} {a} room = subst (λ l. HasRoom l limit a) (sym (o .no e .1)) room
 
 pub stored-then : {cs es ds : List Cell} {p key : ℕ} {c : Cell} {b : Bool} → PutsPlain cs es p key c b → b ≡ false → {limit : ℕ} {a : IntMap} {class i : ℕ} {r : Stored} → StoresCell limit es ds a class i c r → StoresCell limit cs ds a class i c r
 stored-then {ds = ds} {c = c} o e {limit} {a} {class} {i} {r} st = subst (λ l. StoresCell limit l ds a class i c r) (o .no e .1) st

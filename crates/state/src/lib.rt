@@ -9,7 +9,7 @@ ghost use Rattle.model.specs.Access.{storeRegister};
 ghost use Rattle.area.specs.Cells.{cells, Inside};
 ghost use Rattle.intmap.specs.Get.{Gets};
 ghost use Rattle.intmap.specs.Find.{seek};
-ghost use Rattle.intmap.specs.Map.{levels, IsMap};
+ghost use Rattle.intmap.specs.Map.{levels, IsMap, HasRoom};
 ghost use Rattle.intmap.specs.Pack.{tagOf, classKey};
 ghost use Rattle.intmap.specs.Signed.{intOf};
 ghost use Rattle.encoding.specs.Encode.{single};
@@ -130,24 +130,6 @@ fn entry_below(area: &[u8], base: usize, low: usize, at: usize) -> usize
     low
 }
 
-// Where a key stands if between it and the entry at p, which has key k, are the entries of all keys between, of one cell each; `end`, if that is
-// outside.
-fn at_distance(base: usize, end: usize, p: usize, k: u64, key: u64) -> usize
-    requires { ⌜ (base ≤ p) × (p ≤ end) × (end ≤ 1048576) ⌝ }
-    ensures { λ r. ⌜ (base ≤ r) × (r ≤ end) ⌝ }
-{
-    if k <= key {
-        if ((end - p) as u64) <= key - k {
-            return end;
-        }
-        return p + (key - k) as usize;
-    }
-    if ((p - base) as u64) < k - key {
-        return end;
-    }
-    p - (k - key) as usize
-}
-
 // Whether p is before `end` and the cell there has the key.
 fn is_at(area: &[u8], end: usize, p: usize, key: u64) -> bool
     requires { ⌜ (end ≤ length (cells (now area))) × (length (cells (now area)) ≤ 1048576) × (key < 1099511627776) ⌝ }
@@ -168,32 +150,31 @@ fn flat_size(c: Cell) -> usize
     1
 }
 
-// How many of the first and of the last entries a search tries.
-const FIRST: usize = 2;
-
-const LAST: usize = 24;
-
-// Looks for a key at its distance from the first entries of a map, whose cells are from `base` on and before `end`.
+// Looks for a key at its distance from the first entry of a map, whose cells are from `base` on and before `end`: it is there, if the entries of all
+// keys between are, of one cell each.
 fn near_first(area: &[u8], base: usize, end: usize, key: u64) -> usize
     requires { ⌜ HeldAmong (cells (now area)) base end × (key < 1099511627776) ⌝ }
     ensures { λ r. ⌜ Guesses (cells (now (area .entry))) base end key r ⌝ }
 {
-    let mut p = base;
-    let mut left: usize = FIRST;
-    while 0 < left {
-        if end <= p {
-            return end;
-        }
-        let c = area::cell_at(area, p);
-        let q = at_distance(base, end, p, intmap::key_of(c), key);
-        if is_at(area, end, q, key) {
-            return q;
-        }
-        p += flat_size(c);
-        left -= 1;
+    if end <= base {
+        return end;
+    }
+    let k = intmap::key_of(area::cell_at(area, base));
+    if key < k {
+        return end;
+    }
+    if ((end - base) as u64) <= key - k {
+        return end;
+    }
+    let p = base + (key - k) as usize;
+    if is_at(area, end, p, key) {
+        return p;
     }
     end
 }
+
+// How many of the last entries are tried for a cursor or table.
+const LAST: usize = 24;
 
 // Where the entry begins that the cell at `at` belongs to, if the cell tells that.
 fn head_near(area: &[u8], base: usize, at: usize) -> usize
@@ -243,37 +224,58 @@ fn near(area: &[u8], base: usize, end: usize, key: u64) -> usize
     near_last(area, base, end, key)
 }
 
-// How many of the last cells a search tests one after the other.
-const CLOSE: usize = 8;
+// How many cells a search tests where it guesses, before it goes by halves.
+const TRIES: usize = 8;
 
-// Which cell to test of those from `low` on and before `high`: the last, while that is close to `end`; one twice as far from it; or the middle.
-fn probe(low: usize, high: usize, end: usize) -> usize
-    requires { ⌜ (low < high) × (high ≤ end) × (end ≤ 1048576) ⌝ }
+// Which cell to test of those from `low` on and before `high`: the one that is guessed, or the nearest to it; after so many tries the middle.
+fn probe(low: usize, high: usize, guess: usize, tried: usize) -> usize
+    requires { ⌜ low < high ⌝ }
     ensures { λ r. ⌜ (low ≤ r) × (r < high) ⌝ }
 {
-    let n = high - low;
-    let far = end - high;
-    if far < CLOSE {
+    if TRIES <= tried {
+        return low + (high - low) / 2;
+    }
+    if guess < low {
+        return low;
+    }
+    if high <= guess {
         return high - 1;
     }
-    if far < n {
-        return high - 1 - far;
-    }
-    low + n / 2
+    guess
 }
 
-// Where a key is or belongs: back from the end in steps that double, since registers are often stored in their order, then by halves.
+// Where a key above k stands, if the entries of all keys between are behind the one at p, which begins with c and has key k, of one cell each.
+fn ahead(p: usize, c: Cell, k: u64, key: u64) -> usize
+    requires { ⌜ (p ≤ 1048576) × (k < key) ⌝ }
+    ensures { λ r. ⌜ p < r ⌝ }
+{
+    if 65536 <= key - k {
+        return p + 65536;
+    }
+    p + flat_size(c) - 1 + (key - k) as usize
+}
+
+// Where a key is or belongs. It guesses by the distance from an entry with a lower key, and where that leads too far, tries the one before.
 fn place(area: &[u8], base: usize, end: usize, key: u64) -> usize
     requires { ⌜ HeldAmong (cells (now area)) base end × (65536 ≤ key) ⌝ }
     ensures { λ r. ⌜ Belongs (cells (now (area .entry))) base end key r ⌝ }
 {
     let mut low = base;
     let mut high = end;
+    let mut guess = base;
+    let mut tried: usize = 0;
     while low < high {
-        let mid = probe(low, high, end);
+        let mid = probe(low, high, guess, tried);
+        tried += 1;
         let p = entry_below(area, base, low, mid);
-        if intmap::key_of(area::cell_at(area, p)) < key {
+        let c = area::cell_at(area, p);
+        let k = intmap::key_of(c);
+        if k == key {
+            return p;
+        }
+        if k < key {
             low = mid + 1;
+            guess = ahead(p, c, k, key);
         } else {
             high = p;
         }
@@ -396,7 +398,7 @@ pub fn overwrite_own(map: IntMap, area: &mut [u8], class: u64, i: u64, c: Cell) 
 
 // Stores a cell that is no record's under index i of a class: over its own cell, or where that belongs, or in the place of a record.
 pub fn store_cell(map: IntMap, area: &mut [u8], class: u64, i: u64, c: Cell, limit: usize) -> Stored
-    requires { ⌜ Current limit (cells (now area)) map × (class < 3) × (tagOf c ≡ 2 → ⊥) ⌝ }
+    requires { ⌜ HasRoom (cells (now area)) limit map × Held (cells (now area)) map × (class < 3) × (tagOf c ≡ 2 → ⊥) ⌝ }
     ensures { λ r. ⌜ StoresCell limit (cells (now (area .entry))) (cells (now (area .exit))) map class i c r ⌝ }
 {
     let x = intmap::judge_index(i);

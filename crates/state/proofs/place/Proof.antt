@@ -3,8 +3,8 @@ use Prim.Native.Nat.{ℕ}
 use lib.ListN.{getD}
 use Rattle.area.specs.Cells.{blank, cells}
 use Rattle.intmap.specs.Pack.{keyOf}
-use Rattle.state.proofs.OwnLaws.{among-inside, among-to, lower}
--- `state::place` halves what is looked through. The invariant: entries before `low` are below the key, and `high` is the end or where one begins that is not. The measure is the length. Assumes nothing.
+use Rattle.state.proofs.OwnLaws.{among-inside, among-to, lower, belongs-there}
+-- `state::place` looks through fewer cells each turn. The invariant: entries before `low` are below the key, `high` is the end or where one begins that is not, and there were no more tries than cells left out. The measure is the length. Assumes nothing.
 use native.Mathlib.Omega.{arith}
 use Prim.Native.Nat.{_+_, _-_, _<_, _≤_}
 use borrow.Author.Needs.{needs}
@@ -12,16 +12,19 @@ use Rattle.state.proofs.place.Statement.{statement}
 use Rattle.state.proofs.place.Tie as tie
 
 abbrev Inv-loop : tie.InvT-loop
-Inv-loop area base end key low₀ high₀ low high = (base ≤ low) × (low ≤ high) × (high ≤ end) × ((q : ℕ) → base ≤ q → q < low → 65536 ≤ keyOf (getD (cells area) q blank) → keyOf (getD (cells area) q blank) < key) × (high < end → key ≤ keyOf (getD (cells area) high blank))
+Inv-loop area base end key low₀ high₀ guess₀ tried₀ low high guess tried = (base ≤ low) × (low ≤ high) × (high ≤ end) × ((q : ℕ) → base ≤ q → q < low → 65536 ≤ keyOf (getD (cells area) q blank) → keyOf (getD (cells area) q blank) < key) × (high < end → key ≤ keyOf (getD (cells area) high blank)) × (tried + (high - low) ≤ end)
 
 abbrev μ-loop : tie.MeasureT-loop
-μ-loop area base end key low₀ high₀ low high = high - low
+μ-loop area base end key low₀ high₀ guess₀ tried₀ low high guess tried = high - low
 
 loop-holds : tie.Need-loop-holds Inv-loop μ-loop
-loop-holds c = (omega arith, c .before .pre .0 .ordered, omega arith, λ q ge lt. absurd (omega (arith, ge, lt)), λ lt. absurd (omega (arith, lt)))
+loop-holds c = (omega arith, c .before .pre .0 .ordered, omega arith, λ q ge lt. absurd (omega (arith, ge, lt)), λ lt. absurd (omega (arith, lt)), omega (arith, c .before .pre .0 .ordered))
 
 probe-requires : tie.Need-probe-requires Inv-loop μ-loop
-probe-requires c κs = let i = among-inside (c .before .before .before .pre .0) in (c .loop-test .taken, c .before .loop .inv .2, omega (arith, i .0, i .1))
+probe-requires c κs = c .loop-test .taken
+
+add-tried : tie.Need-add-tried Inv-loop μ-loop
+add-tried c = let i = among-inside (c .before .before .before .before .pre .0) in omega (arith, i .0, i .1, c .before .before .loop .inv .5)
 
 entry-below-requires : tie.Need-entry-below-requires Inv-loop μ-loop
 entry-below-requires c κs = (among-to (c .before .before .before .before .pre .0) _ (omega (arith, c .before .before .loop .inv .0, c .probe .ensures .0)) (omega (arith, c .probe .ensures .1, c .before .before .loop .inv .2)), c .before .before .loop .inv .0, c .probe .ensures .0)
@@ -32,23 +35,29 @@ cell-at-requires c κs = let i = among-inside (c .before .before .before .before
 key-of-requires : tie.Need-key-of-requires Inv-loop μ-loop
 key-of-requires c κs = search needs
 
+returns : tie.Need-returns Inv-loop μ-loop
+returns c = belongs-there (c .before .before .before .before .before .before .before .before .pre .0) (c .before .before .before .before .before .before .before .before .pre .1) (omega (arith, c .before .before .before .before .before .before .loop .inv .0, c .before .before .before .entry-below .ensures .low)) (omega (arith, c .before .before .before .entry-below .ensures .high, c .before .before .before .before .probe .ensures .1, c .before .before .before .before .before .before .loop .inv .2)) _ (c .before .before .cell-at .ensures) _ (c .before .key-of .ensures) (c .if1 .taken)
+
 add-low : tie.Need-add-low Inv-loop μ-loop
-add-low c = let i = among-inside (c .before .before .before .before .before .before .before .before .pre .0) in omega (arith, i .0, i .1, c .before .before .before .before .probe .ensures .1, c .before .before .before .before .before .before .loop .inv .2)
+add-low c = let i = among-inside (c .before .before .before .before .before .before .before .before .before .pre .0) in omega (arith, i .0, i .1, c .before .before .before .before .before .probe .ensures .1, c .before .before .before .before .before .before .before .loop .inv .2)
+
+ahead-requires : tie.Need-ahead-requires Inv-loop μ-loop
+ahead-requires c κs = let i = among-inside (c .before .before .before .before .before .before .before .before .before .pre .0) in (omega (arith, i .0, i .1, c .before .before .before .before .entry-below .ensures .high, c .before .before .before .before .before .probe .ensures .1, c .before .before .before .before .before .before .before .loop .inv .2), c .if2 .taken)
 
 loop-less : tie.Need-loop-less Inv-loop μ-loop
-loop-less c = omega (arith, c .before .before .before .before .probe .ensures .0, c .before .before .before .before .probe .ensures .1)
+loop-less c = omega (arith, c .before .before .before .before .before .before .probe .ensures .0, c .before .before .before .before .before .before .probe .ensures .1)
 
 loop-again : tie.Need-loop-again Inv-loop μ-loop
-loop-again c = let k = subst (λ y. keyOf y < c .before .before .before .before .before .before .before .before .args .key) (c .before .before .cell-at .ensures) (omega (arith, c .before .key-of .ensures, c .if1 .taken)) in (omega (arith, c .before .before .before .before .before .before .loop .inv .0, c .before .before .before .before .probe .ensures .0), omega (arith, c .before .before .before .before .probe .ensures .1), c .before .before .before .before .before .before .loop .inv .2, λ q ge lt. lower (c .before .before .before .before .before .before .before .before .pre .0) _ _ _ _ (c .before .before .before .before .before .before .loop .inv .0) (omega (arith, c .before .before .before .before .probe .ensures .1, c .before .before .before .before .before .before .loop .inv .2)) (c .before .before .before .entry-below .ensures) k (c .before .before .before .before .before .before .loop .inv .3) q ge (omega (arith, lt)), c .before .before .before .before .before .before .loop .inv .4)
+loop-again c = let k = subst (λ y. keyOf y < c .before .before .before .before .before .before .before .before .before .before .args .key) (c .before .before .before .before .cell-at .ensures) (omega (arith, c .before .before .before .key-of .ensures, c .before .if2 .taken)) in (omega (arith, c .before .before .before .before .before .before .before .before .loop .inv .0, c .before .before .before .before .before .before .probe .ensures .0), omega (arith, c .before .before .before .before .before .before .probe .ensures .1), c .before .before .before .before .before .before .before .before .loop .inv .2, λ q ge lt. lower (c .before .before .before .before .before .before .before .before .before .before .pre .0) _ _ _ _ (c .before .before .before .before .before .before .before .before .loop .inv .0) (omega (arith, c .before .before .before .before .before .before .probe .ensures .1, c .before .before .before .before .before .before .before .before .loop .inv .2)) (c .before .before .before .before .before .entry-below .ensures) k (c .before .before .before .before .before .before .before .before .loop .inv .3) q ge (omega (arith, lt)), c .before .before .before .before .before .before .before .before .loop .inv .4, omega (arith, c .before .before .before .before .before .before .before .before .loop .inv .5, c .before .before .before .before .before .before .probe .ensures .0, c .before .before .before .before .before .before .probe .ensures .1))
 
 loop-less-2 : tie.Need-loop-less-2 Inv-loop μ-loop
-loop-less-2 c = omega (arith, c .before .before .before .entry-below .ensures .low, c .before .before .before .entry-below .ensures .high, c .before .before .before .before .probe .ensures .1)
+loop-less-2 c = omega (arith, c .before .before .before .before .entry-below .ensures .low, c .before .before .before .before .entry-below .ensures .high, c .before .before .before .before .before .probe .ensures .1)
 
 loop-again-2 : tie.Need-loop-again-2 Inv-loop μ-loop
-loop-again-2 c = let k = subst (λ y. c .before .before .before .before .before .before .before .before .args .key ≤ keyOf y) (c .before .before .cell-at .ensures) (omega (arith, c .before .key-of .ensures, c .if1 .left)) in (c .before .before .before .before .before .before .loop .inv .0, c .before .before .before .entry-below .ensures .low, omega (arith, c .before .before .before .entry-below .ensures .high, c .before .before .before .before .probe .ensures .1, c .before .before .before .before .before .before .loop .inv .2), c .before .before .before .before .before .before .loop .inv .3, λ _. k)
+loop-again-2 c = let k = subst (λ y. c .before .before .before .before .before .before .before .before .before .args .key ≤ keyOf y) (c .before .before .before .cell-at .ensures) (omega (arith, c .before .before .key-of .ensures, c .if2 .left)) in (c .before .before .before .before .before .before .before .loop .inv .0, c .before .before .before .before .entry-below .ensures .low, omega (arith, c .before .before .before .before .entry-below .ensures .high, c .before .before .before .before .before .probe .ensures .1, c .before .before .before .before .before .before .before .loop .inv .2), c .before .before .before .before .before .before .before .loop .inv .3, λ _. k, omega (arith, c .before .before .before .before .before .before .before .loop .inv .5, c .before .before .before .before .entry-below .ensures .low, c .before .before .before .before .entry-below .ensures .high, c .before .before .before .before .before .probe .ensures .1))
 
-returns : tie.Need-returns Inv-loop μ-loop
-returns c = record { low = omega (arith, c .before .loop .inv .0, c .before .loop .inv .1); high = c .before .loop .inv .2; before = λ q ge lt outer. c .before .loop .inv .3 q ge (omega (arith, lt, c .loop-test .left)) outer; after = c .before .loop .inv .4 }
+returns-2 : tie.Need-returns-2 Inv-loop μ-loop
+returns-2 c = record { low = omega (arith, c .before .loop .inv .0, c .before .loop .inv .1); high = c .before .loop .inv .2; before = λ q ge lt outer. c .before .loop .inv .3 q ge (omega (arith, lt, c .loop-test .left)) outer; after = c .before .loop .inv .4 }
 
 pub place-spec : {M : Type 1} → statement M
 place-spec =
@@ -58,12 +67,15 @@ place-spec =
     μ-loop
     loop-holds
     probe-requires
+    add-tried
     entry-below-requires
     cell-at-requires
     key-of-requires
+    returns
     add-low
+    ahead-requires
     loop-less
     loop-again
     loop-less-2
     loop-again-2
-    returns)
+    returns-2)

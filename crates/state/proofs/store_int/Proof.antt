@@ -1,4 +1,6 @@
 -- `state::store_int` stores one cell. Assumes nothing.
+use native.Mathlib.Omega.{arith}
+use Rattle.state.proofs.LeadsLaws.{current-held}
 use Rattle.state.proofs.OwnLaws.{cell-leads}
 use Rattle.state.proofs.StoreLeads.{int-leads}
 use borrow.Author.Needs.{needs}
@@ -6,7 +8,7 @@ use Rattle.state.proofs.store_int.Statement.{statement}
 use Rattle.state.proofs.store_int.Tie as tie
 
 store-cell-requires : tie.Need-store-cell-requires
-store-cell-requires c κs = search needs
+store-cell-requires c κs = (c .before .before .pre .0 .room, current-held (c .before .before .pre .0), omega arith, λ e. omega (arith, e))
 
 same-length : tie.Need-same-length
 same-length c = search needs

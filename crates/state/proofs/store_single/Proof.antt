@@ -1,4 +1,5 @@
 -- `state::store_single` stores one cell. Assumes nothing.
+use Rattle.state.proofs.LeadsLaws.{current-held}
 use Rattle.state.proofs.OwnLaws.{cell-leads}
 use Rattle.state.proofs.StoreLeads.{single-leads}
 use mathlib.Core.Path.{ap}
@@ -13,7 +14,7 @@ single-requires : tie.Need-single-requires
 single-requires c κs = search needs
 
 store-cell-requires : tie.Need-store-cell-requires
-store-cell-requires c κs = (c .before .before .before .pre .0, omega arith, omega (arith, ap (λ x. tagOf x) (c .single .ensures), code-small (c .before .before .before .args .d)))
+store-cell-requires c κs = (c .before .before .before .pre .0 .room, current-held (c .before .before .before .pre .0), omega arith, omega (arith, ap (λ x. tagOf x) (c .single .ensures), code-small (c .before .before .before .args .d)))
 
 same-length : tie.Need-same-length
 same-length c = search needs
