@@ -1,12 +1,12 @@
 -- A run that is stored from the room behind the map is the definition's store of its value; a register that is copied or moved, one or many of
 -- them, where absent ones are passed over; and the definition's arms in the words of a judged row. Assumes nothing.
-use mathlib.Core.Path.{_≡_, refl, sym, ap, subst, _∙_}
+use mathlib.Core.Path.{_≡_, refl, sym, ap, ap₂, subst, _∙_}
 use mathlib.Core.Bool.{Bool, true, false}
 use mathlib.Core.Option.{Option, none, some}
-use mathlib.Core.List.{List}
+use mathlib.Core.List.{List, [], _∷_}
 use Prim.Native.Nat.{ℕ, zero, suc, _+_, _-_, _<_, _≤_}
 use native.Mathlib.Omega.{arith}
-use lib.ListN.{length}
+use lib.ListN.{length, getD}
 use lib.IntN.{ℤ, sucℤ}
 use Rattle.model.specs.Walk.{Tried, refused, done}
 use Rattle.model.specs.Row.{Row as Listed}
@@ -18,20 +18,23 @@ use Rattle.model.specs.Meaning.{Meaning}
 use Rattle.model.specs.Operation.{opCopyOne, opCopy, opMove}
 use Rattle.model.specs.RegisterArms.{copyTo, copyMany, moveSome, moveMany, registerArm}
 use Rattle.area.specs.Moves.{moved}
+use Rattle.area.specs.Cells.{blank}
 use Rattle.area.specs.declared.Cell.{Cell}
-use Rattle.intmap.specs.Pack.{classKey}
+use Rattle.intmap.specs.Pack.{tagOf, classKey}
 use Rattle.intmap.specs.Runs.{size, Agree}
 use Rattle.intmap.specs.Depth.{nesting}
 use Rattle.intmap.specs.Entries.{span}
 use Rattle.intmap.specs.Map.{levels, runsAt, Frame, HasRoom}
 use Rattle.intmap.specs.Signed.{intOf}
-use Rattle.intmap.specs.Store.{storedOf, Stores}
+use Rattle.intmap.specs.Store.{storedOf, storeRuns, Stores}
 use Rattle.intmap.specs.Get.{Gets}
 use Rattle.intmap.specs.declared.IntMap.{IntMap}
 use Rattle.intmap.specs.declared.Slot.{Slot}
 use Rattle.intmap.specs.declared.Slot.the-variants as slot
 use Rattle.intmap.specs.declared.Stored.{Stored}
 use Rattle.intmap.specs.declared.Stored.the-variants as stored
+use Rattle.intmap.proofs.DepthLaws.{nesting-single}
+use Rattle.intmap.proofs.RunLaws.{size-pos, size-single}
 use Rattle.intmap.proofs.EntryLaws.{span-same, length-span}
 use Rattle.intmap.proofs.SameCells.{copied, size-same}
 use Rattle.intmap.proofs.MapLaws.{copied-frame, copied-agree, placed-room}
@@ -47,6 +50,7 @@ use Rattle.rows.specs.Judged.{Judged}
 use Rattle.rows.specs.declared.Row.{Row}
 use Rattle.state.specs.Leads.{Current, HoldsMap, Tells, Leaves, Leads}
 use Rattle.state.specs.Arms.{Standard}
+use Rattle.state.specs.Own.{StoresCell}
 use Rattle.state.specs.Reads.{Reads}
 use Rattle.state.specs.declared.Register.the-variants as register
 use Rattle.state.proofs.ReadLaws.{read-bad, read-absent}
@@ -103,6 +107,25 @@ module _ (limit : ℕ) (cs es : List Cell) (a : IntMap) (at n : ℕ) (current : 
               frame-then cs es ds (a .base) (limit + limit) (frame-within cs es (a .base + limit) n (a .base) (limit + limit) (omega arith) (omega (arith, current .room .most)) frame)
               (frame-within es ds (a .base) limit (a .base) (limit + limit) (omega arith) (omega arith) (st .frame));
         }
+
+-- ---- a cell alone
+
+pub alone-inside : {limit : ℕ} {cs : List Cell} {a : IntMap} {at : ℕ} → Current limit cs a → at + size cs levels at ≤ a .base + a .used → at < length cs
+alone-inside {cs = cs} {at = at} current fits = omega (arith, fits, size-pos cs levels at, current .room .most, current .room .room)
+
+pub stores-alone : (limit : ℕ) (cs ds : List Cell) (a : IntMap) (at j : ℕ) (c : Cell) (r : Stored) → c ≡ getD cs at blank → (tagOf c ≡ 2 → ⊥) → StoresCell limit cs ds a 0 j c r → StoresFrom limit cs ds a at j r
+unfolding span
+stores-alone limit cs ds a at j c r ce plain st =
+    let run : c ∷ [] ≡ span cs at (size cs levels at) = ap (λ (y : Cell). y ∷ []) ce ∙ ap (span cs at) (size-single cs levels at c ce plain) in
+    record {
+      says = λ bound m key v h good small is.
+          (let stands = ap (span cs at) (ap length (sym is) ∙ length-span cs at (size cs levels at)) ∙ is in
+          let carried = held-register-from h at key (intOf j) v stands (omega (arith, good .depth)) (λ _. good .sorted) small in
+          tells limit bound ds r (storeRegister limit (intOf j) v m)
+          (subst (λ u. Carried limit bound u (storeRegister limit (intOf j) v m)) (sym (st .says bound m h .answer ∙ ap₂ (λ d l. storeRuns limit 0 (intOf j) d l (runsAt cs a)) (nesting-single cs levels at c ce plain) run)) carried) a (st .leaves));
+      leaves = st .leaves;
+      frame = frame-within cs ds (a .base) limit (a .base) (limit + limit) (omega arith) (omega arith) (st .frame);
+    }
 
 -- ---- a register that is read first
 

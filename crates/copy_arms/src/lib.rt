@@ -22,11 +22,16 @@ use intmap::Stored;
 use rows::Row;
 use type_info::DataType;
 
-// Stores the entry at `at` of the map in register j too. A store may move that entry, so its run goes to the room behind the map first.
+// Stores the entry at `at` of the map in register j too. A cell alone is stored as it is. A store may move a longer run, so that goes to the room
+// behind the map first.
 fn store_from(map: IntMap, area: &mut [u8], at: usize, j: u64, limit: usize) -> Stored
     requires { ⌜ Current limit (cells (now area)) map × (map .base ≤ at) × (at + size (cells (now area)) levels at ≤ map .base + map .used) ⌝ }
     ensures { λ r. ⌜ StoresFrom limit (cells (now (area .entry))) (cells (now (area .exit))) map at j r ⌝ }
 {
+    let c = area::cell_at(area, at);
+    if intmap::tag_of(c) != intmap::RECORD {
+        return state::store_cell(map, area, state::REGISTERS, j, c, limit);
+    }
     let to = map.base + limit;
     let n = intmap::count(area, at, intmap::LEVELS);
     area::move_cells(area, at, to, n);

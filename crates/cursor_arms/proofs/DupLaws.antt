@@ -14,12 +14,14 @@ use Rattle.area.specs.Cells.{cell}
 use Rattle.area.specs.declared.Cell.{Cell}
 use Rattle.intmap.specs.Map.{Frame}
 use Rattle.intmap.specs.Signed.{intOf}
-use Rattle.intmap.specs.Store.{Stores}
+
 use Rattle.intmap.specs.declared.IntMap.{IntMap}
 use Rattle.intmap.specs.declared.Stored.{Stored}
 use Rattle.intmap.specs.declared.Stored.the-variants as stored
 use Rattle.rows.specs.Judged.{Judged}
 use Rattle.rows.specs.declared.Row.{Row}
+use Rattle.state.specs.Own.{StoresCell}
+use Rattle.state.proofs.OwnLaws.{cell-leads}
 use Rattle.state.specs.Leads.{Current}
 use Rattle.state.specs.Arms.{Standard, CursorArm}
 use Rattle.cursor_arms.specs.Cursors.{ReadsCursor}
@@ -69,22 +71,22 @@ module _ (limit : ℕ) (cs : List Cell) (a : IntMap) (x : Row) (p : CursorDataTy
       }
 
   module _ (ds : List Cell) (r : Stored) where
-    pub dup-normal : (k : ℕ) → p ≡ cursor.Normal k → Stores cs ds limit a 1 (x .p1) 0 (cell 4 k ∷ []) r → (row : ℕ) → CursorArm limit cs ds a row x opOpenDup r
+    pub dup-normal : (k : ℕ) → p ≡ cursor.Normal k → StoresCell limit cs ds a 1 (x .p1) (cell 4 k) r → (row : ℕ) → CursorArm limit cs ds a row x opOpenDup r
     dup-normal k e st row =
         record {
           leads = λ meaning l standard j.
-              cursor-leads limit cs ds a (x .p1) (Normal k) (cell 4 k ∷ []) (normal-run k) (λ m. cursorArm meaning row l m opOpenDup)
+              cell-leads st (cursor-leads limit cs ds a (x .p1) (Normal k) (cell 4 k ∷ []) (normal-run k) (λ m. cursorArm meaning row l m opOpenDup)
               (λ bound m le h.
               (let s = subst (ReadsCursor cs a (x .p2)) e reads .says limit bound m h in
-              record { good = s .index; small = tt; same = dup-is limit row x meaning l standard j m (done (some (Normal k))) (s .answer) })) r st;
+              record { good = s .index; small = tt; same = dup-is limit row x meaning l standard j m (done (some (Normal k))) (s .answer) })) r);
         }
 
-    pub dup-pseudo : (w : ℕ) → p ≡ cursor.Pseudo w → Stores cs ds limit a 1 (x .p1) 0 (cell 5 w ∷ []) r → (row : ℕ) → CursorArm limit cs ds a row x opOpenDup r
+    pub dup-pseudo : (w : ℕ) → p ≡ cursor.Pseudo w → StoresCell limit cs ds a 1 (x .p1) (cell 5 w) r → (row : ℕ) → CursorArm limit cs ds a row x opOpenDup r
     dup-pseudo w e st row =
         record {
           leads = λ meaning l standard j.
-              cursor-leads limit cs ds a (x .p1) (Pseudo (intOf w)) (cell 5 w ∷ []) (pseudo-run w) (λ m. cursorArm meaning row l m opOpenDup)
+              cell-leads st (cursor-leads limit cs ds a (x .p1) (Pseudo (intOf w)) (cell 5 w ∷ []) (pseudo-run w) (λ m. cursorArm meaning row l m opOpenDup)
               (λ bound m le h.
               (let s = subst (ReadsCursor cs a (x .p2)) e reads .says limit bound m h in
-              record { good = tt; small = s .small; same = dup-is limit row x meaning l standard j m (done (some (Pseudo (intOf w)))) (s .answer) })) r st;
+              record { good = tt; small = s .small; same = dup-is limit row x meaning l standard j m (done (some (Pseudo (intOf w)))) (s .answer) })) r);
         }

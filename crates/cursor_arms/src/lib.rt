@@ -49,7 +49,8 @@ pub fn store_pseudo(map: IntMap, area: &mut [u8], i: u64, register: u64, limit: 
     requires { ⌜ Current limit (cells (now area)) map × Operand register ⌝ }
     ensures { λ r. ⌜ Leads limit (cells (now (area .entry))) (cells (now (area .exit))) map r (storeCursor limit (intOf i) (Pseudo (intOf register))) ⌝ }
 {
-    map.store_cell(
+    state::store_cell(
+        map,
         area,
         CURSORS,
         i,
@@ -66,7 +67,8 @@ pub fn store_normal(map: IntMap, area: &mut [u8], i: u64, row: u64, limit: usize
     requires { ⌜ Current limit (cells (now area)) map × (row ≤ 65535) ⌝ }
     ensures { λ r. ⌜ Leads limit (cells (now (area .entry))) (cells (now (area .exit))) map r (storeCursor limit (intOf i) (Normal row)) ⌝ }
 {
-    map.store_cell(
+    state::store_cell(
+        map,
         area,
         CURSORS,
         i,
@@ -239,11 +241,11 @@ pub fn open_dup(map: IntMap, area: &mut [u8], x: Row, limit: usize) -> Stored
         CursorDataType::Absent => Stored::Done(map),
         CursorDataType::Normal(payload) => {
             let head = intmap::NORMAL;
-            map.store_cell(area, CURSORS, x.p1, Cell { head, payload }, limit)
+            state::store_cell(map, area, CURSORS, x.p1, Cell { head, payload }, limit)
         }
         CursorDataType::Pseudo(payload) => {
             let head = intmap::PSEUDO;
-            map.store_cell(area, CURSORS, x.p1, Cell { head, payload }, limit)
+            state::store_cell(map, area, CURSORS, x.p1, Cell { head, payload }, limit)
         }
     }
 }

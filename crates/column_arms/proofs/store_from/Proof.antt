@@ -1,4 +1,5 @@
 use Rattle.column_arms.proofs.RunLaws.{behind-inside, run-room, run-above, stores-run, stores-alone}
+use Rattle.state.proofs.LeadsLaws.{current-held}
 use mathlib.Core.Path.{_∙_}
 -- `column_arms::store_from` stores a cell alone, or moves the run behind the map, writes its head, and stores it. Assumes nothing.
 use native.Mathlib.Omega.{arith}
@@ -10,7 +11,7 @@ tag-of-requires : tie.Need-tag-of-requires
 tag-of-requires c κs = search needs
 
 store-cell-requires : tie.Need-store-cell-requires
-store-cell-requires c κs = (c .before .before .before .before .pre .0, omega arith, λ e. c .before .if1 .taken (c .before .before .tag-of .ensures ∙ e))
+store-cell-requires c κs = (c .before .before .before .before .pre .0 .room, current-held (c .before .before .before .before .pre .0), omega arith, λ e. c .before .if1 .taken (c .before .before .tag-of .ensures ∙ e))
 
 same-length : tie.Need-same-length
 same-length c = search needs

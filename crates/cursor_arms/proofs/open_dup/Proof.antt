@@ -1,3 +1,4 @@
+use native.Mathlib.Omega.{arith}
 -- `cursor_arms::open_dup` reads a cursor, and stores it if there is one. Assumes nothing.
 use Rattle.cursor_arms.proofs.DupLaws.{dup-bad, dup-absent, dup-normal, dup-pseudo}
 use Rattle.state.proofs.LeadsLaws.{current-held}
@@ -18,13 +19,13 @@ enum-known-p-2 : tie.Need-enum-known-p-2
 enum-known-p-2 c = search needs
 
 store-cell-requires : tie.Need-store-cell-requires
-store-cell-requires c κs = search needs
+store-cell-requires c κs = (c .before .before .before .before .before .before .before .pre .0 .room, current-held (c .before .before .before .before .before .before .before .pre .0), omega arith, λ e. omega (arith, e))
 
 enum-known-p-3 : tie.Need-enum-known-p-3
 enum-known-p-3 c = search needs
 
 store-cell-requires-2 : tie.Need-store-cell-requires-2
-store-cell-requires-2 c κs = search needs
+store-cell-requires-2 c κs = (c .before .before .before .before .before .before .before .pre .0 .room, current-held (c .before .before .before .before .before .before .before .pre .0), omega arith, λ e. omega (arith, e))
 
 same-length : tie.Need-same-length
 same-length c = search needs
