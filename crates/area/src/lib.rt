@@ -14,20 +14,18 @@ pub struct Cell {
     pub payload: u64,
 }
 
-// The word of eight bytes, least first. In this form the eight loads become one.
+// The number of four bytes, least first.
+fn half_of(a: u8, b: u8, c: u8, d: u8) -> u64
+    ensures { λ r. ⌜ r ≡ number (a ∷ b ∷ c ∷ d ∷ []) ⌝ }
+{
+    a as u64 + 256 * (b as u64 + 256 * (c as u64 + 256 * (d as u64)))
+}
+
+// The word of eight bytes, least first. In this form the eight loads become one, or one of four bytes where a half is asked for.
 fn word_of(a: u8, b: u8, c: u8, d: u8, e: u8, f: u8, g: u8, h: u8) -> u64
     ensures { λ r. ⌜ r ≡ number (a ∷ b ∷ c ∷ d ∷ e ∷ f ∷ g ∷ h ∷ []) ⌝ }
 {
-    a as u64
-        + 256
-            * (b as u64
-                + 256
-                    * (c as u64
-                        + 256
-                            * (d as u64
-                                + 256
-                                    * (e as u64
-                                        + 256 * (f as u64 + 256 * (g as u64 + 256 * (h as u64)))))))
+    half_of(a, b, c, d) + 4294967296 * half_of(e, f, g, h)
 }
 
 // The word of the eight bytes from p on.
