@@ -155,6 +155,52 @@ fn texts() -> Vec<Case> {
     ]
 }
 
+/// One operation, 1,400 times behind 64 ways, on a few registers: what handling a row costs.
+pub fn each_operation() -> Vec<Case> {
+    let before: [Row; 7] = [
+        ("Integer", 1, 1, 0),
+        ("Null", 0, 2, 7),
+        ("MakeRecord", 2, 3, 9),
+        ("OpenEphemeral", 0, 5, 0),
+        ("OpenPseudo", 1, 9, 3),
+        ("Variable", 1, 8, 0),
+        ("String8", 0, 3, 0),
+    ];
+    let rows: [(&str, fn(i64) -> Row); 30] = [
+        ("Noop", |_| ("Noop", 0, 0, 0)),
+        ("Goto", |i| ("Goto", 0, i + 20, 0)),
+        ("Gosub", |i| ("Gosub", 10, i + 20, 0)),
+        ("InitCoroutine", |i| ("InitCoroutine", 11, i + 20, 30)),
+        ("IfPos", |i| ("IfPos", 1, i + 20, 0)),
+        ("SCopy", |i| ("SCopy", i % 7 + 1, i % 5 + 2, 0)),
+        ("SCopy of a record", |_| ("SCopy", 9, 12, 0)),
+        ("Copy of one", |i| ("Copy", i % 7 + 1, i % 5 + 2, 0)),
+        ("Copy of three", |_| ("Copy", 1, 4, 2)),
+        ("Move", |i| ("Move", i % 7 + 1, i % 5 + 2, 1)),
+        ("Integer", |i| ("Integer", i, i % 7 + 1, 0)),
+        ("Null", |i| ("Null", 0, i % 7 + 1, 0)),
+        ("Null of four", |_| ("Null", 0, 3, 6)),
+        ("Add", |i| ("Add", i % 7 + 1, i % 5 + 1, i % 6 + 1)),
+        ("String8", |i| ("String8", 0, i % 7 + 1, 0)),
+        ("Variable", |i| ("Variable", i, i % 7 + 1, 0)),
+        ("HaltIfNull", |i| ("HaltIfNull", 0, 0, i % 7 + 1)),
+        ("AggStep", |i| ("AggStep", 0, 1, i % 7 + 1)),
+        ("AggFinal", |i| ("AggFinal", i % 7 + 1, 0, 0)),
+        ("MakeRecord", |_| ("MakeRecord", 3, 2, 9)),
+        ("Column", |i| ("Column", 0, i % 5, i % 7 + 1)),
+        ("Column of a record", |i| ("Column", 1, i % 3, i % 7 + 1)),
+        ("RowData", |_| ("RowData", 0, 9, 0)),
+        ("Rowid", |i| ("Rowid", 0, i % 7 + 1, 0)),
+        ("Count", |i| ("Count", 0, i % 7 + 1, 0)),
+        ("Insert", |_| ("Insert", 0, 9, 0)),
+        ("Delete", |_| ("Delete", 0, 0, 0)),
+        ("OpenPseudo", |_| ("OpenPseudo", 1, 9, 3)),
+        ("OpenDup", |_| ("OpenDup", 2, 0, 0)),
+        ("NullRow", |_| ("NullRow", 0, 0, 0)),
+    ];
+    rows.into_iter().map(|(name, row)| case(name, behind(6, &before, row, 1_400))).collect()
+}
+
 pub fn all() -> Vec<Case> {
     [states(), wide(), rows(), costly_rows(), texts()].into_iter().flatten().collect()
 }

@@ -61,8 +61,10 @@ fn main() {
     }
     if wanted("dearest") {
         println!("\n## The dearest listings known");
-        let cases: Vec<case::Case> = dearest::all().into_iter().filter(|c| c.name.contains(&options.named)).collect();
-        tables::each(&mut bench, "Made to be slow", "listing", &cases);
+        let named = |all: Vec<case::Case>| -> Vec<case::Case> { all.into_iter().filter(|c| c.name.contains(&options.named)).collect() };
+        tables::each(&mut bench, "Made to be slow", "listing", &named(dearest::all()));
+        let title = "One operation, 1,400 times behind 64 ways, on a few registers";
+        tables::each(&mut bench, title, "operation", &named(dearest::each_operation()));
     }
     if wanted("growth") {
         growth_tables(&mut bench);

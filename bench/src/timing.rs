@@ -12,6 +12,8 @@ const LEAST: usize = 24_576;
 const ANSWER: usize = 131_072;
 const LEAST_RUNS: usize = 3;
 const MOST_RUNS: usize = 40;
+/// How often the sides take turns.
+const ROUNDS: usize = 3;
 /// Of a run slower than this, in seconds, the first is taken.
 const SLOW: f64 = 2.0;
 /// Brief runs are timed several at once, so that asking for the time adds little.
@@ -24,6 +26,21 @@ pub struct Times {
     pub grown: f64,
     pub walk: f64,
     pub reading: f64,
+}
+
+impl Times {
+    fn least(self, other: Times) -> Times {
+        let mut port = self.port;
+        for (mine, its) in port.iter_mut().zip(other.port) {
+            *mine = mine.zip(its).map(|(a, b)| a.min(b));
+        }
+        Times {
+            port,
+            grown: self.grown.min(other.grown),
+            walk: self.walk.min(other.walk),
+            reading: self.reading.min(other.reading),
+        }
+    }
 }
 
 pub struct Bench {
@@ -102,8 +119,14 @@ impl Bench {
         time + if columns.is_some() { 0.0 } else { three }
     }
 
-    /// Nothing where the port refuses the case at every area. Two sides that disagree are not timed.
+    /// Nothing where the port refuses the case at every area. The two sides take turns, since a shared machine is slow for seconds at a time.
     pub fn times(&mut self, case: &Case) -> Option<Times> {
+        let first = self.round(case)?;
+        Some((1..ROUNDS).filter_map(|_| self.round(case)).fold(first, Times::least))
+    }
+
+    /// Both sides once. Two sides that disagree are not timed.
+    fn round(&mut self, case: &Case) -> Option<Times> {
         let port = AREAS.map(|area| self.port(case, area));
         let first = port.iter().position(|p| p.1.is_some())?;
         let grown = self.in_turn(case, port[..=first].iter().map(|p| p.0).sum());

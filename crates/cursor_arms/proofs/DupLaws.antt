@@ -14,7 +14,6 @@ use Rattle.area.specs.Cells.{cell}
 use Rattle.area.specs.declared.Cell.{Cell}
 use Rattle.intmap.specs.Map.{Frame}
 use Rattle.intmap.specs.Signed.{intOf}
-
 use Rattle.intmap.specs.declared.IntMap.{IntMap}
 use Rattle.intmap.specs.declared.Stored.{Stored}
 use Rattle.intmap.specs.declared.Stored.the-variants as stored

@@ -309,9 +309,6 @@ module _ {cs : List Cell} {a : IntMap} {class i p : ℕ} (own : Own cs a class i
   abbrev key : ℕ
   key = classKey class (own .place)
 
-  pub own-within : p < a .base + a .used
-  own-within = own .has .inside
-
   module _ {limit bound : ℕ} {m : MemoryState} (h : HoldsMap limit bound cs a m) where
     found : (seek cs levels key (a .len) (a .base) .at ≡ p) × (seek cs levels key (a .len) (a .base) .present ≡ true)
     found =

@@ -1,9 +1,9 @@
-use Rattle.column_arms.proofs.RunLaws.{behind-inside, run-room, run-above, stores-run, stores-alone}
-use Rattle.state.proofs.LeadsLaws.{current-held}
-use mathlib.Core.Path.{_∙_}
 -- `column_arms::store_from` stores a cell alone, or moves the run behind the map, writes its head, and stores it. Assumes nothing.
+use mathlib.Core.Path.{_∙_}
 use native.Mathlib.Omega.{arith}
 use borrow.Author.Needs.{needs}
+use Rattle.column_arms.proofs.RunLaws.{behind-inside, run-room, run-above, stores-run, stores-alone}
+use Rattle.state.proofs.LeadsLaws.{current-held}
 use Rattle.column_arms.proofs.store_from.Statement.{statement}
 use Rattle.column_arms.proofs.store_from.Tie as tie
 

@@ -1,6 +1,6 @@
+-- `column_arms::store_over` asks for the tag first. Assumes nothing.
 use mathlib.Core.Path.{refl, sym, _∙_}
 use mathlib.Core.Bool.{true≢false}
--- `column_arms::store_over` asks for the tag first. Assumes nothing.
 use native.Mathlib.Omega.{arith}
 use borrow.Author.Needs.{needs}
 use Rattle.column_arms.proofs.store_over.Statement.{statement}

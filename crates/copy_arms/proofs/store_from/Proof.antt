@@ -1,9 +1,9 @@
-use mathlib.Core.Path.{refl, _∙_}
-use Rattle.state.proofs.LeadsLaws.{current-held}
-use Rattle.copy_arms.proofs.CopyLaws.{behind-room, behind-fits, stores-from, alone-inside, stores-alone}
 -- `copy_arms::store_from` stores a cell alone, or moves the run behind the map and stores it from there. Assumes nothing.
+use mathlib.Core.Path.{refl, _∙_}
 use native.Mathlib.Omega.{arith}
 use borrow.Author.Needs.{needs}
+use Rattle.state.proofs.LeadsLaws.{current-held}
+use Rattle.copy_arms.proofs.CopyLaws.{behind-room, behind-fits, stores-from, alone-inside, stores-alone}
 use Rattle.copy_arms.proofs.store_from.Statement.{statement}
 use Rattle.copy_arms.proofs.store_from.Tie as tie
 

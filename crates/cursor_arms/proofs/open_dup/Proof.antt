@@ -1,8 +1,8 @@
-use native.Mathlib.Omega.{arith}
 -- `cursor_arms::open_dup` reads a cursor, and stores it if there is one. Assumes nothing.
+use native.Mathlib.Omega.{arith}
+use borrow.Author.Needs.{needs}
 use Rattle.cursor_arms.proofs.DupLaws.{dup-bad, dup-absent, dup-normal, dup-pseudo}
 use Rattle.state.proofs.LeadsLaws.{current-held}
-use borrow.Author.Needs.{needs}
 use Rattle.cursor_arms.proofs.open_dup.Statement.{statement}
 use Rattle.cursor_arms.proofs.open_dup.Tie as tie
 

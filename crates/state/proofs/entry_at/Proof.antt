@@ -1,8 +1,8 @@
-use mathlib.Core.Path.{refl}
-use Rattle.state.proofs.OwnLaws.{held-among, located-key, located-nowhere, entry-none, entry-hinted}
 -- `state::entry_at` takes what was located. Assumes nothing.
+use mathlib.Core.Path.{refl}
 use native.Mathlib.Omega.{arith}
 use borrow.Author.Needs.{needs}
+use Rattle.state.proofs.OwnLaws.{held-among, located-key, located-nowhere, entry-none, entry-hinted}
 use Rattle.state.proofs.entry_at.Statement.{statement}
 use Rattle.state.proofs.entry_at.Tie as tie
 

@@ -1,9 +1,10 @@
+-- `state::entry_below` tests the cell, the head that it tells, or goes down a cell a turn. The invariant: from p on none begins. The measure is how
+-- far it can go. Assumes nothing.
+use Prim.Native.Nat.{_-_, _≤_}
+use native.Mathlib.Omega.{arith}
+use borrow.Author.Needs.{needs}
 use Rattle.area.specs.Cells.{cells}
 use Rattle.state.proofs.OwnLaws.{among-inside, NoneFrom, none-there, below-there, below-at, below-none, below-last, reached-to}
--- `state::entry_below` tests the cell, the head that it tells, or goes down a cell a turn. The invariant: from p on none begins. The measure is how far it can go. Assumes nothing.
-use native.Mathlib.Omega.{arith}
-use Prim.Native.Nat.{_+_, _-_, _<_, _≤_}
-use borrow.Author.Needs.{needs}
 use Rattle.state.proofs.entry_below.Statement.{statement}
 use Rattle.state.proofs.entry_below.Tie as tie
 

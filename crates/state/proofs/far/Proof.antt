@@ -1,8 +1,7 @@
-use mathlib.Core.Path.{sym, _∙_}
-use Rattle.state.proofs.OwnLaws.{among-inside, located-here, located-new}
 -- `state::far` tests the cell where the key belongs. Assumes nothing.
+use mathlib.Core.Path.{sym, _∙_}
 use native.Mathlib.Omega.{arith}
-use borrow.Author.Needs.{needs}
+use Rattle.state.proofs.OwnLaws.{among-inside, located-here, located-new}
 use Rattle.state.proofs.far.Statement.{statement}
 use Rattle.state.proofs.far.Tie as tie
 

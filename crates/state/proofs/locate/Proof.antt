@@ -1,7 +1,5 @@
-use Rattle.state.proofs.OwnLaws.{guess-locates}
 -- `state::locate` takes what is found with few tests, or searches. Assumes nothing.
-use native.Mathlib.Omega.{arith}
-use borrow.Author.Needs.{needs}
+use Rattle.state.proofs.OwnLaws.{guess-locates}
 use Rattle.state.proofs.locate.Statement.{statement}
 use Rattle.state.proofs.locate.Tie as tie
 

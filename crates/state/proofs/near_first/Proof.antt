@@ -1,8 +1,8 @@
-use mathlib.Core.Path.{sym, _∙_}
-use Rattle.state.proofs.OwnLaws.{among-inside, guessed, guessed-end}
 -- `state::near_first` tests the cell at the distance. Assumes nothing.
+use mathlib.Core.Path.{sym, _∙_}
 use native.Mathlib.Omega.{arith}
 use borrow.Author.Needs.{needs}
+use Rattle.state.proofs.OwnLaws.{among-inside, guessed, guessed-end}
 use Rattle.state.proofs.near_first.Statement.{statement}
 use Rattle.state.proofs.near_first.Tie as tie
 

@@ -1,9 +1,9 @@
-use mathlib.Core.Path.{sym, _∙_}
-use Rattle.state.proofs.OwnLaws.{among-inside, guessed, guessed-end}
 -- `state::near_last` passes an entry a turn. The measure is how many are left. Assumes nothing.
+use mathlib.Core.Path.{sym, _∙_}
+use Prim.Native.Nat.{_≤_}
 use native.Mathlib.Omega.{arith}
-use Prim.Native.Nat.{_+_, _-_, _<_, _≤_}
 use borrow.Author.Needs.{needs}
+use Rattle.state.proofs.OwnLaws.{among-inside, guessed, guessed-end}
 use Rattle.state.proofs.near_last.Statement.{statement}
 use Rattle.state.proofs.near_last.Tie as tie
 

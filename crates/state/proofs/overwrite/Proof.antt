@@ -1,10 +1,10 @@
+-- `state::overwrite` tests the cell where it stands. Assumes nothing.
 use mathlib.Core.Path.{sym, subst, _∙_}
+use native.Mathlib.Omega.{arith}
 use borrow.Author.Tests.{not-true, not-false}
+use borrow.Author.Needs.{needs}
 use Rattle.intmap.specs.Get.{Within}
 use Rattle.state.proofs.OwnLaws.{bad-own, other-own, has-key, overwrites-bad, overwrites-at}
--- `state::overwrite` tests the cell where it stands. Assumes nothing.
-use native.Mathlib.Omega.{arith}
-use borrow.Author.Needs.{needs}
 use Rattle.state.proofs.overwrite.Statement.{statement}
 use Rattle.state.proofs.overwrite.Tie as tie
 

@@ -1,9 +1,9 @@
-use mathlib.Core.Path.{subst}
-use Rattle.intmap.specs.Get.{Within}
-use Rattle.state.proofs.OwnLaws.{held-among, located-key, located-nowhere, bad-own, new-own, overwrites-none, overwrites-own}
 -- `state::overwrite_own` judges the index, and tests the cell that was located. Assumes nothing.
+use mathlib.Core.Path.{subst}
 use native.Mathlib.Omega.{arith}
 use borrow.Author.Needs.{needs}
+use Rattle.intmap.specs.Get.{Within}
+use Rattle.state.proofs.OwnLaws.{held-among, located-key, located-nowhere, bad-own, new-own, overwrites-none, overwrites-own}
 use Rattle.state.proofs.overwrite_own.Statement.{statement}
 use Rattle.state.proofs.overwrite_own.Tie as tie
 

@@ -1,13 +1,13 @@
-use mathlib.Core.Path.{sym, ap, subst}
-use Prim.Native.Nat.{ℕ}
+-- `state::place` looks through fewer cells each turn. The invariant: entries before `low` are below the key, `high` is the end or where one begins
+-- that is not, and there were no more tries than cells left out. The measure is the length. Assumes nothing.
+use mathlib.Core.Path.{subst}
+use Prim.Native.Nat.{ℕ, _+_, _-_, _<_, _≤_}
+use native.Mathlib.Omega.{arith}
 use lib.ListN.{getD}
+use borrow.Author.Needs.{needs}
 use Rattle.area.specs.Cells.{blank, cells}
 use Rattle.intmap.specs.Pack.{keyOf}
 use Rattle.state.proofs.OwnLaws.{among-inside, among-to, lower, belongs-there}
--- `state::place` looks through fewer cells each turn. The invariant: entries before `low` are below the key, `high` is the end or where one begins that is not, and there were no more tries than cells left out. The measure is the length. Assumes nothing.
-use native.Mathlib.Omega.{arith}
-use Prim.Native.Nat.{_+_, _-_, _<_, _≤_}
-use borrow.Author.Needs.{needs}
 use Rattle.state.proofs.place.Statement.{statement}
 use Rattle.state.proofs.place.Tie as tie
 

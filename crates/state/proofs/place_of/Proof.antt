@@ -1,7 +1,7 @@
-use Rattle.state.proofs.OwnLaws.{held-among, belongs-last, key-as}
 -- `state::place_of` takes the end, where the key belongs there, or searches the map. Assumes nothing.
 use native.Mathlib.Omega.{arith}
 use borrow.Author.Needs.{needs}
+use Rattle.state.proofs.OwnLaws.{held-among, belongs-last, key-as}
 use Rattle.state.proofs.place_of.Statement.{statement}
 use Rattle.state.proofs.place_of.Tie as tie
 

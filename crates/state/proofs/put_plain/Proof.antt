@@ -1,7 +1,6 @@
-use Rattle.state.proofs.OwnLaws.{puts-not, puts-it}
 -- `state::put_plain` tests the cell, then writes. Assumes nothing.
-use native.Mathlib.Omega.{arith}
 use borrow.Author.Needs.{needs}
+use Rattle.state.proofs.OwnLaws.{puts-not, puts-it}
 use Rattle.state.proofs.put_plain.Statement.{statement}
 use Rattle.state.proofs.put_plain.Tie as tie
 

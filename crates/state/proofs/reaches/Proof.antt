@@ -1,8 +1,7 @@
+-- `state::reaches` tests the head, then its size. Assumes nothing.
 use mathlib.Core.Path.{sym, _∙_}
 use mathlib.Core.Bool.{true≢false}
 use borrow.Author.Tests.{leb-true, ltb-true}
--- `state::reaches` tests the head, then its size. Assumes nothing.
-use native.Mathlib.Omega.{arith}
 use borrow.Author.Needs.{needs}
 use Rattle.state.proofs.reaches.Statement.{statement}
 use Rattle.state.proofs.reaches.Tie as tie

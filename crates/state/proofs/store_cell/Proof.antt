@@ -1,12 +1,12 @@
+-- `state::store_cell` writes over the own cell, puts a new one, or stores by the map. Assumes nothing.
 use mathlib.Core.Path.{ap, subst}
 use mathlib.Core.List.{[], _∷_}
+use native.Mathlib.Omega.{arith}
+use borrow.Author.Needs.{needs}
 use Rattle.area.specs.declared.Cell.{Cell}
 use Rattle.intmap.specs.Get.{Within}
 use Rattle.intmap.proofs.JudgedLaws.{store-tried}
 use Rattle.state.proofs.OwnLaws.{held-among, located-key, located-nowhere, put-stored, keyed-new, map-stored, still-room, stored-then}
--- `state::store_cell` writes over the own cell, puts a new one, or stores by the map. Assumes nothing.
-use native.Mathlib.Omega.{arith}
-use borrow.Author.Needs.{needs}
 use Rattle.state.proofs.store_cell.Statement.{statement}
 use Rattle.state.proofs.store_cell.Tie as tie
 
