@@ -39,7 +39,7 @@ use Rattle.intmap.proofs.Overwritten.{alike, alike-room, overwritten}
 use Rattle.intmap.proofs.PackLaws.{keyed-tag, keyed-key}
 use Rattle.encoding.proofs.Places.{sizes-many, held-place}
 use Rattle.state.specs.Leads.{HoldsMap, Leaves, Held, Leads}
-use Rattle.state.specs.Own.{foundSlot, entrySlot, isAt, isFlat, HeldAmong, Guesses, FlatSize, Reaches, EntryBelow, Belongs, Locates, HasKey, Own, PutsPlain, OverwritesOwn, StoresCell, Overwrites}
+use Rattle.state.specs.Own.{foundSlot, entrySlot, isAt, isFlat, HeldAmong, Guesses, FlatSize, Reaches, EntryBelow, Belongs, Locates, HasKey, Own, PutsPlain, OverwritesOwn, StoresCell, WritesNear, Overwrites}
 use Rattle.state.proofs.StoreLeads.{wider}
 
 -- what the tests of a cell tell
@@ -419,6 +419,16 @@ overwrites-at judges xe ke has plain o =
     let it = its-overwritten judges xe ke has plain o in
     record { own = it .1; inside = it .0; yes = put-stored judges xe ke has plain o; no = λ e. o .no e .1 }
 
+pub near-not : {cs : List Cell} {base end i : ℕ} {c : Cell} → WritesNear cs cs base end i c false
+near-not = record { yes = λ e. absurd (true≢false (sym e)); no = λ _. refl }
+
+pub near-written : {cs ds : List Cell} {base end i k key p : ℕ} {x : Index} {c : Cell} {r : Bool} → Judges i x → x ≡ index-is.At k → key ≡ classKey 0 k → Guesses cs base end key p → p < end → (tagOf c ≡ 2 → ⊥) → PutsPlain cs ds p key c r → WritesNear cs ds base end i c r
+near-written judges xe ke g lt plain o =
+    record {
+      yes = λ e a first last limit room. put-stored judges xe ke (record { low = omega (arith, first, g .low); inside = omega (arith, last, lt); is = g .is lt }) plain o e limit room;
+      no = λ e. o .no e .1;
+    }
+
 -- by the map
 pub map-stored : (limit : ℕ) (cs ds : List Cell) (a : IntMap) (class i : ℕ) (c : Cell) (r : Stored) → Stores cs ds limit a class i 0 (c ∷ []) r → StoresCell limit cs ds a class i c r
 map-stored limit cs ds a class i c r st = record { says = λ bound m h. st; leaves = left r st; frame = st .frame }
@@ -428,11 +438,15 @@ map-stored limit cs ds a class i c r st = record { says = λ bound m h. st; leav
     left (stored.Done b) st = record { base = st .leaves .base; room = st .leaves .room }
 
 -- where nothing was written over
-pub still-room : {cs ds : List Cell} {p key : ℕ} {c : Cell} {r : Bool} → PutsPlain cs ds p key c r → r ≡ false → {limit : ℕ} {a : IntMap} → HasRoom cs limit a → HasRoom ds limit a
-still-room o e {limit} {a} room = subst (λ l. HasRoom l limit a) (sym (o .no e .1)) room
+module _ {cs es : List Cell} (same : es ≡ cs) {limit : ℕ} {a : IntMap} where
+  pub still-room : HasRoom cs limit a → HasRoom es limit a
+  still-room room = subst (λ l. HasRoom l limit a) (sym same) room
 
-pub stored-then : {cs es ds : List Cell} {p key : ℕ} {c : Cell} {b : Bool} → PutsPlain cs es p key c b → b ≡ false → {limit : ℕ} {a : IntMap} {class i : ℕ} {r : Stored} → StoresCell limit es ds a class i c r → StoresCell limit cs ds a class i c r
-stored-then {ds = ds} {c = c} o e {limit} {a} {class} {i} {r} st = subst (λ l. StoresCell limit l ds a class i c r) (o .no e .1) st
+  pub stored-then : {ds : List Cell} {class i : ℕ} {c : Cell} {r : Stored} → StoresCell limit es ds a class i c r → StoresCell limit cs ds a class i c r
+  stored-then {ds} {class} {i} {c} {r} st = subst (λ l. StoresCell limit l ds a class i c r) same st
+
+pub still-held : {cs es : List Cell} → es ≡ cs → {a : IntMap} → Held cs a → Held es a
+still-held same {a} held = subst (λ l. Held l a) (sym same) held
 
 -- the cell c under a key, where that belongs
 pub keyed-new : {cs : List Cell} {a : IntMap} {key p : ℕ} → NewAt cs a key p → (c x : Cell) → x ≡ withKey key c → (tagOf c ≡ 2 → ⊥) → (tagOf x ≡ 2 → ⊥) × NewAt cs a (keyOf x) p

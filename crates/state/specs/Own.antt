@@ -124,3 +124,8 @@ pub record Overwrites (cs ds : List Cell) (a : IntMap) (p i : ℕ) (c : Cell) (r
   pub inside : r ≡ true → p < a .base + a .used
   pub yes : r ≡ true → (limit : ℕ) → HasRoom cs limit a → StoresCell limit cs ds a 0 i c (stored.Done a)
   pub no : r ≡ false → ds ≡ cs
+
+-- a store of c was made over register i's own cell, in any map whose cells are from `base` on and before `end`; or nothing has changed
+pub record WritesNear (cs ds : List Cell) (base end i : ℕ) (c : Cell) (r : Bool) : Type 0 where
+  pub yes : r ≡ true → (a : IntMap) → a .base ≡ base → a .base + a .used ≡ end → (limit : ℕ) → HasRoom cs limit a → StoresCell limit cs ds a 0 i c (stored.Done a)
+  pub no : r ≡ false → ds ≡ cs

@@ -6,7 +6,7 @@ ghost use lib.ListN.{length, getD};
 ghost use mathlib.Core.Option.{none};
 ghost use Rattle.model.specs.State.{Column, Single, Int, datatypeCode};
 ghost use Rattle.model.specs.Access.{storeRegister};
-ghost use Rattle.area.specs.Cells.{cells, Inside};
+ghost use Rattle.area.specs.Cells.{cell, cells, Inside};
 ghost use Rattle.intmap.specs.Get.{Gets};
 ghost use Rattle.intmap.specs.Find.{seek};
 ghost use Rattle.intmap.specs.Map.{levels, IsMap, HasRoom};
@@ -16,7 +16,7 @@ ghost use Rattle.encoding.specs.Encode.{single};
 ghost use Rattle.encoding.specs.Decode.{nullables};
 ghost use Rattle.rows.specs.Rows.{Operand};
 ghost use Rattle.state.specs.Leads.{Held, Current, Leads};
-ghost use Rattle.state.specs.Own.{entrySlot, isAt, isFlat, HeldAmong, Guesses, FlatSize, Reaches, EntryBelow, Belongs, Locates, PutsPlain, OverwritesOwn, StoresCell, Overwrites};
+ghost use Rattle.state.specs.Own.{entrySlot, isAt, isFlat, HeldAmong, Guesses, FlatSize, Reaches, EntryBelow, Belongs, Locates, PutsPlain, OverwritesOwn, StoresCell, WritesNear, Overwrites};
 ghost use Rattle.state.specs.Reads.{registerIn, Reads};
 use area::Cell;
 use intmap::Found;
@@ -433,6 +433,36 @@ pub fn overwrite(map: IntMap, area: &mut [u8], p: usize, i: u64, c: Cell) -> boo
     put_plain(area, p, key, c)
 }
 
+// Writes a cell over register i's own, if that is found at its distance from the first entry and is no record's. Says whether it was. It takes and
+// gives words alone, and most stores are done by it.
+fn write_near(area: &mut [u8], base: usize, end: usize, i: u64, head: u64, payload: u64) -> bool
+    requires { ⌜ HeldAmong (cells (now area)) base end × (tagOf (cell head payload) ≡ 2 → ⊥) ⌝ }
+    ensures { λ r. ⌜ WritesNear (cells (now (area .entry))) (cells (now (area .exit))) base end i (cell head payload) r ⌝ }
+{
+    let x = intmap::judge_index(i);
+    let Index::At(k) = x else {
+        return false;
+    };
+    let key = intmap::class_key(REGISTERS, k);
+    let p = near_first(area, base, end, key);
+    if end <= p {
+        return false;
+    }
+    put_plain(area, p, key, Cell { head, payload })
+}
+
+// Stores a cell that is no record's in register i.
+fn store_register(map: IntMap, area: &mut [u8], i: u64, c: Cell, limit: usize) -> Stored
+    requires { ⌜ HasRoom (cells (now area)) limit map × Held (cells (now area)) map × (tagOf c ≡ 2 → ⊥) ⌝ }
+    ensures { λ r. ⌜ StoresCell limit (cells (now (area .entry))) (cells (now (area .exit))) map 0 i c r ⌝ }
+{
+    let end = map.base + map.used;
+    if write_near(area, map.base, end, i, c.head, c.payload) {
+        return Stored::Done(map);
+    }
+    store_cell(map, area, REGISTERS, i, c, limit)
+}
+
 // Stores a plain column in register i.
 pub fn store_single(
     map: IntMap,
@@ -445,7 +475,7 @@ pub fn store_single(
     requires { ⌜ Current limit (cells (now area)) map × (nullable < 3) ⌝ }
     ensures { λ r. ⌜ Leads limit (cells (now (area .entry))) (cells (now (area .exit))) map r (storeRegister limit (intOf i) (Column (Single d (getD nullables nullable none)))) ⌝ }
 {
-    store_cell(map, area, REGISTERS, i, single(d, nullable), limit)
+    store_register(map, area, i, single(d, nullable), limit)
 }
 
 // Stores a known number, as an operand's word, in register i.
@@ -453,17 +483,9 @@ pub fn store_int(map: IntMap, area: &mut [u8], i: u64, value: u64, limit: usize)
     requires { ⌜ Current limit (cells (now area)) map × Operand value ⌝ }
     ensures { λ r. ⌜ Leads limit (cells (now (area .entry))) (cells (now (area .exit))) map r (storeRegister limit (intOf i) (Int (intOf value))) ⌝ }
 {
-    store_cell(
-        map,
-        area,
-        REGISTERS,
-        i,
-        Cell {
-            head: intmap::INT,
-            payload: value,
-        },
-        limit,
-    )
+    let head = intmap::INT;
+    let payload = value;
+    store_register(map, area, i, Cell { head, payload }, limit)
 }
 
 // What a register holds. A plain column is told by its codes, a record by the place of its run, a known number by its word.

@@ -64,13 +64,13 @@ returns-3 : tie.Need-returns-3
 returns-3 c = put-stored (c .before .before .before .before .before .before .before .before .before .before .before .before .before .judge-index .ensures) (c .before .before .before .before .before .before .before .before .before .before .before .x .given .1) (c .before .before .before .before .before .before .before .before .before .class-key .ensures) (located-key (c .before .before .before .before .before .before .locate .ensures) (c .before .before .before .before .before .if1 .left)) (c .before .before .before .before .before .before .before .before .before .before .before .before .before .before .before .pre .3) (c .before .before .before .put-plain .ensures) (c .if2 .taken) _ (c .before .before .before .before .before .before .before .before .before .before .before .before .before .before .before .pre .0)
 
 store-cell-requires-2 : tie.Need-store-cell-requires-2
-store-cell-requires-2 c κs = (still-room (c .before .before .before .before .put-plain .ensures) (c .before .if2 .left) (c .before .before .before .before .before .before .before .before .before .before .before .before .before .before .before .before .pre .0), c .before .before .before .before .before .before .before .before .before .before .before .before .before .before .before .before .pre .2, c .before .before .before .before .before .before .before .before .before .before .before .before .before .before .before .before .pre .3)
+store-cell-requires-2 c κs = (still-room (c .before .before .before .before .put-plain .ensures .no (c .before .if2 .left) .1) (c .before .before .before .before .before .before .before .before .before .before .before .before .before .before .before .before .pre .0), c .before .before .before .before .before .before .before .before .before .before .before .before .before .before .before .before .pre .2, c .before .before .before .before .before .before .before .before .before .before .before .before .before .before .before .before .pre .3)
 
 same-length-4 : tie.Need-same-length-4
 same-length-4 c = search needs
 
 returns-4 : tie.Need-returns-4
-returns-4 c = stored-then (c .before .before .before .before .before .before .before .put-plain .ensures) (c .before .before .before .before .if2 .left) (map-stored _ _ _ _ _ _ _ _ (c .before .before .store-cell2 .ensures))
+returns-4 c = stored-then (c .before .before .before .before .before .before .before .put-plain .ensures .no (c .before .before .before .before .if2 .left) .1) (map-stored _ _ _ _ _ _ _ _ (c .before .before .store-cell2 .ensures))
 
 pub store-cell-spec : {M : Type 1} → statement M
 store-cell-spec =
