@@ -28,7 +28,7 @@ pub enum Handling {
 }
 
 // The row's number, as the constants are.
-fn number(x: Row) -> u8
+pub fn number(x: Row) -> u8
     requires { ⌜ Fits x ⌝ }
     ensures { λ r. ⌜ r ≡ x .op ⌝ }
 {

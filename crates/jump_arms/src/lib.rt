@@ -98,7 +98,7 @@ pub fn gosub(s: MemoryState, area: &mut [u8], x: Row, limit: usize) -> Step
 }
 
 // Where InitCoroutine goes: 0 in P2 stands for the next row.
-fn init_coroutine_to(row: u64, p2: u64) -> u64
+pub fn init_coroutine_to(row: u64, p2: u64) -> u64
     requires { ⌜ row < 9223372036854777856 ⌝ }
     ensures { λ r. ⌜ InitTo row p2 r ⌝ }
 {

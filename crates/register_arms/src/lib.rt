@@ -87,7 +87,7 @@ pub fn function(map: IntMap, area: &mut [u8], x: Row, limit: usize) -> Stored
 }
 
 // The kind of a code.
-fn datatype(kind: u64) -> DataType
+pub fn datatype(kind: u64) -> DataType
     ensures { λ r. ⌜ r ≡ getD datatypes kind Null ⌝ }
 {
     match kind {
@@ -142,7 +142,7 @@ pub fn map_to_nullable(r: Register) -> u64
 }
 
 // The first of two kinds, unless it is Null.
-fn first_datatype(a: DataType, b: DataType) -> DataType
+pub fn first_datatype(a: DataType, b: DataType) -> DataType
     ensures { λ r. ⌜ r ≡ firstDatatype a b ⌝ }
 {
     if state::datatype_code(a) == 0 {
@@ -176,7 +176,7 @@ fn is_absent(r: Register) -> bool
 }
 
 // Two operands: where one is absent, nothing is known of the other.
-fn operands_nullable(a: Register, b: Register) -> u64
+pub fn operands_nullable(a: Register, b: Register) -> u64
     ensures { λ n. ⌜ AreNullable a b n ⌝ }
 {
     if is_absent(a) {

@@ -39,7 +39,7 @@ use Rattle.intmap.proofs.Overwritten.{alike, alike-room, overwritten}
 use Rattle.intmap.proofs.PackLaws.{keyed-tag, keyed-key}
 use Rattle.encoding.proofs.Places.{sizes-many, held-place}
 use Rattle.state.specs.Leads.{HoldsMap, Leaves, Held, Leads}
-use Rattle.state.specs.Own.{foundSlot, entrySlot, isAt, isFlat, HeldAmong, Guesses, FlatSize, Reaches, EntryBelow, Belongs, Locates, HasKey, Own, PutsPlain, OverwritesOwn, StoresCell, WritesNear, Overwrites}
+use Rattle.state.specs.Own.{foundSlot, entrySlot, isAt, isFlat, HeldAmong, Guesses, FlatSize, Reaches, EntryBelow, Belongs, Locates, HasKey, Own, PutsPlain, OverwritesOwn, StoresCell, WritesNear, LeadsNear, GetsNear, Overwrites}
 use Rattle.state.proofs.StoreLeads.{wider}
 
 -- what the tests of a cell tell
@@ -66,6 +66,10 @@ module _ (cs : List Cell) (end key p : ℕ) where
 
 pub has-key : (cs : List Cell) (a : IntMap) (key p : ℕ) → a .base ≤ p → isAt cs (a .base + a .used) key p ≡ true → HasKey cs a key p
 has-key cs a key p low e = record { low = low; inside = told-key cs (a .base + a .used) key p e .0; is = told-key cs (a .base + a .used) key p e .1 }
+
+-- so is one whose cell was read
+pub guessed-here : {cs : List Cell} {base end key p : ℕ} → base ≤ p → p < end → (c : Cell) → c ≡ getD cs p blank → (k : ℕ) → k ≡ keyOf c → k ≡ key → Guesses cs base end key p
+guessed-here low lt c ce k ke is = record { low = low; high = omega (arith, lt); is = λ _. ap keyOf (sym ce) ∙ sym ke ∙ is }
 
 -- the end is always one
 pub guessed-end : (cs : List Cell) (base end key : ℕ) → base ≤ end → Guesses cs base end key end
@@ -429,6 +433,19 @@ near-written judges xe ke g lt plain o =
       no = λ e. o .no e .1;
     }
 
+-- register i's entry is where its key was guessed
+pub gets-near : {cs : List Cell} {base end i k key p : ℕ} {x : Index} → Judges i x → x ≡ index-is.At k → key ≡ classKey 0 k → Guesses cs base end key p → GetsNear cs base end i p
+gets-near {cs} {i = i} {k} {key} {p} {x} judges xe ke g =
+    record {
+      high = g .high;
+      is = λ lt a first last held.
+          entry-gets cs a 0 i k x judges (held .map) xe (slot.At p)
+          (entry-hinted cs a 0 k key ke held p (record { low = omega (arith, first, g .low); inside = omega (arith, last, lt); is = g .is lt }));
+    }
+
+pub gets-nowhere : {cs : List Cell} {base end i : ℕ} → GetsNear cs base end i end
+gets-nowhere = record { high = omega arith; is = λ lt. absurd (omega (arith, lt)) }
+
 -- by the map
 pub map-stored : (limit : ℕ) (cs ds : List Cell) (a : IntMap) (class i : ℕ) (c : Cell) (r : Stored) → Stores cs ds limit a class i 0 (c ∷ []) r → StoresCell limit cs ds a class i c r
 map-stored limit cs ds a class i c r st = record { says = λ bound m h. st; leaves = left r st; frame = st .frame }
@@ -458,3 +475,14 @@ cell-leads {limit} {cs} {ds} {a} st leads = record { says = λ bound m le h. lea
 
 pub key-as : (cs : List Cell) (a : IntMap) (key k : ℕ) (w : Found) → key ≡ k → w ≡ seek cs levels key (a .len) (a .base) → w ≡ seek cs levels k (a .len) (a .base)
 key-as cs a key k w e f = f ∙ ap (λ n. seek cs levels n (a .len) (a .base)) e
+
+pub near-leads : {cs ds : List Cell} {base end i : ℕ} {c : Cell} {r : Bool} {f : ℕ → MemoryState → Tried MemoryState} → WritesNear cs ds base end i c r → ((a : IntMap) (limit : ℕ) → Stores cs ds limit a 0 i 0 (c ∷ []) (stored.Done a) → Leads limit cs ds a (stored.Done a) (f limit)) → LeadsNear cs ds base end f r
+near-leads w leads = record { yes = λ e a first last limit current. cell-leads (w .yes e a first last limit (current .room)) (leads a limit); no = w .no }
+
+-- a search passes over few tries
+pub passed-few : {key : ℕ} (r : ℕ) → (key < 131072 → r ≡ 0) × (131072 ≤ key → r ≡ 7) → r ≤ 7
+passed-few {key} r told = go (ltb key 131072) refl
+  where
+    go : (b : Bool) → ltb key 131072 ≡ b → r ≤ 7
+    go true e = omega (arith, told .0 (ltb-true key 131072 e))
+    go false e = omega (arith, told .1 (ltb-false key 131072 e))

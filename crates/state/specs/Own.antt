@@ -6,12 +6,13 @@ use mathlib.Core.List.{List, [], _∷_}
 use Prim.Native.Nat.{ℕ, _+_, _-_, _<_, _≤_}
 use lib.Dec.{eqb, leb, ltb}
 use lib.ListN.{getD, set}
-use Rattle.model.specs.Walk.{done}
+use Rattle.model.specs.Walk.{Tried, done}
 use Rattle.model.specs.State.{MemoryState}
 use Rattle.model.specs.Access.{index}
 use Rattle.area.specs.Cells.{blank}
 use Rattle.area.specs.declared.Cell.{Cell}
 use Rattle.intmap.specs.Find.{seek}
+use Rattle.intmap.specs.Get.{Gets}
 use Rattle.intmap.specs.Map.{levels, HasRoom, Frame}
 use Rattle.intmap.specs.Pack.{tagOf, keyOf, withKey, classKey}
 use Rattle.intmap.specs.Pick.{pick}
@@ -23,7 +24,7 @@ use Rattle.intmap.specs.declared.Slot.{Slot}
 use Rattle.intmap.specs.declared.Slot.the-variants as slot
 use Rattle.intmap.specs.declared.Stored.{Stored}
 use Rattle.intmap.specs.declared.Stored.the-variants as stored
-use Rattle.state.specs.Leads.{HoldsMap, Leaves, Held}
+use Rattle.state.specs.Leads.{HoldsMap, Leaves, Held, Current, Leads}
 
 -- where a search led, if it found the key
 abbrev pub foundSlot : Found → Slot
@@ -129,3 +130,13 @@ pub record Overwrites (cs ds : List Cell) (a : IntMap) (p i : ℕ) (c : Cell) (r
 pub record WritesNear (cs ds : List Cell) (base end i : ℕ) (c : Cell) (r : Bool) : Type 0 where
   pub yes : r ≡ true → (a : IntMap) → a .base ≡ base → a .base + a .used ≡ end → (limit : ℕ) → HasRoom cs limit a → StoresCell limit cs ds a 0 i c (stored.Done a)
   pub no : r ≡ false → ds ≡ cs
+
+-- an access was made there, and leads to what f gives; or nothing has changed
+pub record LeadsNear (cs ds : List Cell) (base end : ℕ) (f : ℕ → MemoryState → Tried MemoryState) (r : Bool) : Type 0 where
+  pub yes : r ≡ true → (a : IntMap) → a .base ≡ base → a .base + a .used ≡ end → (limit : ℕ) → Current limit cs a → Leads limit cs ds a (stored.Done a) (f limit)
+  pub no : r ≡ false → ds ≡ cs
+
+-- register i's entry is at p, in any such map; or p is `end`
+pub record GetsNear (cs : List Cell) (base end i p : ℕ) : Type 0 where
+  pub high : p ≤ end
+  pub is : p < end → (a : IntMap) → a .base ≡ base → a .base + a .used ≡ end → Held cs a → Gets cs a 0 i (slot.At p)

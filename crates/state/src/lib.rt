@@ -16,7 +16,7 @@ ghost use Rattle.encoding.specs.Encode.{single};
 ghost use Rattle.encoding.specs.Decode.{nullables};
 ghost use Rattle.rows.specs.Rows.{Operand};
 ghost use Rattle.state.specs.Leads.{Held, Current, Leads};
-ghost use Rattle.state.specs.Own.{entrySlot, isAt, isFlat, HeldAmong, Guesses, FlatSize, Reaches, EntryBelow, Belongs, Locates, PutsPlain, OverwritesOwn, StoresCell, WritesNear, Overwrites};
+ghost use Rattle.state.specs.Own.{entrySlot, isAt, isFlat, HeldAmong, Guesses, FlatSize, Reaches, EntryBelow, Belongs, Locates, PutsPlain, OverwritesOwn, StoresCell, WritesNear, LeadsNear, GetsNear, Overwrites};
 ghost use Rattle.state.specs.Reads.{registerIn, Reads};
 use area::Cell;
 use intmap::Found;
@@ -188,7 +188,7 @@ fn head_near(area: &[u8], base: usize, at: usize) -> usize
     head_before(base, at, intmap::key_of(c))
 }
 
-// Looks for a key among the last entries.
+// Looks for a key among the last entries, whose keys fall from the last on.
 fn near_last(area: &[u8], base: usize, end: usize, key: u64) -> usize
     requires { ⌜ HeldAmong (cells (now area)) base end × (key < 1099511627776) ⌝ }
     ensures { λ r. ⌜ Guesses (cells (now (area .entry))) base end key r ⌝ }
@@ -200,8 +200,12 @@ fn near_last(area: &[u8], base: usize, end: usize, key: u64) -> usize
             return end;
         }
         let p = head_near(area, base, high - 1);
-        if is_at(area, end, p, key) {
+        let k = intmap::key_of(area::cell_at(area, p));
+        if k == key {
             return p;
+        }
+        if k < key {
+            return end;
         }
         high = p;
         left -= 1;
@@ -255,6 +259,27 @@ fn ahead(p: usize, c: Cell, k: u64, key: u64) -> usize
     p + flat_size(c) - 1 + (key - k) as usize
 }
 
+// How many tries are passed over, so that only the first is a guess: a table that a row opens is behind all, and a cursor, which is before the
+// tables, is no distance from a register.
+fn passed(key: u64) -> usize
+    ensures { λ r. ⌜ (key < 131072 → r ≡ 0) × (131072 ≤ key → r ≡ 7) ⌝ }
+{
+    if key < LATER {
+        return 0;
+    }
+    TRIES - 1
+}
+
+// Where a search begins: a register's at the first entry, a cursor's or table's at the last.
+fn begins_at(base: usize, end: usize, key: u64) -> usize
+    ensures { λ r. ⌜ (key < 131072 → r ≡ base) × (131072 ≤ key → r ≡ end) ⌝ }
+{
+    if key < LATER {
+        return base;
+    }
+    end
+}
+
 // Where a key is or belongs. It guesses by the distance from an entry with a lower key, and where that leads too far, tries the one before.
 fn place(area: &[u8], base: usize, end: usize, key: u64) -> usize
     requires { ⌜ HeldAmong (cells (now area)) base end × (65536 ≤ key) ⌝ }
@@ -262,8 +287,8 @@ fn place(area: &[u8], base: usize, end: usize, key: u64) -> usize
 {
     let mut low = base;
     let mut high = end;
-    let mut guess = base;
-    let mut tried: usize = 0;
+    let mut guess = begins_at(base, end, key);
+    let mut tried = passed(key);
     while low < high {
         let mid = probe(low, high, guess, tried);
         tried += 1;
@@ -435,7 +460,7 @@ pub fn overwrite(map: IntMap, area: &mut [u8], p: usize, i: u64, c: Cell) -> boo
 
 // Writes a cell over register i's own, if that is found at its distance from the first entry and is no record's. Says whether it was. It takes and
 // gives words alone, and most stores are done by it.
-fn write_near(area: &mut [u8], base: usize, end: usize, i: u64, head: u64, payload: u64) -> bool
+pub fn write_near(area: &mut [u8], base: usize, end: usize, i: u64, head: u64, payload: u64) -> bool
     requires { ⌜ HeldAmong (cells (now area)) base end × (tagOf (cell head payload) ≡ 2 → ⊥) ⌝ }
     ensures { λ r. ⌜ WritesNear (cells (now (area .entry))) (cells (now (area .exit))) base end i (cell head payload) r ⌝ }
 {
@@ -449,6 +474,42 @@ fn write_near(area: &mut [u8], base: usize, end: usize, i: u64, head: u64, paylo
         return false;
     }
     put_plain(area, p, key, Cell { head, payload })
+}
+
+// Where register i's cell is, if that is at its distance from the first entry, or `end`.
+pub fn register_near(area: &[u8], base: usize, end: usize, i: u64) -> usize
+    requires { ⌜ HeldAmong (cells (now area)) base end ⌝ }
+    ensures { λ r. ⌜ GetsNear (cells (now (area .entry))) base end i r ⌝ }
+{
+    let x = intmap::judge_index(i);
+    let Index::At(k) = x else {
+        return end;
+    };
+    near_first(area, base, end, intmap::class_key(REGISTERS, k))
+}
+
+// Stores a plain column over register i's own cell, as `write_near` does.
+pub fn single_near(
+    area: &mut [u8],
+    base: usize,
+    end: usize,
+    i: u64,
+    d: DataType,
+    nullable: u64,
+) -> bool
+    requires { ⌜ HeldAmong (cells (now area)) base end × (nullable < 3) ⌝ }
+    ensures { λ r. ⌜ LeadsNear (cells (now (area .entry))) (cells (now (area .exit))) base end (λ limit. storeRegister limit (intOf i) (Column (Single d (getD nullables nullable none)))) r ⌝ }
+{
+    let c = single(d, nullable);
+    write_near(area, base, end, i, c.head, c.payload)
+}
+
+// Stores a known number, as an operand's word, over register i's own cell, as `write_near` does.
+pub fn int_near(area: &mut [u8], base: usize, end: usize, i: u64, value: u64) -> bool
+    requires { ⌜ HeldAmong (cells (now area)) base end × Operand value ⌝ }
+    ensures { λ r. ⌜ LeadsNear (cells (now (area .entry))) (cells (now (area .exit))) base end (λ limit. storeRegister limit (intOf i) (Int (intOf value))) r ⌝ }
+{
+    write_near(area, base, end, i, intmap::INT, value)
 }
 
 // Stores a cell that is no record's in register i.
@@ -498,7 +559,7 @@ pub enum Register {
 }
 
 // What the first cell of a register's run says.
-fn register_in(c: Cell, at: usize) -> Register
+pub fn register_in(c: Cell, at: usize) -> Register
     ensures { λ r. ⌜ r ≡ registerIn c at ⌝ }
 {
     let tag = intmap::tag_of(c);

@@ -19,6 +19,7 @@ use Rattle.model.specs.Offer.{Offer, rowAt}
 use Rattle.model.specs.Explain.{arm, atRow, ways, rowOf}
 use Rattle.area.specs.Cells.{blank, cells, Inside}
 use Rattle.area.specs.Counts.{count as countAt, home, Raised}
+use Rattle.area.specs.declared.Cell.{Cell}
 use Rattle.intmap.specs.Map.{levels, HasRoom}
 use Rattle.intmap.specs.Runs.{size}
 use Rattle.intmap.specs.Signed.{offset}
@@ -40,6 +41,7 @@ use Rattle.branches.proofs.RememberLaws.{Bytes, counted-kept}
 use Rattle.branches.proofs.BlockLaws.{blocks-low}
 use Rattle.walk.specs.Walks.{rowsFrom, countsFrom, firstFrom, Given, boundOf, HoldsList, Counts, HoldsWalk, HoldsRow, inListing, TellsTurn, theFollowing, theTurn}
 use Rattle.root_block.specs.Blocks.{IsBlocks}
+use Rattle.in_place.specs.InPlace.{ReadyAt, HandlesNear}
 use Rattle.explain.specs.Handles.{meaningOf, TellsHandling, LeavesHandling, Handles}
 use Rattle.walk.specs.Loop.{Walking, noteRepeated, alone, aloneBy, settled, Turning, MayOffer, MayFollow, StaysHere, Follows, TakesUp, chargeOne, stopLoop, Standing, Turns}
 use Rattle.explain.specs.declared.Handling.{Handling}
@@ -50,7 +52,7 @@ use Rattle.walk.specs.declared.Front.{Front}
 use Rattle.walk.specs.declared.Front.the-variants as front
 use Rattle.walk.specs.declared.Turn.{Turn}
 use Rattle.walk.specs.declared.Turn.the-variants as turned
-use Rattle.walk.proofs.ListLaws.{Element, element-within, list-as, list-kept}
+use Rattle.walk.proofs.ListLaws.{Element, element-within, list-as, list-kept, listing-in}
 use Rattle.walk.proofs.UpLaws.{goes-row}
 use Rattle.walk.proofs.FollowLaws.{ways-nowhere}
 use Rattle.walk.proofs.AllLaws.{all-ways}
@@ -229,6 +231,19 @@ module _ {p : Program} {g : Given} {blocks xs cols : List ℕ} {w : Walk} {s : M
           row = record { listed = listed .element; judged = judged x e };
           above = omega (arith, r .at);
           below = omega (arith, r .at, r .within, r .walk .list .few);
+        }
+
+    -- for a handling in place, its number and operands
+    pub ready-at : (x : Row) → x ≡ rowIn (getD (cells ys) (rowsFrom p + k) blank) → (op : ℕ) → op ≡ x .op → ReadyAt (cells ys) (s .row) (s .map .base) (s .map .base + s .map .used) op (x .p1) (x .p2) (x .p3)
+    ready-at x e op oe =
+        record {
+          limit = p .limit;
+          state = s;
+          judged = x;
+          ready = is-ready x e;
+          number = sym oe;
+          operands = record { first = refl; second = refl; third = refl };
+          stands = record { on = refl; from = refl; to = refl };
         }
 
     pub some-rows : SomeRows (cells ys) (rowsFrom p) (p .size)
@@ -425,3 +440,24 @@ module _ {p : Program} {blocks xs cols : List ℕ} {w : Walk} {s : MemoryState} 
               (all-ways p zs cols (chargeOne w) h way.Nowhere (way.To n) false its zs (turned.Goes (front.OnRow u n))
               (ways-nowhere p zs zs (chargeOne w) u way.Nowhere (way.To n) false (front.OnRow u n) (subst (Turning p zs) e handled-turning .less) refl refl
               (goes-row p zs u (way.To n) n refl in-it))))
+
+-- ---- a row that is handled in place
+
+module _ {p : Program} {blocks xs cols : List ℕ} {w : Walk} {s : MemoryState} (st : Standing p blocks xs cols w s) (v : Walk) (e : v ≡ chargeOne w) (ys zs : List ℕ) (small : Bytes xs) (less : Bytes ys) (low : Bytes zs) (raised : Raised xs ys (countsFrom p) (s .row - offset)) (long : length zs ≡ length ys) (x : Row) (read : x ≡ rowIn (getD (cells ys) (rowsFrom p + (s .row - offset)) blank)) (handled : ℕ) (is : handled ≡ countAt xs (countsFrom p) (s .row - offset)) where
+  pub turns-in-place : {op next : ℕ} → op ≡ x .op → (next ≡ 0 → ⊥) → HandlesNear (cells ys) (cells zs) (s .row) (s .map .base) (s .map .base + s .map .used) op (x .p1) (x .p2) (x .p3) (p .size) next → handled < 3 → Turns p blocks xs zs cols cols w s (turned.Stays (record { map = s .map; row = next }))
+  turns-in-place {op} {next} oe ne near few =
+      let n : MemoryState = record { map = s .map; row = next } in
+      turns-stays st v e ys zs small less low raised long x read (handling.Ways way.Nowhere (way.To n) false) handled is
+      (near .yes ne (p .limit) s x (is-ready (st .holds) ys small less raised x read) (sym oe) (record { first = refl; second = refl; third = refl }) (record { on = refl; from = refl; to = refl }) (rowsFrom p) (p .size) blocks (ltb 0 handled) (is-blocks (st .holds)))
+      n (way.To n) refl refl (listing-in p next (record { above = near .within ne .0; below = omega (arith, near .within ne .0, near .within ne .1) })) few
+
+-- where it was not, nothing has changed
+module _ {limit : ℕ} {cs es : List Cell} {s : MemoryState} {x : Row} (same : es ≡ cs) where
+  pub still-ready : Ready limit cs s x → Ready limit es s x
+  still-ready ready = subst (λ l. Ready limit l s x) (sym same) ready
+
+  pub handles-then : {from n : ℕ} {ds : List Cell} {blocks : List ℕ} {again : Bool} {h : Handling} → Handles limit from n es ds blocks s x again h → Handles limit from n cs ds blocks s x again h
+  handles-then {from} {n} {ds} {blocks} {again} {h} handles = subst (λ l. Handles limit from n l ds blocks s x again h) same handles
+
+pub still-rows : {from n : ℕ} {cs es : List Cell} → es ≡ cs → SomeRows cs from n → SomeRows es from n
+still-rows {from} {n} same rows = subst (λ l. SomeRows l from n) (sym same) rows

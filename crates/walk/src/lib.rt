@@ -340,6 +340,20 @@ fn take_turn(
     area::raise_count(area, from + p.size, k);
     let x = rows::row_at(area, from, k);
     let m = s.map;
+    let next = in_place::next_row(
+        area,
+        s.row,
+        m.base,
+        m.base + m.used,
+        explain::number(x),
+        x.p1,
+        x.p2,
+        x.p3,
+        p.size,
+    );
+    if next != 0 {
+        return Turn::Stays(MemoryState { map: m, row: next });
+    }
     let h = explain::handle(
         s.row,
         m.base,
