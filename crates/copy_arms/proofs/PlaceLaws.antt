@@ -1,5 +1,5 @@
 -- From an entry of one cell the search for the next key leads to the next cell, if that has the key. Assumes nothing.
-use mathlib.Core.Path.{_≡_, refl, sym, ap, _∙_}
+use mathlib.Core.Path.{_≡_, refl, sym, ap, subst, _∙_}
 use mathlib.Core.Bool.{Bool, true, false, not, false≢true}
 use mathlib.Core.List.{List}
 use Prim.Native.Nat.{ℕ, zero, suc, _+_, _<_, _≤_}
@@ -16,11 +16,15 @@ use Rattle.intmap.specs.Pick.{pick}
 use Rattle.intmap.specs.Runs.{size, sizes}
 use Rattle.intmap.specs.declared.Found.{Found}
 use Rattle.intmap.specs.declared.IntMap.{IntMap}
+use Rattle.intmap.specs.declared.Slot.{Slot}
+use Rattle.intmap.specs.declared.Slot.the-variants as slot
 use Rattle.intmap.proofs.FindLaws.{seek-here, seek-past}
 use Rattle.intmap.proofs.RunLaws.{size-single}
 use Rattle.intmap.proofs.StoreLaws.{found-in}
 use Rattle.intmap.specs.Alike.{Alike}
 use Rattle.intmap.proofs.Overwritten.{alike-seek}
+use Rattle.state.specs.Own.{entrySlot}
+use Rattle.state.proofs.OwnLaws.{entry-led}
 use Rattle.copy_arms.specs.InPlace.{Alone, FoundAt, Leading}
 
 -- what the tests of a cell tell
@@ -94,3 +98,9 @@ leading-first cs a key k w is ke we there =
       most = found-in cs a key w is we .1;
       found = λ alone. record { at = ap (λ v. v .at) same; present = ap (λ v. v .present) same ∙ there };
     }
+
+-- or an entry is
+pub leading-entry : {cs : List Cell} {a : IntMap} {k p : ℕ} {s : Slot} → IsMap cs a → s ≡ entrySlot cs a 0 k → s ≡ slot.At p → Leading cs a p k
+leading-entry {cs} {a} {k} {p} is se sp =
+    let led = entry-led cs a 0 k p (sym se ∙ sp) in
+    subst (λ z. Leading cs a z k) (led .1) (leading-first cs a (classKey 0 k) k _ is refl refl (led .0))

@@ -10,7 +10,7 @@ ghost use Rattle.intmap.specs.Map.{levels, IsMap};
 ghost use Rattle.intmap.specs.Runs.{size};
 ghost use Rattle.intmap.specs.Signed.{offset, intOf};
 ghost use Rattle.rows.specs.Judged.{IsRow};
-ghost use Rattle.state.specs.Leads.{Current, Leads};
+ghost use Rattle.state.specs.Leads.{Held, Current, Leads};
 ghost use Rattle.state.specs.Arms.{RegisterArm};
 ghost use Rattle.copy_arms.specs.Copies.{StoresFrom, carryOne, carryMany};
 ghost use Rattle.copy_arms.specs.Gaps.{Next, Gap};
@@ -199,7 +199,7 @@ fn carry_cells(
 // Carries registers from i on to those from j on where they stand, as long as each is there and one cell, and at most n. Gives how many. The two
 // searches are all, however many it carries.
 fn carry_run(map: IntMap, area: &mut [u8], i: u64, j: u64, n: u64, moves: bool) -> u64
-    requires { ⌜ IsMap (cells (now area)) map ⌝ }
+    requires { ⌜ Held (cells (now area)) map ⌝ }
     ensures { λ r. ⌜ CarriesRun (cells (now (area .entry))) (cells (now (area .exit))) map moves i j n r ⌝ }
 {
     let x = intmap::judge_index(i);
@@ -210,15 +210,15 @@ fn carry_run(map: IntMap, area: &mut [u8], i: u64, j: u64, n: u64, moves: bool) 
     let Index::At(l) = y else {
         return 0;
     };
-    let target = map.find(area, intmap::class_key(state::REGISTERS, l));
-    if !target.present {
+    let target = state::entry_at(map, area, state::REGISTERS, l);
+    let Slot::At(q) = target else {
         return 0;
-    }
-    let source = map.find(area, intmap::class_key(state::REGISTERS, k));
-    if !source.present {
+    };
+    let source = state::entry_at(map, area, state::REGISTERS, k);
+    let Slot::At(p) = source else {
         return 0;
-    }
-    carry_cells(map, area, source.at, target.at, k, l, n, moves)
+    };
+    carry_cells(map, area, p, q, k, l, n, moves)
 }
 
 // Carries n registers from i on to those from j on, in their order: in a turn those that can be where they stand, and one by a store. Then it goes on

@@ -51,19 +51,13 @@ use Rattle.encoding.proofs.Flat.{flat-sizes}
 use Rattle.encoding.proofs.Standing.{stands-head, stands-rest}
 use Rattle.state.specs.Leads.{HoldsMap, Held}
 use Rattle.state.specs.Own.{entrySlot, isFlat}
-use Rattle.state.proofs.OwnLaws.{flat-told}
+use Rattle.state.proofs.OwnLaws.{case, entry-led, flat-told}
 use Rattle.cursor_arms.specs.Cursors.{TellsCursor, RowWithin, ReadsCursor}
 use Rattle.cursor_arms.specs.StandsFor.{registerSlot, headSlot, tableSlot, columnsSlot, emptyIn, emptyCode, SlotWithin, cursorTable, IsTable, TellsTable, HasColumns, TellsColumns, emptinessOf, FindsTable, FindsColumns, TellsEmpty}
 use Rattle.cursor_arms.specs.declared.CursorDataType.{CursorDataType}
 use Rattle.cursor_arms.specs.declared.CursorDataType.the-variants as cursor
 
 -- ---- an entry that the search finds
-
--- which of a slot's cases it is, as a number
-abbrev pub case : Slot → ℕ
-case (slot.Bad n) = 0
-case slot.Absent = 1
-case (slot.At p) = 2
 
 -- where it is, and what that says of the search
 module _ (cs : List Cell) (a : IntMap) (class k : ℕ) where
@@ -75,12 +69,7 @@ module _ (cs : List Cell) (a : IntMap) (class k : ℕ) where
     pub at : seek cs levels (classKey class k) (a .len) (a .base) .at ≡ p
 
   pub led-at : (p : ℕ) → entrySlot cs a class k ≡ slot.At p → Led p
-  unfolding entrySlot
-  led-at p e = go (search-led .present) refl e
-    where
-      go : (b : Bool) → search-led .present ≡ b → pick b (slot.At (search-led .at)) slot.Absent ≡ slot.At p → Led p
-      go true h s = record { present = h; at = cc }
-      go false h s = absurd (omega (arith, ap case s))
+  led-at p e = let it = entry-led cs a class k p e in record { present = it .0; at = it .1 }
 
   pub not-led : (case (entrySlot cs a class k) ≡ 2 → ⊥) → seek cs levels (classKey class k) (a .len) (a .base) .present ≡ false
   unfolding entrySlot

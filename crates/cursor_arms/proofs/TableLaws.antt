@@ -31,7 +31,8 @@ use Rattle.state.specs.Leads.{HoldsMap}
 use Rattle.state.proofs.StoreLeads.{nullable-code}
 use Rattle.cursor_arms.proofs.DupLaws.{frame-same}
 use Rattle.state.specs.Own.{entrySlot}
-use Rattle.cursor_arms.proofs.StandsLaws.{case, done-same, Led, led-at, not-led, led-inside}
+use Rattle.state.proofs.OwnLaws.{case}
+use Rattle.cursor_arms.proofs.StandsLaws.{done-same, Led, led-at, not-led, led-inside}
 use Rattle.cursor_arms.specs.Cursors.{TellsCursor, TableChanged}
 use Rattle.cursor_arms.specs.StandsFor.{tableSlot, FindsTable, CursorTableChanged}
 use Rattle.cursor_arms.specs.declared.CursorDataType.{CursorDataType}

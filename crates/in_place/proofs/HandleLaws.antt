@@ -2,15 +2,15 @@
 use mathlib.Core.Path.{_≡_, refl, sym, ap, subst, _∙_}
 use mathlib.Core.Bool.{Bool, true, false, true≢false}
 use mathlib.Core.List.{List}
-use Prim.Native.Nat.{ℕ, _+_, _<_, _≤_}
+use Prim.Native.Nat.{ℕ, _+_, _-_, _<_, _≤_}
 use native.Mathlib.Omega.{arith}
 use Rattle.model.specs.State.{Int}
 use Rattle.model.specs.Access.{storeRegister}
-use Rattle.model.specs.Operation.{JumpOperation, jumps, noArm, opGoto, opGosub, opInitCoroutine, opNull}
+use Rattle.model.specs.Operation.{JumpOperation, CursorOperation, jumps, cursors, noArm, opGoto, opGosub, opInitCoroutine, opNull, opColumn}
 use Rattle.area.specs.declared.Cell.{Cell}
 use Rattle.intmap.specs.Signed.{offset, intOf}
 use Rattle.intmap.specs.declared.Stored.the-variants as stored
-use Rattle.opcode.specs.Opcode.{operationAt}
+use Rattle.opcode.specs.Opcode.{arms, operationAt}
 use Rattle.rows.specs.Rows.{Operand}
 use Rattle.rows.specs.declared.Row.{Row}
 use Rattle.state.specs.Leads.{Leads}
@@ -27,9 +27,9 @@ use Rattle.jump_arms.proofs.StoreSteps.{gosub-arm, init-arm}
 use Rattle.explain.specs.Handles.{Handles}
 use Rattle.explain.specs.Numbers.{NumberArm}
 use Rattle.explain.specs.declared.Handling.the-variants as handling
-use Rattle.explain.proofs.NumberLaws.{jump-number, register-number, none-number}
+use Rattle.explain.proofs.NumberLaws.{jump-number, register-number, cursor-number, none-number}
 use Rattle.explain.proofs.HandlingLaws.{number-handles}
-use Rattle.in_place.specs.InPlace.{Operands, RegisterNear, WithinListing, StandsAt, ReadyAt, JumpNear, HandlesNear}
+use Rattle.in_place.specs.InPlace.{Operands, RegisterNear, CursorNear, WithinListing, StandsAt, ReadyAt, JumpNear, HandlesNear}
 use Rattle.in_place.proofs.NearLaws.{arm-not}
 
 -- ---- what is asked for
@@ -117,6 +117,19 @@ register-handles in-list made some w =
       within = λ ne. (in-list .yes ne .1, in-list .yes ne .2);
       yes = λ ne limit s x ready num ops stands first size blocks again whole.
           next-as in-list ne stands num (register-number (ready .row) whole (w .is made) (w .near .yes made x ops (s .map) (stands .from) (stands .to) limit (ready .current)));
+      no = λ e. absurd (some e);
+    }
+
+pub column-number : {op : ℕ} → 33 ≤ op → op ≤ 33 → operationAt op ≡ cursors opColumn
+unfolding operationAt arms
+column-number {op} low high = let e : op ≡ 33 = omega (arith, low, high) in ap operationAt e
+
+pub column-handles : {cs ds : List Cell} {row base end op i j k n r : ℕ} {b : Bool} {o : CursorOperation} → operationAt op ≡ cursors o → WithinListing (row + 1) n r → b ≡ true → (r ≡ 0 → ⊥) → CursorNear cs ds base end i j k o b → HandlesNear cs ds row base end op i j k n r
+column-handles is in-list made some w =
+    record {
+      within = λ ne. (in-list .yes ne .1, in-list .yes ne .2);
+      yes = λ ne limit s x ready num ops stands first size blocks again whole.
+          next-as in-list ne stands num (cursor-number (ready .row) whole is (w .yes made x ops (s .map) (stands .from) (stands .to) limit (ready .current) (s .row - offset)));
       no = λ e. absurd (some e);
     }
 

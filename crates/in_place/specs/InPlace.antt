@@ -4,19 +4,28 @@ use mathlib.Core.Path.{_≡_}
 use mathlib.Core.Bool.{Bool, true, false}
 use mathlib.Core.List.{List}
 use Prim.Native.Nat.{ℕ, _+_, _<_, _≤_}
-use Rattle.model.specs.Operation.{JumpOperation, RegisterOperation, jumps, registers}
+use lib.ListN.{getD}
+use Rattle.model.specs.Operation.{JumpOperation, RegisterOperation, CursorOperation, jumps, registers}
+use Rattle.area.specs.Cells.{blank}
 use Rattle.area.specs.declared.Cell.{Cell}
+use Rattle.intmap.specs.Map.{HasRoom}
 use Rattle.intmap.specs.Signed.{offset}
 use Rattle.intmap.specs.declared.IntMap.{IntMap}
+use Rattle.intmap.specs.declared.Slot.the-variants as slot
 use Rattle.intmap.specs.declared.Stored.the-variants as stored
 use Rattle.opcode.specs.Opcode.{operationAt}
 use Rattle.rows.specs.declared.Row.{Row}
 use Rattle.state.specs.Leads.{Current}
-use Rattle.state.specs.Arms.{RegisterArm}
+use Rattle.state.specs.Own.{StoresCell}
+use Rattle.state.specs.Arms.{RegisterArm, CursorArm}
 use Rattle.state.specs.Steps.{JumpArm}
 use Rattle.state.specs.declared.MemoryState.{MemoryState}
 use Rattle.state.specs.declared.Way.the-variants as way
 use Rattle.state.specs.declared.Step.the-variants as step
+use Rattle.cursor_arms.specs.Cursors.{ReadsCursor}
+use Rattle.cursor_arms.specs.StandsFor.{FindsColumns}
+use Rattle.cursor_arms.specs.declared.CursorDataType.{CursorDataType}
+use Rattle.column_arms.specs.Columns.{DirectAt}
 use Rattle.jump_arms.specs.Arms.{Ready, at}
 use Rattle.root_block.specs.Blocks.{IsBlocks}
 use Rattle.explain.specs.Handles.{Handles}
@@ -38,6 +47,33 @@ pub record RegisterNear (cs ds : List Cell) (base end op i j k : ℕ) (r : Bool)
   pub arm : RegisterOperation
   pub is : r ≡ true → operationAt op ≡ registers arm
   pub near : ArmNear cs ds base end i j k arm r
+
+-- the head of the table that cursor i is on is at p, in any map from `base` on and before `end`; or p is `end`
+pub record OnTable (cs : List Cell) (a : IntMap) (i p : ℕ) : Type 0 where
+  pub cursor : CursorDataType
+  pub reads : ReadsCursor cs a i cursor
+  pub finds : FindsColumns cs a cursor (slot.At p)
+
+pub record TableNear (cs : List Cell) (base end i p : ℕ) : Type 0 where
+  pub low : base ≤ p
+  pub high : p ≤ end
+  pub is : p < end → (a : IntMap) → a .base ≡ base → a .base + a .used ≡ end → (limit : ℕ) → Current limit cs a → OnTable cs a i p
+
+-- a column that stands at its distance from the head at p was stored over register j's own cell, in any such map; or nothing has changed
+pub record ColumnStored (limit : ℕ) (cs ds : List Cell) (a : IntMap) (p key j : ℕ) : Type 0 where
+  pub cell : Cell
+  pub there : cell ≡ getD cs (p + 1 + key) blank
+  pub direct : DirectAt cs a p (getD cs p blank .payload) key
+  pub stored : StoresCell limit cs ds a 0 j cell (stored.Done a)
+
+pub record ColumnNear (cs ds : List Cell) (base end p key j : ℕ) (r : Bool) : Type 0 where
+  pub yes : r ≡ true → (a : IntMap) → a .base ≡ base → a .base + a .used ≡ end → (limit : ℕ) → HasRoom cs limit a → ColumnStored limit cs ds a p key j
+  pub no : r ≡ false → ds ≡ cs
+
+-- an arm that uses a cursor was met, on whatever row it stands, or nothing has changed
+pub record CursorNear (cs ds : List Cell) (base end i j k : ℕ) (o : CursorOperation) (r : Bool) : Type 0 where
+  pub yes : r ≡ true → (x : Row) → Operands x i j k → (a : IntMap) → a .base ≡ base → a .base + a .used ≡ end → (limit : ℕ) → Current limit cs a → (row : ℕ) → CursorArm limit cs ds a row x o (stored.Done a)
+  pub no : r ≡ false → ds ≡ cs
 
 -- the row, if it is one of the listing's n
 pub record WithinListing (row n r : ℕ) : Type 0 where

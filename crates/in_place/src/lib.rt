@@ -3,12 +3,13 @@
 ghost use mathlib.Core.Path.{_≡_};
 ghost use Prim.Native.Nat.{ℕ, _+_, _<_, _≤_};
 ghost use Rattle.model.specs.RegisterArms.{copyTo};
-ghost use Rattle.model.specs.Operation.{opArithmetic, opHaltIfNull, opNull, opCopy};
+ghost use Rattle.model.specs.Operation.{opArithmetic, opHaltIfNull, opNull, opCopy, opColumn};
 ghost use Rattle.area.specs.Cells.{cells};
 ghost use Rattle.intmap.specs.Signed.{intOf};
 ghost use Rattle.rows.specs.Rows.{Operand};
 ghost use Rattle.state.specs.Own.{HeldAmong, LeadsNear};
-ghost use Rattle.in_place.specs.InPlace.{ArmNear, RegisterNear, ReadyAt, WithinListing, JumpNear, HandlesNear};
+ghost use Rattle.in_place.specs.InPlace.{ArmNear, RegisterNear, TableNear, ColumnNear, CursorNear, ReadyAt, WithinListing, JumpNear, HandlesNear};
+use intmap::Index;
 use state::Register;
 use type_info::DataType;
 
@@ -130,6 +131,74 @@ fn register(area: &mut [u8], base: usize, end: usize, op: u8, i: u64, j: u64, k:
     }
 }
 
+// Where the head of the table is that cursor i is on, if both are among the last entries, or `end`.
+fn table(area: &[u8], base: usize, end: usize, i: u64) -> usize
+    requires { ⌜ HeldAmong (cells (now area)) base end ⌝ }
+    ensures { λ r. ⌜ TableNear (cells (now (area .entry))) base end i r ⌝ }
+{
+    let x = intmap::judge_index(i);
+    let Index::At(k) = x else {
+        return end;
+    };
+    let p = state::last_near(area, base, end, cursor_arms::CURSORS, k);
+    if end <= p {
+        return end;
+    }
+    let c = area::cell_at(area, p);
+    if intmap::tag_of(c) != intmap::NORMAL {
+        return end;
+    }
+    let q = state::last_near(area, base, end, cursor_arms::TABLES, c.payload % 65536);
+    if end <= q {
+        return end;
+    }
+    if intmap::tag_of(area::cell_at(area, q)) != intmap::RECORD {
+        return end;
+    }
+    q
+}
+
+// Stores the column of a key, in a table of columns of one cell each whose head is at p, over register j's own cell.
+fn column_at(area: &mut [u8], base: usize, end: usize, p: usize, key: u64, j: u64) -> bool
+    requires { ⌜ HeldAmong (cells (now area)) base end × (base ≤ p) × (p < end) × (key ≤ 65535) ⌝ }
+    ensures { λ r. ⌜ ColumnNear (cells (now (area .entry))) (cells (now (area .exit))) base end p key j r ⌝ }
+{
+    let head = area::cell_at(area, p);
+    if head.payload <= key {
+        return false;
+    }
+    if !state::flat_before(area, end, p, head.payload) {
+        return false;
+    }
+    let c = area::cell_at(area, p + 1 + key as usize);
+    if intmap::tag_of(c) == intmap::RECORD {
+        return false;
+    }
+    if !intmap::has_key(c, key) {
+        return false;
+    }
+    state::write_near(area, base, end, j, c.head, c.payload)
+}
+
+// Column, of a cursor on a table. Where register P3 is not there, it is given up at once.
+fn column(area: &mut [u8], base: usize, end: usize, i: u64, j: u64, k: u64) -> bool
+    requires { ⌜ HeldAmong (cells (now area)) base end ⌝ }
+    ensures { λ r. ⌜ CursorNear (cells (now (area .entry))) (cells (now (area .exit))) base end i j k opColumn r ⌝ }
+{
+    let x = intmap::judge_index(j);
+    let Index::At(key) = x else {
+        return false;
+    };
+    if end <= state::register_near(area, base, end, k) {
+        return false;
+    }
+    let p = table(area, base, end, i);
+    if end <= p {
+        return false;
+    }
+    column_at(area, base, end, p, key, k)
+}
+
 // A row of the listing, or 0.
 fn listed(row: u64, n: usize) -> u64
     ensures { λ r. ⌜ WithinListing row n r ⌝ }
@@ -206,14 +275,20 @@ pub fn next_row(
     if op < opcode::OP_IF_POS {
         return jump(area, at, base, end, op, i, j, k, n);
     }
-    if opcode::OP_CONSTANT_BLOB < op {
-        return 0;
-    }
     let next = listed(at + 1, n);
     if next == 0 {
         return 0;
     }
-    if register(area, base, end, op, i, j, k) {
+    if op < opcode::OP_COLUMN {
+        if register(area, base, end, op, i, j, k) {
+            return next;
+        }
+        return 0;
+    }
+    if opcode::OP_COLUMN < op {
+        return 0;
+    }
+    if column(area, base, end, i, j, k) {
         return next;
     }
     0

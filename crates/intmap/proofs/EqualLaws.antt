@@ -1,19 +1,19 @@
 -- Columns that compare the same have the same cells, and the other way round; so with two maps. Assumes nothing.
-use mathlib.Core.Path.{_≡_, refl, sym, ap, _∙_}
+use mathlib.Core.Path.{_≡_, refl, sym, ap, ap₂, subst, _∙_}
 use mathlib.Core.List.{List, _∷_}
 use mathlib.Core.Bool.{Bool, true, false, _&&_, false≢true}
 use Prim.Native.Nat.{ℕ, zero, suc, _+_, _-_, _<_, _≤_}
 use native.Mathlib.Omega.{arith}
 use native.Mathlib.Decide.{decLt}
 use lib.ListN.{length, getD}
-use lib.Dec.{eqb}
-use borrow.Author.Tests.{eq-eqb, eqb-true}
-use Rattle.area.specs.Cells.{blank}
+use lib.Dec.{eqb, ltb}
+use borrow.Author.Tests.{eq-eqb, eqb-true, ltb-true, ltb-false}
+use Rattle.area.specs.Cells.{blank, cell}
 use Rattle.area.specs.declared.Cell.{Cell}
 use Rattle.intmap.specs.Pack.{tagOf}
 use Rattle.intmap.specs.Runs.{size, sizes, whole, sameCell, eachSame, inside, eqColumn, eqColumns, Agree}
 use Rattle.intmap.specs.Entries.{Runs, span, entries}
-use Rattle.intmap.specs.Map.{levels, runsAt, IsMap, Compares}
+use Rattle.intmap.specs.Map.{levels, runsAt, IsMap, SameCells, Compares}
 use Rattle.intmap.specs.declared.IntMap.{IntMap}
 use Rattle.intmap.proofs.RunLaws.{size-pos, and-left, and-right, same-cell}
 use Rattle.intmap.proofs.SameCells.{agree-part, agree-first, agree-head, size-same}
@@ -122,6 +122,28 @@ module _ (cs : List Cell) where
   entries-eqs d (suc n) a b e =
       both-true _ _ (agree-eq d a b (span-agree (size cs d a) (size cs d b) a b (run-one _ _ _ _ e))) (entries-eqs d n (a + size cs d a) (b + size cs d b) (run-two _ _ _ _ e))
 
+-- ---- cells, whatever they stand for
+
+module _ (cs : List Cell) (a b k : ℕ) (x y : Cell) (xe : x ≡ getD cs (a + k) blank) (ye : y ≡ getD cs (b + k) blank) where
+  pub cells-differ : {n : ℕ} → k < n → (x ≡ y → ⊥) → SameCells cs a b n false
+  cells-differ lt ne = record { yes = λ e. absurd (false≢true e); no = λ _ agree. ne (xe ∙ sym (agree k lt) ∙ sym ye) }
+
+  pub cells-turn : SameCells cs a b k true → x .head ≡ y .head → x .payload ≡ y .payload → SameCells cs a b (k + 1) true
+  cells-turn same heads payloads = record { yes = λ _ j lt. go j lt (ltb j k) refl; no = λ e. absurd (false≢true (sym e)) }
+    where
+      alike : y ≡ x
+      alike = ap₂ cell (sym heads) (sym payloads)
+
+      go : (j : ℕ) → j < k + 1 → (t : Bool) → ltb j k ≡ t → getD cs (b + j) blank ≡ getD cs (a + j) blank
+      go j lt true e = same .yes refl j (ltb-true j k e)
+      go j lt false e = subst (λ z. getD cs (b + z) blank ≡ getD cs (a + z) blank) (omega (arith, lt, ltb-false j k e)) (sym ye ∙ alike ∙ xe)
+
+pub cells-none : {cs : List Cell} {a b : ℕ} → SameCells cs a b 0 true
+cells-none = record { yes = λ _ j lt. absurd (omega (arith, lt)); no = λ e. absurd (false≢true (sym e)) }
+
+pub cells-all : {cs : List Cell} {a b n k : ℕ} → n ≤ k → SameCells cs a b k true → SameCells cs a b n true
+cells-all le same = record { yes = λ _ j lt. same .yes refl j (omega (arith, le, lt)); no = λ e. absurd (false≢true (sym e)) }
+
 -- ---- two maps
 module _ (cs : List Cell) (a b : IntMap) where
   pub other-len : (a .len ≡ b .len → ⊥) → Compares cs a b false
@@ -141,3 +163,11 @@ module _ (cs : List Cell) (a b : IntMap) where
 
   pub other-fits : a .len ≡ b .len → IsMap cs b → b .base + sizes (size cs levels) (a .len) (b .base) ≤ length cs
   other-fits n is = rw n (omega (arith, is .used, is .inside))
+
+  -- the same cells are the same entries
+  pub same-entries : a .len ≡ b .len → IsMap cs a → {r : Bool} → SameCells cs (a .base) (b .base) (a .used) r → r ≡ true → Compares cs a b true
+  same-entries n is same e =
+      record {
+        sound = λ _. sym (ap (λ (k : ℕ). entries cs levels k (b .base)) (sym n) ∙ entries-same cs cs levels (a .len) (a .base) (b .base) (λ j lt. same .yes e j (omega (arith, lt, is .used))));
+        complete = λ _. refl;
+      }

@@ -2,12 +2,12 @@
 -- 01, "Shapes that change": "present entries in order at fixed places in the area". Assumes nothing.
 use mathlib.Core.Path.{_≡_}
 use mathlib.Core.List.{List}
-use mathlib.Core.Bool.{Bool, true}
+use mathlib.Core.Bool.{Bool, true, false}
 use Prim.Native.Nat.{ℕ, _+_, _<_, _≤_}
 use lib.ListN.{length, getD}
 use Rattle.area.specs.Cells.{blank}
 use Rattle.area.specs.declared.Cell.{Cell}
-use Rattle.intmap.specs.Runs.{size, sizes}
+use Rattle.intmap.specs.Runs.{size, sizes, Agree}
 use Rattle.intmap.specs.Entries.{Runs, entries}
 use Rattle.intmap.specs.declared.IntMap.{IntMap}
 
@@ -41,6 +41,11 @@ pub record Frame (cs ds : List Cell) (base n : ℕ) : Type 0 where
   pub long : length ds ≡ length cs
   pub below : (j : ℕ) → j < base → getD ds j blank ≡ getD cs j blank
   pub above : (j : ℕ) → base + n ≤ j → getD ds j blank ≡ getD cs j blank
+
+-- the answer is whether the n cells from a on are those from b on
+pub record SameCells (cs : List Cell) (a b n : ℕ) (r : Bool) : Type 0 where
+  pub yes : r ≡ true → Agree cs a cs b n
+  pub no : r ≡ false → Agree cs a cs b n → ⊥
 
 -- the answer is whether the entries of two maps are the same. 01, "The walk": "States are equal when their present entries are equal"
 pub record Compares (cs : List Cell) (a b : IntMap) (r : Bool) : Type 0 where

@@ -9,7 +9,7 @@ ghost use Rattle.intmap.specs.Pack.{Parts, head, tagOf, kindOf, nullable
 ghost use Rattle.intmap.specs.Runs.{size, sizes, IsColumn, AreColumns, eqColumn, eqColumns, Copyable, Copied};
 ghost use Rattle.intmap.specs.Depth.{nesting};
 ghost use Rattle.intmap.specs.Find.{seek};
-ghost use Rattle.intmap.specs.Map.{levels, empty, IsMap, HasRoom, Compares, CopiedMap};
+ghost use Rattle.intmap.specs.Map.{levels, empty, IsMap, HasRoom, SameCells, Compares, CopiedMap};
 ghost use Rattle.intmap.specs.Store.{RoomMade, IsFound, Opens, Inserts, NewAt, RunAbove, Removes, asStored, Stores, RemovesAt};
 ghost use Rattle.intmap.specs.Get.{Judges, Gets};
 ghost use Rattle.intmap.specs.Change.{rekey, Writable, FromElem};
@@ -182,6 +182,26 @@ pub fn record_eq(area: &[u8], a: usize, b: usize, n: u64, depth: usize) -> bool
         }
         k += count(area, a + k, depth);
         left -= 1;
+    }
+    true
+}
+
+// Whether the n cells from a on are the same as those from b on, whatever they stand for.
+fn same_cells(area: &[u8], a: usize, b: usize, n: usize) -> bool
+    requires { ⌜ (a + n ≤ length (cells (now area))) × (b + n ≤ length (cells (now area))) × (length (cells (now area)) ≤ 1048576) ⌝ }
+    ensures { λ r. ⌜ SameCells (cells (now (area .entry))) a b n r ⌝ }
+{
+    let mut k: usize = 0;
+    while k < n {
+        let x = area::cell_at(area, a + k);
+        let y = area::cell_at(area, b + k);
+        if x.head != y.head {
+            return false;
+        }
+        if x.payload != y.payload {
+            return false;
+        }
+        k += 1;
     }
     true
 }
@@ -630,13 +650,18 @@ impl IntMap {
         }
     }
 
-    // Whether two maps have the same entries.
+    // Whether two maps have the same entries. States that are compared are nearly always the same, and then all their cells are.
     pub fn eq(self, area: &[u8], other: IntMap) -> bool
         requires { ⌜ IsMap (cells (now area)) self × IsMap (cells (now area)) other ⌝ }
         ensures { λ r. ⌜ Compares (cells (now (area .entry))) self other r ⌝ }
     {
         if self.len != other.len {
             return false;
+        }
+        if self.used == other.used {
+            if same_cells(area, self.base, other.base, self.used) {
+                return true;
+            }
         }
         record_eq(area, self.base, other.base, self.len, LEVELS)
     }

@@ -39,7 +39,7 @@ use Rattle.intmap.proofs.Overwritten.{alike, alike-room, overwritten}
 use Rattle.intmap.proofs.PackLaws.{keyed-tag, keyed-key}
 use Rattle.encoding.proofs.Places.{sizes-many, held-place}
 use Rattle.state.specs.Leads.{HoldsMap, Leaves, Held, Leads}
-use Rattle.state.specs.Own.{foundSlot, entrySlot, isAt, isFlat, HeldAmong, Guesses, FlatSize, Reaches, EntryBelow, Belongs, Locates, HasKey, Own, PutsPlain, OverwritesOwn, StoresCell, WritesNear, LeadsNear, GetsNear, Overwrites}
+use Rattle.state.specs.Own.{foundSlot, entrySlot, isAt, isFlat, HeldAmong, Guesses, FlatSize, Reaches, EntryBelow, Belongs, Locates, HasKey, Own, PutsPlain, OverwritesOwn, StoresCell, WritesNear, LeadsNear, GetsNear, EntryNear, Overwrites}
 use Rattle.state.proofs.StoreLeads.{wider}
 
 -- what the tests of a cell tell
@@ -297,6 +297,21 @@ module _ (cs : List Cell) (a : IntMap) (class k key : ℕ) (ke : key ≡ classKe
       let same = ap (λ n. seek cs levels n (a .len) (a .base)) (has .is) in
       ap slot.At (sym (w .0) ∙ ap (λ f. f .at) same) ∙ entry-there (seek cs levels key (a .len) (a .base)) refl (sym (ap (λ f. f .present) same) ∙ w .1)
 
+-- which of a slot's cases it is, as a number
+abbrev pub case : Slot → ℕ
+case (slot.Bad n) = 0
+case slot.Absent = 1
+case (slot.At p) = 2
+
+-- what an entry that is there says of the search
+pub entry-led : (cs : List Cell) (a : IntMap) (class k p : ℕ) → entrySlot cs a class k ≡ slot.At p → (seek cs levels (classKey class k) (a .len) (a .base) .present ≡ true) × (seek cs levels (classKey class k) (a .len) (a .base) .at ≡ p)
+unfolding entrySlot
+entry-led cs a class k p e = go (seek cs levels (classKey class k) (a .len) (a .base) .present) refl e
+  where
+    go : (b : Bool) → seek cs levels (classKey class k) (a .len) (a .base) .present ≡ b → pick b (slot.At (seek cs levels (classKey class k) (a .len) (a .base) .at)) slot.Absent ≡ slot.At p → (seek cs levels (classKey class k) (a .len) (a .base) .present ≡ true) × (seek cs levels (classKey class k) (a .len) (a .base) .at ≡ p)
+    go true h s = (h, cc)
+    go false h s = absurd (omega (arith, ap case s))
+
 -- by its index
 pub entry-gets : (cs : List Cell) (a : IntMap) (class i k : ℕ) (x : Index) → Judges i x → IsMap cs a → x ≡ index-is.At k → (r : Slot) → r ≡ entrySlot cs a class k → Gets cs a class i r
 unfolding entrySlot
@@ -441,6 +456,14 @@ gets-near {cs} {i = i} {k} {key} {p} {x} judges xe ke g =
       is = λ lt a first last held.
           entry-gets cs a 0 i k x judges (held .map) xe (slot.At p)
           (entry-hinted cs a 0 k key ke held p (record { low = omega (arith, first, g .low); inside = omega (arith, last, lt); is = g .is lt }));
+    }
+
+pub entry-near : {cs : List Cell} {base end class k key p : ℕ} → key ≡ classKey class k → Guesses cs base end key p → EntryNear cs base end class k p
+entry-near {cs} {class = class} {k} {key} {p} ke g =
+    record {
+      low = g .low;
+      high = g .high;
+      is = λ lt a first last held. entry-hinted cs a class k key ke held p (record { low = omega (arith, first, g .low); inside = omega (arith, last, lt); is = g .is lt });
     }
 
 pub gets-nowhere : {cs : List Cell} {base end i : ℕ} → GetsNear cs base end i end

@@ -140,3 +140,13 @@ pub record LeadsNear (cs ds : List Cell) (base end : ℕ) (f : ℕ → MemorySta
 pub record GetsNear (cs : List Cell) (base end i p : ℕ) : Type 0 where
   pub high : p ≤ end
   pub is : p < end → (a : IntMap) → a .base ≡ base → a .base + a .used ≡ end → Held cs a → Gets cs a 0 i (slot.At p)
+
+-- the entry of place k in a class is at p; or p is `end`
+pub record EntryNear (cs : List Cell) (base end class k p : ℕ) : Type 0 where
+  pub low : base ≤ p
+  pub high : p ≤ end
+  pub is : p < end → (a : IntMap) → a .base ≡ base → a .base + a .used ≡ end → Held cs a → slot.At p ≡ entrySlot cs a class k
+
+-- the answer is what `isFlat` gives, in any map whose cells are before `end`
+pub record FlatBefore (cs : List Cell) (end at n : ℕ) (r : Bool) : Type 0 where
+  pub is : (a : IntMap) → a .base + a .used ≡ end → r ≡ isFlat cs a at n

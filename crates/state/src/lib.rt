@@ -16,7 +16,7 @@ ghost use Rattle.encoding.specs.Encode.{single};
 ghost use Rattle.encoding.specs.Decode.{nullables};
 ghost use Rattle.rows.specs.Rows.{Operand};
 ghost use Rattle.state.specs.Leads.{Held, Current, Leads};
-ghost use Rattle.state.specs.Own.{entrySlot, isAt, isFlat, HeldAmong, Guesses, FlatSize, Reaches, EntryBelow, Belongs, Locates, PutsPlain, OverwritesOwn, StoresCell, WritesNear, LeadsNear, GetsNear, Overwrites};
+ghost use Rattle.state.specs.Own.{entrySlot, isAt, isFlat, HeldAmong, Guesses, FlatSize, Reaches, EntryBelow, Belongs, Locates, PutsPlain, OverwritesOwn, StoresCell, WritesNear, LeadsNear, GetsNear, EntryNear, FlatBefore, Overwrites};
 ghost use Rattle.state.specs.Reads.{registerIn, Reads};
 use area::Cell;
 use intmap::Found;
@@ -332,12 +332,11 @@ fn locate(area: &[u8], base: usize, end: usize, key: u64) -> usize
     far(area, base, end, key)
 }
 
-// Whether the n cells behind `at` are followed by an entry or by the map's end.
-pub fn is_flat(map: IntMap, area: &[u8], at: usize, n: u64) -> bool
-    requires { ⌜ IsMap (cells (now area)) map × (map .base ≤ at) × (at < map .base + map .used) ⌝ }
-    ensures { λ r. ⌜ r ≡ isFlat (cells (now (area .entry))) map at n ⌝ }
+// Whether the n cells behind `at` are followed by an entry or by `end`, where the map's are.
+pub fn flat_before(area: &[u8], end: usize, at: usize, n: u64) -> bool
+    requires { ⌜ (at < end) × (end ≤ length (cells (now area))) × (length (cells (now area)) ≤ 1048576) ⌝ }
+    ensures { λ r. ⌜ FlatBefore (cells (now (area .entry))) end at n r ⌝ }
 {
-    let end = map.base + map.used;
     if ((end - at) as u64) <= n {
         return false;
     }
@@ -346,6 +345,14 @@ pub fn is_flat(map: IntMap, area: &[u8], at: usize, n: u64) -> bool
         return true;
     }
     intmap::begins(area::cell_at(area, next))
+}
+
+// The same, of a map.
+pub fn is_flat(map: IntMap, area: &[u8], at: usize, n: u64) -> bool
+    requires { ⌜ IsMap (cells (now area)) map × (map .base ≤ at) × (at < map .base + map .used) ⌝ }
+    ensures { λ r. ⌜ r ≡ isFlat (cells (now (area .entry))) map at n ⌝ }
+{
+    flat_before(area, map.base + map.used, at, n)
 }
 
 // Where the entry of a place in a class is: at once, or by a search of all entries.
@@ -474,6 +481,14 @@ pub fn write_near(area: &mut [u8], base: usize, end: usize, i: u64, head: u64, p
         return false;
     }
     put_plain(area, p, key, Cell { head, payload })
+}
+
+// Where the entry of place k in a class is, if it is one of the last, or `end`.
+pub fn last_near(area: &[u8], base: usize, end: usize, class: u64, k: u64) -> usize
+    requires { ⌜ HeldAmong (cells (now area)) base end × (class < 3) × (k ≤ 65535) ⌝ }
+    ensures { λ r. ⌜ EntryNear (cells (now (area .entry))) base end class k r ⌝ }
+{
+    near_last(area, base, end, intmap::class_key(class, k))
 }
 
 // Where register i's cell is, if that is at its distance from the first entry, or `end`.

@@ -8,8 +8,7 @@ use native.Mathlib.Omega.{arith}
 use lib.ListN.{length}
 use Rattle.area.specs.Cells.{cells}
 use Rattle.intmap.specs.Signed.{intOf}
-use Rattle.intmap.proofs.StoreLaws.{room-map}
-use Rattle.state.proofs.LeadsLaws.{Reached, led-map}
+use Rattle.state.proofs.LeadsLaws.{Reached, led-map, current-held}
 use Rattle.copy_arms.specs.Copies.{carryMany}
 use Rattle.copy_arms.proofs.TurnLaws.{turns-first, turns-run, turns-end, turns-stop, turns-on}
 use Rattle.copy_arms.proofs.carry_many.Statement.{statement}
@@ -34,7 +33,7 @@ sub-carry-run : tie.Need-sub-carry-run Inv-loop μ-loop
 sub-carry-run c = omega arith
 
 carry-run-requires : tie.Need-carry-run-requires Inv-loop μ-loop
-carry-run-requires c κs = room-map (c .before .before .loop .inv .2 .current .room)
+carry-run-requires c κs = current-held (c .before .before .loop .inv .2 .current)
 
 add-done : tie.Need-add-done Inv-loop μ-loop
 add-done c = omega (arith, c .before .before .carry-run .ensures .most)

@@ -1,11 +1,10 @@
 -- `copy_arms::carry_run` looks for both registers, and carries from there. Assumes nothing.
-use borrow.Author.Tests.{not-false}
-use borrow.Author.Needs.{needs}
 use mathlib.Core.Path.{subst}
 use native.Mathlib.Omega.{arith}
 use Rattle.intmap.specs.Get.{Within}
-use Rattle.copy_arms.proofs.PlaceLaws.{leading-first}
+use Rattle.copy_arms.proofs.PlaceLaws.{leading-entry}
 use Rattle.copy_arms.proofs.TurnLaws.{run-none, run-of}
+use borrow.Author.Needs.{needs}
 use Rattle.copy_arms.proofs.carry_run.Statement.{statement}
 use Rattle.copy_arms.proofs.carry_run.Tie as tie
 
@@ -33,11 +32,11 @@ enum-told-2 c = search needs
 returns-2 : tie.Need-returns-2
 returns-2 c = run-none _ _ _ _ _ _
 
-class-key-requires : tie.Need-class-key-requires
-class-key-requires c κs = (omega arith, subst Within (c .before .before .y .given .1) (c .before .before .before .before .judge-index2 .ensures .small))
+entry-at-requires : tie.Need-entry-at-requires
+entry-at-requires c κs = (c .before .before .before .before .before .before .before .before .before .before .pre, omega arith, subst Within (c .before .before .y .given .1) (c .before .before .before .before .judge-index2 .ensures .small))
 
-find-requires : tie.Need-find-requires
-find-requires c κs = search needs
+enum-known-target : tie.Need-enum-known-target
+enum-known-target c = search needs
 
 same-length : tie.Need-same-length
 same-length c = search needs
@@ -45,11 +44,11 @@ same-length c = search needs
 returns-3 : tie.Need-returns-3
 returns-3 c = run-none _ _ _ _ _ _
 
-class-key-requires-2 : tie.Need-class-key-requires-2
-class-key-requires-2 c κs = (omega arith, subst Within (c .before .before .before .before .before .before .before .before .before .before .before .x .given .1) (c .before .before .before .before .before .before .before .before .before .before .before .before .before .judge-index .ensures .small))
+entry-at-requires-2 : tie.Need-entry-at-requires-2
+entry-at-requires-2 c κs = (c .before .before .before .before .before .before .before .before .before .before .before .before .before .before .before .pre, omega arith, subst Within (c .before .before .before .before .before .before .before .before .before .before .before .x .given .1) (c .before .before .before .before .before .before .before .before .before .before .before .before .before .judge-index .ensures .small))
 
-find-requires-2 : tie.Need-find-requires-2
-find-requires-2 c κs = search needs
+enum-known-source : tie.Need-enum-known-source
+enum-known-source c = search needs
 
 same-length-2 : tie.Need-same-length-2
 same-length-2 c = search needs
@@ -58,7 +57,7 @@ returns-4 : tie.Need-returns-4
 returns-4 c = run-none _ _ _ _ _ _
 
 carry-cells-requires : tie.Need-carry-cells-requires
-carry-cells-requires c κs = (c .before .before .before .before .before .before .before .before .before .before .before .before .before .before .before .before .before .before .before .before .pre, leading-first _ _ _ _ _ (c .before .before .before .before .before .before .before .before .before .before .before .before .before .before .before .before .before .before .before .before .pre) (c .before .before .before .before .class-key2 .ensures) (c .before .before .before .find2 .ensures) (not-false _ (c .before .if2 .left)), leading-first _ _ _ _ _ (c .before .before .before .before .before .before .before .before .before .before .before .before .before .before .before .before .before .before .before .before .pre) (c .before .before .before .before .before .before .before .before .before .class-key .ensures) (c .before .before .before .before .before .before .before .before .find .ensures) (not-false _ (c .before .before .before .before .before .before .if1 .left)), subst Within (c .before .before .before .before .before .before .before .before .before .before .before .before .before .before .before .before .x .given .1) (c .before .before .before .before .before .before .before .before .before .before .before .before .before .before .before .before .before .before .judge-index .ensures .small), subst Within (c .before .before .before .before .before .before .before .before .before .before .before .before .y .given .1) (c .before .before .before .before .before .before .before .before .before .before .before .before .before .before .judge-index2 .ensures .small))
+carry-cells-requires c κs = (c .before .before .before .before .before .before .before .before .before .before .before .before .before .before .before .before .before .before .before .before .pre .map, leading-entry (c .before .before .before .before .before .before .before .before .before .before .before .before .before .before .before .before .before .before .before .before .pre .map) (c .before .before .before .before .entry-at2 .ensures) (c .before .before .source .given .1), leading-entry (c .before .before .before .before .before .before .before .before .before .before .before .before .before .before .before .before .before .before .before .before .pre .map) (c .before .before .before .before .before .before .before .before .before .entry-at .ensures) (c .before .before .before .before .before .before .before .target .given .1), subst Within (c .before .before .before .before .before .before .before .before .before .before .before .before .before .before .before .before .x .given .1) (c .before .before .before .before .before .before .before .before .before .before .before .before .before .before .before .before .before .before .judge-index .ensures .small), subst Within (c .before .before .before .before .before .before .before .before .before .before .before .before .y .given .1) (c .before .before .before .before .before .before .before .before .before .before .before .before .before .before .judge-index2 .ensures .small))
 
 same-length-3 : tie.Need-same-length-3
 same-length-3 c = search needs
@@ -78,12 +77,12 @@ carry-run-spec =
     enum-known-y
     enum-told-2
     returns-2
-    class-key-requires
-    find-requires
+    entry-at-requires
+    enum-known-target
     same-length
     returns-3
-    class-key-requires-2
-    find-requires-2
+    entry-at-requires-2
+    enum-known-source
     same-length-2
     returns-4
     carry-cells-requires

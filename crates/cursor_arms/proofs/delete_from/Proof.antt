@@ -1,7 +1,7 @@
 -- `cursor_arms::delete_from` changes the head of the table that it finds. Assumes nothing.
 use mathlib.Core.Path.{ap}
 use native.Mathlib.Omega.{arith}
-use Rattle.cursor_arms.proofs.StandsLaws.{case}
+use Rattle.state.proofs.OwnLaws.{case}
 use Rattle.cursor_arms.proofs.TableLaws.{table-none, table-within, table-there}
 use borrow.Author.Needs.{needs}
 use Rattle.cursor_arms.proofs.delete_from.Statement.{statement}

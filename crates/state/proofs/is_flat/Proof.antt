@@ -1,47 +1,17 @@
 -- `state::is_flat` tests the place behind, then the cell there. Assumes nothing.
-use native.Mathlib.Omega.{arith}
-use Rattle.state.proofs.OwnLaws.{flat-not, flat-end, flat-by}
+use mathlib.Core.Path.{refl}
 use borrow.Author.Needs.{needs}
 use Rattle.state.proofs.is_flat.Statement.{statement}
 use Rattle.state.proofs.is_flat.Tie as tie
 
-add-end : tie.Need-add-end
-add-end c = search needs
+add-flat-before : tie.Need-add-flat-before
+add-flat-before c = search needs
 
-sub-if1 : tie.Need-sub-if1
-sub-if1 c = search needs
+flat-before-requires : tie.Need-flat-before-requires
+flat-before-requires c κs = search needs
 
 returns : tie.Need-returns
-returns c = flat-not _ (c .before .before .before .args .map) _ _ (omega (arith, c .if1 .taken))
-
-add-next : tie.Need-add-next
-add-next c = search needs
-
-add-next-2 : tie.Need-add-next-2
-add-next-2 c = search needs
-
-returns-2 : tie.Need-returns-2
-returns-2 c = flat-end _ (c .before .before .before .before .args .map) _ _ (omega (arith, c .before .if1 .left)) (omega (arith, c .if2 .taken))
-
-cell-at-requires : tie.Need-cell-at-requires
-cell-at-requires c κs = search needs
-
-begins-requires : tie.Need-begins-requires
-begins-requires c κs = search needs
-
-returns-3 : tie.Need-returns-3
-returns-3 c = flat-by _ (c .before .before .before .before .before .before .args .map) _ _ (omega (arith, c .before .before .before .if1 .left)) (λ e. c .before .before .if2 .left (omega (arith, e))) _ (c .before .cell-at .ensures) _ (c .begins .ensures)
+returns c = c .flat-before .ensures .is _ refl
 
 pub is-flat-spec : {M : Type 1} → statement M
-is-flat-spec =
-    tie.close
-    (tie.spec
-    add-end
-    sub-if1
-    returns
-    add-next
-    add-next-2
-    returns-2
-    cell-at-requires
-    begins-requires
-    returns-3)
+is-flat-spec = tie.close (tie.spec add-flat-before flat-before-requires returns)
