@@ -193,12 +193,12 @@ fn same_cells(area: &[u8], a: usize, b: usize, n: usize) -> bool
 {
     let mut k: usize = 0;
     while k < n {
-        let x = area::cell_at(area, a + k);
-        let y = area::cell_at(area, b + k);
-        if x.head != y.head {
+        let c = area::cell_at(area, a + k);
+        let d = area::cell_at(area, b + k);
+        if c.head != d.head {
             return false;
         }
-        if x.payload != y.payload {
+        if c.payload != d.payload {
             return false;
         }
         k += 1;

@@ -233,19 +233,6 @@ module _ {p : Program} {g : Given} {blocks xs cols : List ℕ} {w : Walk} {s : M
           below = omega (arith, r .at, r .within, r .walk .list .few);
         }
 
-    -- for a handling in place, its number and operands
-    pub ready-at : (x : Row) → x ≡ rowIn (getD (cells ys) (rowsFrom p + k) blank) → (op : ℕ) → op ≡ x .op → ReadyAt (cells ys) (s .row) (s .map .base) (s .map .base + s .map .used) op (x .p1) (x .p2) (x .p3)
-    ready-at x e op oe =
-        record {
-          limit = p .limit;
-          state = s;
-          judged = x;
-          ready = is-ready x e;
-          number = sym oe;
-          operands = record { first = refl; second = refl; third = refl };
-          stands = record { on = refl; from = refl; to = refl };
-        }
-
     pub some-rows : SomeRows (cells ys) (rowsFrom p) (p .size)
     some-rows =
         record { inside = omega (arith, fits-inside raised-list); rows = g .rows; have = raised-list .rows; size = r .walk .list .size }
@@ -443,12 +430,28 @@ module _ {p : Program} {blocks xs cols : List ℕ} {w : Walk} {s : MemoryState} 
 
 -- ---- a row that is handled in place
 
+-- what is asked for, and what is said, of its number
+pub ready-near : {limit : ℕ} {cs : List Cell} {s : MemoryState} {x : Row} {op : ℕ} → op ≡ x .op → Ready limit cs s x → ReadyAt cs (s .row) (s .map .base) (s .map .base + s .map .used) op (x .p1) (x .p2) (x .p3)
+ready-near {limit} {s = s} {x} oe ready =
+    record {
+      limit = limit;
+      state = s;
+      judged = x;
+      ready = ready;
+      number = sym oe;
+      operands = record { first = refl; second = refl; third = refl };
+      stands = record { on = refl; from = refl; to = refl };
+    }
+
+pub number-near : {cs ds : List Cell} {row base end op o i j k n r : ℕ} → op ≡ o → HandlesNear cs ds row base end op i j k n r → HandlesNear cs ds row base end o i j k n r
+number-near {cs} {ds} {row} {base} {end} {i = i} {j} {k} {n} {r} e near = subst (λ z. HandlesNear cs ds row base end z i j k n r) e near
+
 module _ {p : Program} {blocks xs cols : List ℕ} {w : Walk} {s : MemoryState} (st : Standing p blocks xs cols w s) (v : Walk) (e : v ≡ chargeOne w) (ys zs : List ℕ) (small : Bytes xs) (less : Bytes ys) (low : Bytes zs) (raised : Raised xs ys (countsFrom p) (s .row - offset)) (long : length zs ≡ length ys) (x : Row) (read : x ≡ rowIn (getD (cells ys) (rowsFrom p + (s .row - offset)) blank)) (handled : ℕ) (is : handled ≡ countAt xs (countsFrom p) (s .row - offset)) where
-  pub turns-in-place : {op next : ℕ} → op ≡ x .op → (next ≡ 0 → ⊥) → HandlesNear (cells ys) (cells zs) (s .row) (s .map .base) (s .map .base + s .map .used) op (x .p1) (x .p2) (x .p3) (p .size) next → handled < 3 → Turns p blocks xs zs cols cols w s (turned.Stays (record { map = s .map; row = next }))
-  turns-in-place {op} {next} oe ne near few =
+  pub turns-in-place : {next : ℕ} → (next ≡ 0 → ⊥) → HandlesNear (cells ys) (cells zs) (s .row) (s .map .base) (s .map .base + s .map .used) (x .op) (x .p1) (x .p2) (x .p3) (p .size) next → handled < 3 → Turns p blocks xs zs cols cols w s (turned.Stays (record { map = s .map; row = next }))
+  turns-in-place {next} ne near few =
       let n : MemoryState = record { map = s .map; row = next } in
       turns-stays st v e ys zs small less low raised long x read (handling.Ways way.Nowhere (way.To n) false) handled is
-      (near .yes ne (p .limit) s x (is-ready (st .holds) ys small less raised x read) (sym oe) (record { first = refl; second = refl; third = refl }) (record { on = refl; from = refl; to = refl }) (rowsFrom p) (p .size) blocks (ltb 0 handled) (is-blocks (st .holds)))
+      (near .yes ne (p .limit) s x (is-ready (st .holds) ys small less raised x read) refl (record { first = refl; second = refl; third = refl }) (record { on = refl; from = refl; to = refl }) (rowsFrom p) (p .size) blocks (ltb 0 handled) (is-blocks (st .holds)))
       n (way.To n) refl refl (listing-in p next (record { above = near .within ne .0; below = omega (arith, near .within ne .0, near .within ne .1) })) few
 
 -- where it was not, nothing has changed

@@ -1,6 +1,9 @@
 // The walk over a listing: `explain` of sqlx-sqlite 0.9.0, src/connection/explain.rs.
 ghost use mathlib.Core.Path.{_≡_};
 ghost use Prim.Native.Nat.{_+_, _<_};
+ghost use Rattle.area.specs.Cells.{cells};
+ghost use Rattle.jump_arms.specs.Arms.{Ready};
+ghost use Rattle.in_place.specs.InPlace.{HandlesNear};
 ghost use Rattle.walk.specs.Walks.{inListing};
 ghost use Rattle.walk.specs.Loop.{Walking, withBranches, withCounts, Takes, TakesUp, GoesOn, Holding, Turning, Offering, AddsBranch, MayOffer, noteRepeated, FollowsWays, AddsThree, FollowsThree, withWidth, Resulting, FollowsResult, MayFollow, Follows, alone, chargeOne, stopLoop, stopGas, Standing, Turns, Closes, ClosesCurrent, Running, Runs};
 use branches::BranchList;
@@ -9,6 +12,7 @@ use branches::Pushed;
 use counters::Counters;
 use explain::Handling;
 use intmap::IntMap;
+use rows::Row;
 use state::MemoryState;
 use state::Way;
 
@@ -318,6 +322,17 @@ fn gas_stop(w: Walk) -> Walk
     with_counts(w, counters::gas_stop(c))
 }
 
+// Where the state goes on to, if the row is handled in place, or 0.
+fn next_in_place(s: MemoryState, area: &mut [u8], x: Row, p: Program) -> u64
+    requires { ⌜ Ready (p .limit) (cells (now area)) s x ⌝ }
+    ensures { λ r. ⌜ HandlesNear (cells (now (area .entry))) (cells (now (area .exit))) (s .row) (s .map .base) (s .map .base + s .map .used) (x .op) (x .p1) (x .p2) (x .p3) (p .size) r ⌝ }
+{
+    let m = s.map;
+    let op = explain::number(x);
+    let end = m.base + m.used;
+    in_place::next_row(area, s.row, m.base, end, op, x.p1, x.p2, x.p3, p.size)
+}
+
 // A turn of the walk: the row that the current lineage is on is charged; a lineage that has handled it three times is closed, else it is handled.
 fn take_turn(
     w: Walk,
@@ -340,19 +355,9 @@ fn take_turn(
     area::raise_count(area, from + p.size, k);
     let x = rows::row_at(area, from, k);
     let m = s.map;
-    let next = in_place::next_row(
-        area,
-        s.row,
-        m.base,
-        m.base + m.used,
-        explain::number(x),
-        x.p1,
-        x.p2,
-        x.p3,
-        p.size,
-    );
-    if next != 0 {
-        return Turn::Stays(MemoryState { map: m, row: next });
+    let row = next_in_place(s, area, x, p);
+    if row != 0 {
+        return Turn::Stays(MemoryState { map: m, row });
     }
     let h = explain::handle(
         s.row,
