@@ -49,12 +49,18 @@ pub struct Bench {
     budget: Duration,
 }
 
+/// Nothing is finite where the clock did not move, as a shared machine's sometimes does not.
 fn seconds(times: usize, run: &mut impl FnMut()) -> f64 {
     let start = processor_time();
     for _ in 0..times {
         run();
     }
-    (processor_time() - start) / times as f64
+    let spent = (processor_time() - start) / times as f64;
+    if spent > 0.0 {
+        spent
+    } else {
+        f64::INFINITY
+    }
 }
 
 /// The least time of several runs in microseconds, within the budget where it can be.
@@ -63,7 +69,7 @@ fn best(budget: Duration, mut run: impl FnMut()) -> f64 {
     let mut least = seconds(1, &mut run);
     let together = (BRIEF / least).clamp(1.0, 50.0) as usize;
     for n in 1..MOST_RUNS {
-        if least > SLOW || n >= LEAST_RUNS && start.elapsed() > budget {
+        if least.is_finite() && least > SLOW || n >= LEAST_RUNS && start.elapsed() > budget {
             break;
         }
         least = least.min(seconds(together, &mut run));
