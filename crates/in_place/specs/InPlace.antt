@@ -48,24 +48,26 @@ pub record RegisterNear (cs ds : List Cell) (base end op i j k : ℕ) (r : Bool)
   pub is : r ≡ true → operationAt op ≡ registers arm
   pub near : ArmNear cs ds base end i j k arm r
 
--- the head of the table that cursor i is on is at p, in any map from `base` on and before `end`; or p is `end`
+-- the head of cursor i's columns is at p
 pub record OnTable (cs : List Cell) (a : IntMap) (i p : ℕ) : Type 0 where
   pub cursor : CursorDataType
   pub reads : ReadsCursor cs a i cursor
   pub finds : FindsColumns cs a cursor (slot.At p)
 
+-- it is, in any map from `base` on and before `end`; or p is `end`
 pub record TableNear (cs : List Cell) (base end i p : ℕ) : Type 0 where
   pub low : base ≤ p
   pub high : p ≤ end
   pub is : p < end → (a : IntMap) → a .base ≡ base → a .base + a .used ≡ end → (limit : ℕ) → Current limit cs a → OnTable cs a i p
 
--- a column that stands at its distance from the head at p was stored over register j's own cell, in any such map; or nothing has changed
+-- the column of a key, which stands at its distance from the head at p, was stored over register j's own cell
 pub record ColumnStored (limit : ℕ) (cs ds : List Cell) (a : IntMap) (p key j : ℕ) : Type 0 where
   pub cell : Cell
   pub there : cell ≡ getD cs (p + 1 + key) blank
   pub direct : DirectAt cs a p (getD cs p blank .payload) key
   pub stored : StoresCell limit cs ds a 0 j cell (stored.Done a)
 
+-- it was, in any such map; or nothing has changed
 pub record ColumnNear (cs ds : List Cell) (base end p key j : ℕ) (r : Bool) : Type 0 where
   pub yes : r ≡ true → (a : IntMap) → a .base ≡ base → a .base + a .used ≡ end → (limit : ℕ) → HasRoom cs limit a → ColumnStored limit cs ds a p key j
   pub no : r ≡ false → ds ≡ cs
@@ -100,6 +102,7 @@ pub record ReadyAt (cs : List Cell) (row base end op i j k : ℕ) : Type 0 where
 pub record GoesOn (cs ds : List Cell) (row base end i j k r : ℕ) (o : JumpOperation) : Type 0 where
   pub arm : (limit : ℕ) (s : MemoryState) (x : Row) → Ready limit cs s x → Operands x i j k → StandsAt s row base end → JumpArm limit cs ds s x o (step.Ways way.Nowhere (way.To (at r (s .map))))
 
+-- it is that of the operation that the number stands for, and r is one of the listing's n rows; or nothing has changed
 pub record JumpNear (cs ds : List Cell) (row base end op i j k n r : ℕ) : Type 0 where
   pub arm : JumpOperation
   pub is : (r ≡ 0 → ⊥) → operationAt op ≡ jumps arm

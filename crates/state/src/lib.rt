@@ -332,7 +332,7 @@ fn locate(area: &[u8], base: usize, end: usize, key: u64) -> usize
     far(area, base, end, key)
 }
 
-// Whether the n cells behind `at` are followed by an entry or by `end`, where the map's are.
+// Whether the n cells behind `at` are followed by an entry or by `end`, which is the map's.
 pub fn flat_before(area: &[u8], end: usize, at: usize, n: u64) -> bool
     requires { ⌜ (at < end) × (end ≤ length (cells (now area))) × (length (cells (now area)) ≤ 1048576) ⌝ }
     ensures { λ r. ⌜ FlatBefore (cells (now (area .entry))) end at n r ⌝ }
