@@ -34,6 +34,7 @@ use Rattle.record_arms.specs.Records.{columnsFrom}
 use Rattle.record_arms.proofs.RangeLaws.{columns-read}
 use Rattle.result_arm.specs.Results.{JudgesRow}
 use Rattle.result_arm.specs.declared.Columns.the-variants as columns
+use Rattle.explain.specs.declared.Handling.{Handling}
 use Rattle.explain.specs.declared.Handling.the-variants as handling
 use Rattle.explain.specs.Handles.{meaningOf, TellsHandling, LeavesHandling, Handles}
 use Rattle.explain.specs.Numbers.{NumberArm, asHandling}
@@ -158,3 +159,8 @@ module _ {limit from n : ℕ} {cs : List Cell} {blocks : List ℕ} {s : MemorySt
         leaves = (lies-here (s .row + 1) current, told .narrow .0, told .narrow .1);
         frame = unchanged cs _ _;
       }
+
+-- ---- a row that was read
+
+pub row-handles : {limit from n : ℕ} {cs ds : List Cell} {blocks : List ℕ} {s : MemoryState} {x y : Row} {again : Bool} {r : Handling} → x ≡ y → Handles limit from n cs ds blocks s x again r → Handles limit from n cs ds blocks s y again r
+row-handles {limit} {from} {n} {cs} {ds} {blocks} {s} {again = again} {r = r} e handles = subst (λ z. Handles limit from n cs ds blocks s z again r) e handles

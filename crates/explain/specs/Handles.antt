@@ -5,9 +5,9 @@ use mathlib.Core.Path.{_≡_}
 use mathlib.Core.Bool.{Bool, false}
 use mathlib.Core.Option.{Option, none, some}
 use mathlib.Core.List.{List, [], _∷_}
-use Prim.Native.Nat.{ℕ, _+_, _≤_}
+use Prim.Native.Nat.{ℕ, _+_, _-_, _≤_}
 use lib.IntN.{pos}
-use lib.ListN.{length}
+use lib.ListN.{length, getD}
 use Rattle.model.specs.Walk.{refused, done}
 use Rattle.model.specs.Row.{Row as Listed}
 use Rattle.model.specs.State.{ColumnType, MemoryState as Defined}
@@ -20,9 +20,12 @@ use Rattle.model.specs.Results.{resultColumns}
 use Rattle.model.specs.Operation.{operationOf}
 use Rattle.model.specs.Offer.{Offer, turns}
 use Rattle.model.specs.Explain.{arm}
+use Rattle.area.specs.Cells.{blank}
 use Rattle.area.specs.declared.Cell.{Cell}
 use Rattle.intmap.specs.Map.{Frame}
+use Rattle.intmap.specs.Signed.{offset}
 use Rattle.encoding.specs.Holds.{largest}
+use Rattle.rows.specs.Rows.{rowIn}
 use Rattle.rows.specs.Judged.{Judged, HaveRows}
 use Rattle.rows.specs.declared.Row.{Row}
 use Rattle.state.specs.Leads.{operands}
@@ -36,6 +39,10 @@ use Rattle.explain.specs.declared.Handling.the-variants as handling
 -- the state on a row, with the map of these numbers
 abbrev pub stateOf : ℕ → ℕ → ℕ → ℕ → MemoryState
 stateOf row base len used = record { map = record { base = base; len = len; used = used }; row = row }
+
+-- the row that a state on the row word `at` stands on, the listing's rows being in the cells from `from` on
+abbrev pub rowOn : List Cell → ℕ → ℕ → Row
+rowOn cs from at = rowIn (getD cs (from + (at - offset)) blank)
 
 -- what the rows mean: this limit of cells, this catalogue, and the built-in functions
 abbrev pub meaningOf : ℕ → List CatalogueRecord → Meaning

@@ -42,7 +42,7 @@ use Rattle.branches.proofs.BlockLaws.{blocks-low}
 use Rattle.walk.specs.Walks.{rowsFrom, countsFrom, firstFrom, Given, boundOf, HoldsList, Counts, HoldsWalk, HoldsRow, inListing, TellsTurn, theFollowing, theTurn}
 use Rattle.root_block.specs.Blocks.{IsBlocks}
 use Rattle.in_place.specs.InPlace.{ReadyAt, HandlesNear}
-use Rattle.explain.specs.Handles.{meaningOf, TellsHandling, LeavesHandling, Handles}
+use Rattle.explain.specs.Handles.{rowOn, meaningOf, TellsHandling, LeavesHandling, Handles}
 use Rattle.walk.specs.Loop.{Walking, noteRepeated, alone, aloneBy, settled, Turning, MayOffer, MayFollow, StaysHere, Follows, TakesUp, chargeOne, stopLoop, Standing, Turns}
 use Rattle.explain.specs.declared.Handling.{Handling}
 use Rattle.explain.specs.declared.Handling.the-variants as handling
@@ -233,12 +233,19 @@ module _ {p : Program} {g : Given} {blocks xs cols : List ℕ} {w : Walk} {s : M
           below = omega (arith, r .at, r .within, r .walk .list .few);
         }
 
-    pub some-rows : SomeRows (cells ys) (rowsFrom p) (p .size)
+    some-rows : SomeRows (cells ys) (rowsFrom p) (p .size)
     some-rows =
         record { inside = omega (arith, fits-inside raised-list); rows = g .rows; have = raised-list .rows; size = r .walk .list .size }
 
-    pub limit-fits : p .limit ≤ 65535
-    limit-fits = raised-list .remembers .limited
+    -- where it was not handled in place, nothing has changed, and it can be handled
+    pub may-handle : (cs : List Cell) → cs ≡ cells ys → Ready (p .limit) cs s (rowOn cs (rowsFrom p) (s .row)) × SomeRows cs (rowsFrom p) (p .size) × (s .row < offset + p .size) × (p .limit ≤ 65535) × IsBlocks blocks
+    may-handle cs same = (
+      subst (λ l. Ready (p .limit) l s (rowOn l (rowsFrom p) (s .row))) (sym same) (is-ready (rowOn (cells ys) (rowsFrom p) (s .row)) refl),
+      subst (λ l. SomeRows l (rowsFrom p) (p .size)) (sym same) some-rows,
+      omega (arith, r .at, r .within),
+      raised-list .remembers .limited,
+      is-blocks,
+    )
 
     -- ---- and it is handled
     module _ (zs : List ℕ) (low : Bytes zs) (long : length zs ≡ length ys) (x : Row) (e : x ≡ rowIn (getD (cells ys) (rowsFrom p + k) blank)) (h : Handling) (again : Bool) (is-again : again ≡ ltb 0 (countAt xs (countsFrom p) k)) (gas : 0 < w .gas) (handles : Handles (p .limit) (rowsFrom p) (p .size) (cells ys) (cells zs) blocks s x again h) where
@@ -454,13 +461,6 @@ module _ {p : Program} {blocks xs cols : List ℕ} {w : Walk} {s : MemoryState} 
       (near .yes ne (p .limit) s x (is-ready (st .holds) ys small less raised x read) refl (record { first = refl; second = refl; third = refl }) (record { on = refl; from = refl; to = refl }) (rowsFrom p) (p .size) blocks (ltb 0 handled) (is-blocks (st .holds)))
       n (way.To n) refl refl (listing-in p next (record { above = near .within ne .0; below = omega (arith, near .within ne .0, near .within ne .1) })) few
 
--- where it was not, nothing has changed
-module _ {limit : ℕ} {cs es : List Cell} {s : MemoryState} {x : Row} (same : es ≡ cs) where
-  pub still-ready : Ready limit cs s x → Ready limit es s x
-  still-ready ready = subst (λ l. Ready limit l s x) (sym same) ready
-
-  pub handles-then : {from n : ℕ} {ds : List Cell} {blocks : List ℕ} {again : Bool} {h : Handling} → Handles limit from n es ds blocks s x again h → Handles limit from n cs ds blocks s x again h
-  handles-then {from} {n} {ds} {blocks} {again} {h} handles = subst (λ l. Handles limit from n l ds blocks s x again h) same handles
-
-pub still-rows : {from n : ℕ} {cs es : List Cell} → es ≡ cs → SomeRows cs from n → SomeRows es from n
-still-rows {from} {n} same rows = subst (λ l. SomeRows l from n) (sym same) rows
+-- where it was not, nothing has changed, and the row that was read then is this one
+pub handles-then : {limit from n : ℕ} {cs es ds : List Cell} {blocks : List ℕ} {s : MemoryState} {again : Bool} {h : Handling} → es ≡ cs → Handles limit from n es ds blocks s (rowOn es from (s .row)) again h → Handles limit from n cs ds blocks s (rowOn cs from (s .row)) again h
+handles-then {limit} {from} {n} {ds = ds} {blocks} {s} {again} {h} same handles = subst (λ l. Handles limit from n l ds blocks s (rowOn l from (s .row)) again h) same handles

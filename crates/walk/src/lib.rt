@@ -366,7 +366,6 @@ fn take_turn(
         m.used,
         area,
         blocks,
-        x,
         0 < handled,
         from,
         p.size,

@@ -1,7 +1,7 @@
 -- `walk::take_turn`: charged, closed or handled, and followed. Assumes nothing.
 use native.Mathlib.Omega.{arith}
-use mathlib.Core.Path.{sym, _∙_}
-use Rattle.walk.proofs.TurnLaws.{may-charge, may-count, row-inside, is-ready, is-blocks, some-rows, limit-fits, may-stop, closed-walking, turns-closed, handled-turning, handled-may, turns-handled, turns-stays, turns-in-place, still-ready, still-rows, handles-then}
+use mathlib.Core.Path.{refl, sym, _∙_}
+use Rattle.walk.proofs.TurnLaws.{may-charge, may-count, row-inside, is-ready, may-handle, may-stop, closed-walking, turns-closed, handled-turning, handled-may, turns-handled, turns-stays, turns-in-place, handles-then}
 use borrow.Author.Needs.{needs}
 use Rattle.walk.proofs.take_turn.Statement.{statement}
 use Rattle.walk.proofs.take_turn.Tie as tie
@@ -52,7 +52,7 @@ returns-2 : tie.Need-returns-2
 returns-2 c = turns-in-place (c .before .before .before .before .before .before .before .before .before .before .before .before .before .before .before .before .before .before .before .before .before .before .before .pre) _ (c .before .before .before .before .before .before .before .before .before .before .before .before .before .before .before .before .before .before .before .charge .ensures) _ _ (c .before .before .before .before .before .before .before .before .before .before .before .before .before .before .before .before .before .before .before .before .before .before .slice-known .given) (c .before .before .before .before .before .before .before .before .slice-known4 .given) (c .before .slice-known5 .given) (c .before .before .before .before .before .before .before .before .before .before .raise-count .ensures) (c .before .before .before .next-in-place .kept .1 .0) _ (c .before .before .before .before .before .before .row-at .ensures) _ (c .before .before .before .before .before .before .before .before .before .before .before .before .before .before .count-at .ensures) (c .if2 .taken) (c .before .before .before .next-in-place .ensures) (c .before .before .before .before .before .before .before .before .before .before .before .before .before .if1 .left)
 
 handle-requires : tie.Need-handle-requires
-handle-requires c κs = let same = c .before .before .before .before .next-in-place .ensures .no (c .before .if2 .left) in (still-ready same (is-ready (c .before .before .before .before .before .before .before .before .before .before .before .before .before .before .before .before .before .before .before .before .before .before .before .before .pre .holds) _ (c .before .before .before .before .before .before .before .before .before .before .before .before .before .before .before .before .before .before .before .before .before .before .before .slice-known .given) (c .before .before .before .before .before .before .before .before .before .slice-known4 .given) (c .before .before .before .before .before .before .before .before .before .before .before .raise-count .ensures) _ (c .before .before .before .before .before .before .before .row-at .ensures)), still-rows same (some-rows (c .before .before .before .before .before .before .before .before .before .before .before .before .before .before .before .before .before .before .before .before .before .before .before .before .pre .holds) _ (c .before .before .before .before .before .before .before .before .before .before .before .before .before .before .before .before .before .before .before .before .before .before .before .slice-known .given) (c .before .before .before .before .before .before .before .before .before .slice-known4 .given) (c .before .before .before .before .before .before .before .before .before .before .before .raise-count .ensures)), limit-fits (c .before .before .before .before .before .before .before .before .before .before .before .before .before .before .before .before .before .before .before .before .before .before .before .before .pre .holds) _ (c .before .before .before .before .before .before .before .before .before .before .before .before .before .before .before .before .before .before .before .before .before .before .before .slice-known .given) (c .before .before .before .before .before .before .before .before .before .slice-known4 .given) (c .before .before .before .before .before .before .before .before .before .before .before .raise-count .ensures), is-blocks (c .before .before .before .before .before .before .before .before .before .before .before .before .before .before .before .before .before .before .before .before .before .before .before .before .pre .holds))
+handle-requires c κs = may-handle (c .before .before .before .before .before .before .before .before .before .before .before .before .before .before .before .before .before .before .before .before .before .before .before .before .pre .holds) _ (c .before .before .before .before .before .before .before .before .before .before .before .before .before .before .before .before .before .before .before .before .before .before .before .slice-known .given) (c .before .before .before .before .before .before .before .before .before .slice-known4 .given) (c .before .before .before .before .before .before .before .before .before .before .before .raise-count .ensures) _ (c .before .before .before .before .next-in-place .ensures .no (c .before .if2 .left))
 
 alone-requires : tie.Need-alone-requires
 alone-requires c κs = search needs
@@ -67,13 +67,13 @@ same-length-3 : tie.Need-same-length-3
 same-length-3 c = c .before .before .before .before .before .before .before .before .handle .kept .1 .1 .1 .1 .0 ∙ c .before .before .before .before .before .before .before .before .before .before .before .before .before .next-in-place .kept .1 .0 ∙ c .before .before .before .before .before .before .before .before .before .before .before .before .before .before .before .before .before .before .before .before .raise-count .kept .0
 
 returns-3 : tie.Need-returns-3
-returns-3 c = turns-stays (c .before .before .before .before .before .before .before .before .before .before .before .before .before .before .before .before .before .before .before .before .before .before .before .before .before .before .before .before .before .before .before .before .before .pre) _ (c .before .before .before .before .before .before .before .before .before .before .before .before .before .before .before .before .before .before .before .before .before .before .before .before .before .before .before .before .before .charge .ensures) _ _ (c .before .before .before .before .before .before .before .before .before .before .before .before .before .before .before .before .before .before .before .before .before .before .before .before .before .before .before .before .before .before .before .before .slice-known .given) (c .before .before .before .before .before .before .before .before .before .before .before .before .before .before .before .before .before .before .slice-known4 .given) (c .before .before .before .before .before .before .slice-known6 .given) (c .before .before .before .before .before .before .before .before .before .before .before .before .before .before .before .before .before .before .before .before .raise-count .ensures) (c .before .before .before .before .before .before .before .before .handle .kept .1 .1 .1 .1 .0 ∙ c .before .before .before .before .before .before .before .before .before .before .before .before .before .next-in-place .kept .1 .0) _ (c .before .before .before .before .before .before .before .before .before .before .before .before .before .before .before .before .row-at .ensures) _ _ (c .before .before .before .before .before .before .before .before .before .before .before .before .before .before .before .before .before .before .before .before .before .before .before .before .count-at .ensures) (handles-then (c .before .before .before .before .before .before .before .before .before .before .before .before .before .next-in-place .ensures .no (c .before .before .before .before .before .before .before .before .before .before .if2 .left)) (c .before .before .before .before .before .before .before .before .handle .ensures)) _ _ (c .before .before .before .before .before .alone .ensures) (c .before .before .before .on .given .1) (sym (c .before .in-listing .ensures) ∙ c .if3 .taken) (c .before .before .before .before .before .before .before .before .before .before .before .before .before .before .before .before .before .before .before .before .before .before .before .if1 .left)
+returns-3 c = turns-stays (c .before .before .before .before .before .before .before .before .before .before .before .before .before .before .before .before .before .before .before .before .before .before .before .before .before .before .before .before .before .before .before .before .before .pre) _ (c .before .before .before .before .before .before .before .before .before .before .before .before .before .before .before .before .before .before .before .before .before .before .before .before .before .before .before .before .before .charge .ensures) _ _ (c .before .before .before .before .before .before .before .before .before .before .before .before .before .before .before .before .before .before .before .before .before .before .before .before .before .before .before .before .before .before .before .before .slice-known .given) (c .before .before .before .before .before .before .before .before .before .before .before .before .before .before .before .before .before .before .slice-known4 .given) (c .before .before .before .before .before .before .slice-known6 .given) (c .before .before .before .before .before .before .before .before .before .before .before .before .before .before .before .before .before .before .before .before .raise-count .ensures) (c .before .before .before .before .before .before .before .before .handle .kept .1 .1 .1 .1 .0 ∙ c .before .before .before .before .before .before .before .before .before .before .before .before .before .next-in-place .kept .1 .0) _ refl _ _ (c .before .before .before .before .before .before .before .before .before .before .before .before .before .before .before .before .before .before .before .before .before .before .before .before .count-at .ensures) (handles-then (c .before .before .before .before .before .before .before .before .before .before .before .before .before .next-in-place .ensures .no (c .before .before .before .before .before .before .before .before .before .before .if2 .left)) (c .before .before .before .before .before .before .before .before .handle .ensures)) _ _ (c .before .before .before .before .before .alone .ensures) (c .before .before .before .on .given .1) (sym (c .before .in-listing .ensures) ∙ c .if3 .taken) (c .before .before .before .before .before .before .before .before .before .before .before .before .before .before .before .before .before .before .before .before .before .before .before .if1 .left)
 
 enum-told : tie.Need-enum-told
 enum-told c = search needs
 
 follow-requires : tie.Need-follow-requires
-follow-requires c κs = (handled-turning (c .before .before .before .before .before .before .before .before .before .before .before .before .before .before .before .before .before .before .before .before .before .before .before .before .before .before .before .before .before .before .before .pre) _ (c .before .before .before .before .before .before .before .before .before .before .before .before .before .before .before .before .before .before .before .before .before .before .before .before .before .before .before .charge .ensures) _ _ (c .before .before .before .before .before .before .before .before .before .before .before .before .before .before .before .before .before .before .before .before .before .before .before .before .before .before .before .before .before .before .slice-known .given) (c .before .before .before .before .before .before .before .before .before .before .before .before .before .before .before .before .slice-known4 .given) (c .before .before .before .before .slice-known6 .given) (c .before .before .before .before .before .before .before .before .before .before .before .before .before .before .before .before .before .before .raise-count .ensures) (c .before .before .before .before .before .before .handle .kept .1 .1 .1 .1 .0 ∙ c .before .before .before .before .before .before .before .before .before .before .before .next-in-place .kept .1 .0) _ (c .before .before .before .before .before .before .before .before .before .before .before .before .before .before .row-at .ensures) _ _ (c .before .before .before .before .before .before .before .before .before .before .before .before .before .before .before .before .before .before .before .before .before .before .count-at .ensures) (handles-then (c .before .before .before .before .before .before .before .before .before .before .before .next-in-place .ensures .no (c .before .before .before .before .before .before .before .before .if2 .left)) (c .before .before .before .before .before .before .handle .ensures)), handled-may (c .before .before .before .before .before .before .before .before .before .before .before .before .before .before .before .before .before .before .before .before .before .before .before .before .before .before .before .before .before .before .before .pre) _ (c .before .before .before .before .before .before .before .before .before .before .before .before .before .before .before .before .before .before .before .before .before .before .before .before .before .before .before .charge .ensures) _ _ (c .before .before .before .before .before .before .before .before .before .before .before .before .before .before .before .before .before .before .before .before .before .before .before .before .before .before .before .before .before .before .slice-known .given) (c .before .before .before .before .before .before .before .before .before .before .before .before .before .before .before .before .slice-known4 .given) (c .before .before .before .before .slice-known6 .given) (c .before .before .before .before .before .before .before .before .before .before .before .before .before .before .before .before .before .before .raise-count .ensures) (c .before .before .before .before .before .before .handle .kept .1 .1 .1 .1 .0 ∙ c .before .before .before .before .before .before .before .before .before .before .before .next-in-place .kept .1 .0) _ (c .before .before .before .before .before .before .before .before .before .before .before .before .before .before .row-at .ensures) _ _ (c .before .before .before .before .before .before .before .before .before .before .before .before .before .before .before .before .before .before .before .before .before .before .count-at .ensures) (handles-then (c .before .before .before .before .before .before .before .before .before .before .before .next-in-place .ensures .no (c .before .before .before .before .before .before .before .before .if2 .left)) (c .before .before .before .before .before .before .handle .ensures)))
+follow-requires c κs = (handled-turning (c .before .before .before .before .before .before .before .before .before .before .before .before .before .before .before .before .before .before .before .before .before .before .before .before .before .before .before .before .before .before .before .pre) _ (c .before .before .before .before .before .before .before .before .before .before .before .before .before .before .before .before .before .before .before .before .before .before .before .before .before .before .before .charge .ensures) _ _ (c .before .before .before .before .before .before .before .before .before .before .before .before .before .before .before .before .before .before .before .before .before .before .before .before .before .before .before .before .before .before .slice-known .given) (c .before .before .before .before .before .before .before .before .before .before .before .before .before .before .before .before .slice-known4 .given) (c .before .before .before .before .slice-known6 .given) (c .before .before .before .before .before .before .before .before .before .before .before .before .before .before .before .before .before .before .raise-count .ensures) (c .before .before .before .before .before .before .handle .kept .1 .1 .1 .1 .0 ∙ c .before .before .before .before .before .before .before .before .before .before .before .next-in-place .kept .1 .0) _ refl _ _ (c .before .before .before .before .before .before .before .before .before .before .before .before .before .before .before .before .before .before .before .before .before .before .count-at .ensures) (handles-then (c .before .before .before .before .before .before .before .before .before .before .before .next-in-place .ensures .no (c .before .before .before .before .before .before .before .before .if2 .left)) (c .before .before .before .before .before .before .handle .ensures)), handled-may (c .before .before .before .before .before .before .before .before .before .before .before .before .before .before .before .before .before .before .before .before .before .before .before .before .before .before .before .before .before .before .before .pre) _ (c .before .before .before .before .before .before .before .before .before .before .before .before .before .before .before .before .before .before .before .before .before .before .before .before .before .before .before .charge .ensures) _ _ (c .before .before .before .before .before .before .before .before .before .before .before .before .before .before .before .before .before .before .before .before .before .before .before .before .before .before .before .before .before .before .slice-known .given) (c .before .before .before .before .before .before .before .before .before .before .before .before .before .before .before .before .slice-known4 .given) (c .before .before .before .before .slice-known6 .given) (c .before .before .before .before .before .before .before .before .before .before .before .before .before .before .before .before .before .before .raise-count .ensures) (c .before .before .before .before .before .before .handle .kept .1 .1 .1 .1 .0 ∙ c .before .before .before .before .before .before .before .before .before .before .before .next-in-place .kept .1 .0) _ refl _ _ (c .before .before .before .before .before .before .before .before .before .before .before .before .before .before .before .before .before .before .before .before .before .before .count-at .ensures) (handles-then (c .before .before .before .before .before .before .before .before .before .before .before .next-in-place .ensures .no (c .before .before .before .before .before .before .before .before .if2 .left)) (c .before .before .before .before .before .before .handle .ensures)))
 
 same-length-4 : tie.Need-same-length-4
 same-length-4 c = c .before .before .before .before .follow .kept .1 .0 ∙ c .before .before .before .before .before .before .before .before .before .before .before .handle .kept .1 .1 .1 .1 .0 ∙ c .before .before .before .before .before .before .before .before .before .before .before .before .before .before .before .before .next-in-place .kept .1 .0 ∙ c .before .before .before .before .before .before .before .before .before .before .before .before .before .before .before .before .before .before .before .before .before .before .before .raise-count .kept .0
@@ -82,7 +82,7 @@ same-length-5 : tie.Need-same-length-5
 same-length-5 c = search needs
 
 returns-4 : tie.Need-returns-4
-returns-4 c = turns-handled (c .before .before .before .before .before .before .before .before .before .before .before .before .before .before .before .before .before .before .before .before .before .before .before .before .before .before .before .before .before .before .before .before .before .before .before .before .pre) _ (c .before .before .before .before .before .before .before .before .before .before .before .before .before .before .before .before .before .before .before .before .before .before .before .before .before .before .before .before .before .before .before .before .charge .ensures) _ _ (c .before .before .before .before .before .before .before .before .before .before .before .before .before .before .before .before .before .before .before .before .before .before .before .before .before .before .before .before .before .before .before .before .before .before .before .slice-known .given) (c .before .before .before .before .before .before .before .before .before .before .before .before .before .before .before .before .before .before .before .before .before .slice-known4 .given) (c .before .before .before .before .before .before .before .before .before .slice-known6 .given) (c .before .before .before .before .before .before .before .before .before .before .before .before .before .before .before .before .before .before .before .before .before .before .before .raise-count .ensures) (c .before .before .before .before .before .before .before .before .before .before .before .handle .kept .1 .1 .1 .1 .0 ∙ c .before .before .before .before .before .before .before .before .before .before .before .before .before .before .before .before .next-in-place .kept .1 .0) _ (c .before .before .before .before .before .before .before .before .before .before .before .before .before .before .before .before .before .before .before .row-at .ensures) _ _ (c .before .before .before .before .before .before .before .before .before .before .before .before .before .before .before .before .before .before .before .before .before .before .before .before .before .before .before .count-at .ensures) (handles-then (c .before .before .before .before .before .before .before .before .before .before .before .before .before .before .before .before .next-in-place .ensures .no (c .before .before .before .before .before .before .before .before .before .before .before .before .before .if2 .left)) (c .before .before .before .before .before .before .before .before .before .before .before .handle .ensures)) _ _ _ (c .before .before .before .before .before .before .before .before .before .before .before .before .before .before .before .before .before .before .before .before .before .before .before .before .before .before .if1 .left) (c .before .before .before .before .follow .ensures)
+returns-4 c = turns-handled (c .before .before .before .before .before .before .before .before .before .before .before .before .before .before .before .before .before .before .before .before .before .before .before .before .before .before .before .before .before .before .before .before .before .before .before .before .pre) _ (c .before .before .before .before .before .before .before .before .before .before .before .before .before .before .before .before .before .before .before .before .before .before .before .before .before .before .before .before .before .before .before .before .charge .ensures) _ _ (c .before .before .before .before .before .before .before .before .before .before .before .before .before .before .before .before .before .before .before .before .before .before .before .before .before .before .before .before .before .before .before .before .before .before .before .slice-known .given) (c .before .before .before .before .before .before .before .before .before .before .before .before .before .before .before .before .before .before .before .before .before .slice-known4 .given) (c .before .before .before .before .before .before .before .before .before .slice-known6 .given) (c .before .before .before .before .before .before .before .before .before .before .before .before .before .before .before .before .before .before .before .before .before .before .before .raise-count .ensures) (c .before .before .before .before .before .before .before .before .before .before .before .handle .kept .1 .1 .1 .1 .0 ∙ c .before .before .before .before .before .before .before .before .before .before .before .before .before .before .before .before .next-in-place .kept .1 .0) _ refl _ _ (c .before .before .before .before .before .before .before .before .before .before .before .before .before .before .before .before .before .before .before .before .before .before .before .before .before .before .before .count-at .ensures) (handles-then (c .before .before .before .before .before .before .before .before .before .before .before .before .before .before .before .before .next-in-place .ensures .no (c .before .before .before .before .before .before .before .before .before .before .before .before .before .if2 .left)) (c .before .before .before .before .before .before .before .before .before .before .before .handle .ensures)) _ _ _ (c .before .before .before .before .before .before .before .before .before .before .before .before .before .before .before .before .before .before .before .before .before .before .before .before .before .before .if1 .left) (c .before .before .before .before .follow .ensures)
 
 pub take-turn-spec : {M : Type 1} → statement M
 take-turn-spec =
