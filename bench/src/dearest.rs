@@ -142,6 +142,17 @@ fn costly_rows() -> Vec<Case> {
     ]
 }
 
+/// `column IN (?, ?, ...)`: each value is made a record of one column and put into a table.
+fn lists() -> Vec<Case> {
+    let before: [Row; 2] = [("Null", 0, 1, 0), ("OpenEphemeral", 2, 1, 0)];
+    let value = |i: i64| match i % 3 {
+        0 => ("Variable", i / 3 + 1, 4, 0),
+        1 => ("MakeRecord", 4, 1, 5),
+        _ => ("IdxInsert", 2, 5, 4),
+    };
+    vec![case("a list of 480 values", behind(6, &before, value, 1_440))]
+}
+
 fn texts() -> Vec<Case> {
     let last = behind(8, &[], |_| ("OpenRead", 0, 512, 0), 50);
     let absent = behind(9, &[], |_| ("OpenRead", 0, 9_999, 0), 190);
@@ -202,5 +213,5 @@ pub fn each_operation() -> Vec<Case> {
 }
 
 pub fn all() -> Vec<Case> {
-    [states(), wide(), rows(), costly_rows(), texts()].into_iter().flatten().collect()
+    [states(), wide(), rows(), costly_rows(), lists(), texts()].into_iter().flatten().collect()
 }

@@ -32,6 +32,7 @@ use Rattle.intmap.specs.declared.Slot.{Slot}
 use Rattle.intmap.specs.declared.Slot.the-variants as slot
 use Rattle.intmap.specs.declared.Stored.{Stored}
 use Rattle.intmap.specs.declared.Stored.the-variants as stored
+use Rattle.intmap.proofs.EntryLaws.{opened}
 use Rattle.intmap.proofs.RunLaws.{size-pos, size-record}
 use Rattle.encoding.specs.Encode.{runColumn, runColumns}
 use Rattle.rows.specs.Judged.{Judged}
@@ -42,18 +43,22 @@ use Rattle.cursor_arms.specs.Cursors.{ReadsCursor}
 use Rattle.cursor_arms.specs.StandsFor.{TellsColumns, FindsColumns}
 use Rattle.cursor_arms.specs.declared.CursorDataType.{CursorDataType}
 use Rattle.cursor_arms.proofs.DupLaws.{frame-same}
-use Rattle.cursor_arms.proofs.StandsLaws.{opened, columns-led}
+use Rattle.cursor_arms.proofs.StandsLaws.{columns-led}
 use Rattle.column_arms.specs.Columns.{ColumnsAt, FindsColumn, StoresRun, storeColumn, storeRow, LeadsWith}
 use Rattle.column_arms.proofs.ColumnLaws.{behind-size}
 
 -- ---- what is stored where nothing was written over
 
 module _ {limit : ℕ} {cs es : List Cell} (same : es ≡ cs) (a : IntMap) (at : ℕ) (c : Cell) where
+  pub still-headed : Current limit cs a → a .base ≤ at → at + size cs levels at ≤ a .base + a .used → tagOf c ≡ tagOf (getD cs at blank) → c .payload ≡ getD cs at blank .payload
+      → Current limit es a × (a .base ≤ at) × (at + size es levels at ≤ a .base + a .used) × (tagOf c ≡ tagOf (getD es at blank)) × (c .payload ≡ getD es at blank .payload)
+  still-headed current above below tag number =
+      subst (λ l. Current limit l a × (a .base ≤ at) × (at + size l levels at ≤ a .base + a .used) × (tagOf c ≡ tagOf (getD l at blank)) × (c .payload ≡ getD l at blank .payload)) (sym same)
+      (current, above, below, tag, number)
+
   pub still-storable : Current limit cs a → a .base ≤ at → at + size cs levels at ≤ a .base + a .used → c ≡ getD cs at blank
       → Current limit es a × (a .base ≤ at) × (at + size es levels at ≤ a .base + a .used) × (tagOf c ≡ tagOf (getD es at blank)) × (c .payload ≡ getD es at blank .payload)
-  still-storable current above below ce =
-      subst (λ l. Current limit l a × (a .base ≤ at) × (at + size l levels at ≤ a .base + a .used) × (tagOf c ≡ tagOf (getD l at blank)) × (c .payload ≡ getD l at blank .payload)) (sym same)
-      (current, above, below, ap (λ (y : Cell). tagOf y) ce, ap (λ (y : Cell). y .payload) ce)
+  still-storable current above below ce = still-headed current above below (ap (λ (y : Cell). tagOf y) ce) (ap (λ (y : Cell). y .payload) ce)
 
   pub still-stored : {ds : List Cell} {j : ℕ} {r : Stored} → StoresRun limit es ds a at c j r → StoresRun limit cs ds a at c j r
   still-stored {ds} {j} {r} st = subst (λ l. StoresRun limit l ds a at c j r) same st

@@ -1,8 +1,9 @@
--- A run stored in a register: behind the map that of an entry, with another head, and an empty record; and a cell alone. Assumes nothing.
+-- A run stored in a register: behind the map that of an entry, with another head, and an empty record; a cell alone; and a record of plain
+-- columns put over another where that stands. Assumes nothing.
 use mathlib.Core.Path.{_≡_, refl, sym, ap, ap₂, subst, _∙_}
 use mathlib.Core.Bool.{Bool, true, false}
 use mathlib.Core.List.{List, [], _∷_, flatten}
-use Prim.Native.Nat.{ℕ, suc, _+_, _-_, _<_, _≤_}
+use Prim.Native.Nat.{ℕ, zero, suc, _+_, _-_, _<_, _≤_}
 use native.Mathlib.Omega.{arith}
 use lib.Dec.{eqb}
 use lib.ListN.{length, getD, set, length-set}
@@ -10,8 +11,8 @@ use lib.Seq.{getD-set-same, getD-set-other}
 use borrow.Author.Tests.{lt-leb, eqb-true, eqb-false}
 use Rattle.model.specs.Walk.{Tried}
 use Rattle.model.specs.IntMap.{insert}
-use Rattle.model.specs.State.{ColumnType, Single, Record, end, RegDataType, Column, MemoryState}
-use Rattle.model.specs.Cells.{columnCells, registerCells, cells, columnDepth, registerDepth}
+use Rattle.model.specs.State.{ColumnType, Single, Record, Columns, end, entry, RegDataType, Column, MemoryState, datatypeCode}
+use Rattle.model.specs.Cells.{columnCells, registerCells, cells, columnDepth, columnsDepth, registerDepth}
 use Rattle.model.specs.Access.{_>>=_, judgeDepth, cellsIf, judgeCells, withRegisters, storeRegister}
 use Rattle.model.specs.Good.{SortedColumn}
 use Rattle.model.proofs.IntMap.{total-insert}
@@ -22,6 +23,7 @@ use Rattle.intmap.specs.Depth.{nesting}
 use Rattle.intmap.specs.Entries.{span}
 use Rattle.intmap.specs.Get.{indexOf, Judges}
 use Rattle.intmap.specs.Map.{levels, runsAt, HasRoom, Frame}
+use Rattle.intmap.specs.Over.{Plain}
 use Rattle.intmap.specs.Pack.{head, tagOf, withNullable}
 use Rattle.intmap.specs.Runs.{size, Agree}
 use Rattle.intmap.specs.Signed.{intOf}
@@ -31,22 +33,23 @@ use Rattle.intmap.specs.declared.Index.the-variants as index-is
 use Rattle.intmap.specs.declared.IntMap.{IntMap}
 use Rattle.intmap.specs.declared.Stored.{Stored}
 use Rattle.intmap.specs.declared.Stored.the-variants as stored
-use Rattle.intmap.proofs.EntryLaws.{length-span, span-same}
+use Rattle.intmap.proofs.EntryLaws.{length-span, span-same, opened}
 use Rattle.intmap.proofs.MapLaws.{placed-room}
 use Rattle.intmap.proofs.RunLaws.{size-pos, size-single}
-use Rattle.encoding.specs.Encode.{count, runColumn, runRegister}
+use Rattle.encoding.specs.Encode.{nullableCode, count, single, runColumn, runColumns, runRegister}
 use Rattle.encoding.specs.Holds.{Stands}
 use Rattle.encoding.proofs.Held.{held-elsewhere}
 use Rattle.encoding.proofs.HeldAfter.{Carried, held-register}
 use Rattle.encoding.proofs.HeldFrom.{held-register-from}
 use Rattle.encoding.proofs.Standing.{column-whole}
 use Rattle.state.specs.Leads.{Current, HoldsMap, Tells, Leaves, Leads}
+use Rattle.state.specs.Own.{StoresCell}
+use Rattle.state.specs.Over.{OverRegister}
 use Rattle.state.proofs.LeadsLaws.{frame-within, frame-then}
+use Rattle.state.proofs.StoreLeads.{wider}
 use Rattle.cursor_arms.specs.Behind.{RunBehind}
 use Rattle.cursor_arms.proofs.DupLaws.{frame-same}
-use Rattle.cursor_arms.proofs.StandsLaws.{opened}
 use Rattle.cursor_arms.proofs.TableLaws.{size-alike}
-use Rattle.state.specs.Own.{StoresCell}
 use Rattle.column_arms.specs.Columns.{StoresRun}
 
 -- ---- a cell written behind the map
@@ -211,6 +214,49 @@ module _ (limit : ℕ) (cs : List Cell) (a : IntMap) (at : ℕ) (c : Cell) (tag 
         leaves = st .leaves;
         frame = frame-within cs ds (a .base) limit (a .base) (limit + limit) (omega arith) (omega arith) (st .frame);
       }
+
+-- ---- a record of plain columns put over another where that stands
+
+-- no cell of the run is a record's
+abbrev AllPlain : List Cell → Type 0
+AllPlain [] = Unit {0}
+AllPlain (c ∷ cs) = (tagOf c ≡ 2 → ⊥) × AllPlain cs
+
+plain-span : (cs : List Cell) (n p : ℕ) → Plain cs p n → AllPlain (span cs p n)
+unfolding span
+plain-span cs zero p f = tt
+plain-span cs (suc n) p f = (
+  λ e. f .none 0 (omega arith) (let here : p + 0 ≡ p = omega arith in ap (λ q. tagOf (getD cs q blank)) here ∙ e),
+  plain-span cs n (p + 1) (record { none = λ j lt e. f .none (suc j) (omega arith) (let there : p + suc j ≡ p + 1 + j = omega arith in ap (λ q. tagOf (getD cs q blank)) there ∙ e) }),
+)
+
+-- so no column of them is a record
+plain-columns : (x : Columns) → AllPlain (runColumns x) → columnsDepth x ≡ 0
+unfolding runColumn flatten columnDepth
+plain-columns end f = refl
+plain-columns (entry k (Single d n) cs) f = omega (arith, plain-columns cs (f .1))
+plain-columns (entry k (Record y) cs) f = absurd (f .0 (omega arith))
+
+plain-depth : (cs : List Cell) (p n : ℕ) (c : Cell) → (tagOf c ≡ 2) × Plain cs p n → (key : ℕ) (v : ColumnType) → c ∷ span cs p n ≡ runColumn key v → columnDepth v ≤ 8
+unfolding runColumn columnDepth
+plain-depth cs p n c flat key (Single d k) e =
+    absurd (let f : c ≡ single (datatypeCode d) (nullableCode k) key = cc in omega (arith, ap (λ (y : Cell). y .head) f, flat .0))
+plain-depth cs p n c flat key (Record x) e =
+    let f : span cs p n ≡ runColumns x = cc in
+    omega (arith, plain-columns x (subst AllPlain f (plain-span cs n p (flat .1))))
+
+pub stores-over : (limit : ℕ) (cs ds : List Cell) (a : IntMap) (at : ℕ) (c : Cell) (j : ℕ) (r : Bool) → HasRoom cs limit a → OverRegister cs ds a at c j r → r ≡ true → StoresRun limit cs ds a at c j (stored.Done a)
+unfolding runRegister registerDepth
+stores-over limit cs ds a at c j r room over e =
+    record {
+      says = λ bound m h key v deep sorted is.
+          (let low = plain-depth cs (at + 1) (size cs levels at - 1) c (over .flat e) key v is in
+          let st = over .yes e limit (columnDepth v) room low in
+          held-register h (intOf j) key (Column v) (λ _. sorted) tt .next ds (a .base) (a .len) (a .used) (runsAt ds a)
+          (ap (λ l. storeRuns limit 0 (intOf j) (columnDepth v) l (runsAt cs a)) (sym is) ∙ sym (st .answer)) refl (st .leaves .room .used));
+      leaves = left cs ds limit a j 0 (c ∷ span cs (at + 1) (size cs levels at - 1)) (stored.Done a) (over .yes e limit 0 room (omega arith));
+      frame = wider cs ds (a .base) limit (over .yes e limit 0 room (omega arith) .frame);
+    }
 
 -- ---- an empty record
 

@@ -105,7 +105,7 @@ fn find_column(map: IntMap, area: &[u8], at: usize, key: u64) -> Slot
 
 // Stores the run at `at` of the map in register j, with c for its head. A cell alone is stored as it is. A store may move a longer run, so that
 // goes to the room behind the map first.
-fn store_from(map: IntMap, area: &mut [u8], at: usize, c: Cell, j: u64, limit: usize) -> Stored
+fn store_behind(map: IntMap, area: &mut [u8], at: usize, c: Cell, j: u64, limit: usize) -> Stored
     requires { ⌜ Current limit (cells (now area)) map × (map .base ≤ at) × (at + size (cells (now area)) levels at ≤ map .base + map .used) × (tagOf c ≡ tagOf (getD (cells (now area)) at blank)) × (c .payload ≡ getD (cells (now area)) at blank .payload) ⌝ }
     ensures { λ r. ⌜ StoresRun limit (cells (now (area .entry))) (cells (now (area .exit))) map at c j r ⌝ }
 {
@@ -116,6 +116,17 @@ fn store_from(map: IntMap, area: &mut [u8], at: usize, c: Cell, j: u64, limit: u
     let to = map.base + limit;
     area::put_cell(area, to, c);
     map.store_run(area, state::REGISTERS, j, to, limit)
+}
+
+// The same, at once where both are records of as many columns, of one cell each.
+fn store_from(map: IntMap, area: &mut [u8], at: usize, c: Cell, j: u64, limit: usize) -> Stored
+    requires { ⌜ Current limit (cells (now area)) map × (map .base ≤ at) × (at + size (cells (now area)) levels at ≤ map .base + map .used) × (tagOf c ≡ tagOf (getD (cells (now area)) at blank)) × (c .payload ≡ getD (cells (now area)) at blank .payload) ⌝ }
+    ensures { λ r. ⌜ StoresRun limit (cells (now (area .entry))) (cells (now (area .exit))) map at c j r ⌝ }
+{
+    if state::over_register(map, area, at, c, j) {
+        return Stored::Done(map);
+    }
+    store_behind(map, area, at, c, j, limit)
 }
 
 // Stores the cell c over register j's own, if neither is a record's. Says whether it was: then the map is as it was, and no call hands it over and

@@ -13,6 +13,7 @@ use Rattle.model.specs.Row.{Row as Listed}
 use Rattle.model.specs.State.{RegDataType, Column, MemoryState, null}
 use Rattle.model.specs.Offer.{turns}
 use Rattle.model.specs.Access.{_>>=_, readRegister, storeRegister}
+use Rattle.model.specs.Cells.{registerDepth}
 use Rattle.model.specs.Good.{GoodRegister}
 use Rattle.model.specs.Meaning.{Meaning}
 use Rattle.model.specs.Operation.{opCopyOne, opCopy, opMove}
@@ -43,7 +44,7 @@ use Rattle.intmap.proofs.SignedLaws.{int-suc, int-turns}
 use Rattle.encoding.specs.Encode.{runRegister}
 use Rattle.encoding.specs.Holds.{SmallRegister}
 use Rattle.encoding.proofs.Held.{held-elsewhere}
-use Rattle.encoding.proofs.HeldAfter.{Carried}
+use Rattle.encoding.proofs.HeldAfter.{Carried, held-register}
 use Rattle.encoding.proofs.HeldFrom.{held-register-from}
 use Rattle.encoding.proofs.HeldRead.{Value, told-register}
 use Rattle.rows.specs.Judged.{Judged}
@@ -51,8 +52,11 @@ use Rattle.rows.specs.declared.Row.{Row}
 use Rattle.state.specs.Leads.{Current, HoldsMap, Tells, Leaves, Leads}
 use Rattle.state.specs.Arms.{Standard}
 use Rattle.state.specs.Own.{StoresCell}
+use Rattle.state.specs.Over.{headed, OverRegister}
 use Rattle.state.specs.Reads.{Reads}
 use Rattle.state.specs.declared.Register.the-variants as register
+use Rattle.state.proofs.OverLaws.{headed-here}
+use Rattle.state.proofs.StoreLeads.{wider}
 use Rattle.state.proofs.ReadLaws.{read-bad, read-absent}
 use Rattle.state.proofs.LeadsLaws.{frame-within, frame-then, Reached, reached-next, reached-as}
 use Rattle.copy_arms.specs.Copies.{StoresFrom, carrySome, carryOne, carryMany}
@@ -107,6 +111,24 @@ module _ (limit : ℕ) (cs es : List Cell) (a : IntMap) (at n : ℕ) (current : 
               frame-then cs es ds (a .base) (limit + limit) (frame-within cs es (a .base + limit) n (a .base) (limit + limit) (omega arith) (omega (arith, current .room .most)) frame)
               (frame-within es ds (a .base) limit (a .base) (limit + limit) (omega arith) (omega arith) (st .frame));
         }
+
+-- ---- a record put over another where that stands
+
+pub stores-over : (limit : ℕ) (cs ds : List Cell) (a : IntMap) (at j : ℕ) (c : Cell) (r : Bool) → HasRoom cs limit a → c ≡ getD cs at blank → OverRegister cs ds a at c j r → r ≡ true → StoresFrom limit cs ds a at j (stored.Done a)
+stores-over limit cs ds a at j c r room ce over e =
+    record {
+      says = λ bound m key v h good small is.
+          (let run : headed cs at c ≡ runRegister key v = headed-here cs at c ce ∙ is in
+          let st = over .yes e limit (registerDepth v) room (good .depth) in
+          held-register h (intOf j) key v (λ _. good .sorted) small .next ds (a .base) (a .len) (a .used) (runsAt ds a)
+          (ap (λ l. storeRuns limit 0 (intOf j) (registerDepth v) l (runsAt cs a)) (sym run) ∙ sym (st .answer)) refl (st .leaves .room .used));
+      leaves = left cs ds limit a j 0 (headed cs at c) (stored.Done a) (over .yes e limit 0 room (omega arith));
+      frame = wider cs ds (a .base) limit (over .yes e limit 0 room (omega arith) .frame);
+    }
+
+-- or it was not, and stored from behind the map
+pub stores-then : {limit : ℕ} {cs es ds : List Cell} {a : IntMap} {at j : ℕ} {r : Stored} → es ≡ cs → StoresFrom limit es ds a at j r → StoresFrom limit cs ds a at j r
+stores-then {limit} {ds = ds} {a} {at} {j} {r} same st = subst (λ l. StoresFrom limit l ds a at j r) same st
 
 -- ---- a cell alone
 

@@ -24,7 +24,7 @@ use type_info::DataType;
 
 // Stores the entry at `at` of the map in register j too. A cell alone is stored as it is. A store may move a longer run, so that goes to the room
 // behind the map first.
-fn store_from(map: IntMap, area: &mut [u8], at: usize, j: u64, limit: usize) -> Stored
+fn store_behind(map: IntMap, area: &mut [u8], at: usize, j: u64, limit: usize) -> Stored
     requires { ⌜ Current limit (cells (now area)) map × (map .base ≤ at) × (at + size (cells (now area)) levels at ≤ map .base + map .used) ⌝ }
     ensures { λ r. ⌜ StoresFrom limit (cells (now (area .entry))) (cells (now (area .exit))) map at j r ⌝ }
 {
@@ -36,6 +36,18 @@ fn store_from(map: IntMap, area: &mut [u8], at: usize, j: u64, limit: usize) -> 
     let n = intmap::count(area, at, intmap::LEVELS);
     area::move_cells(area, at, to, n);
     map.store_run(area, state::REGISTERS, j, to, limit)
+}
+
+// The same, at once where both are records of as many columns, of one cell each.
+fn store_from(map: IntMap, area: &mut [u8], at: usize, j: u64, limit: usize) -> Stored
+    requires { ⌜ Current limit (cells (now area)) map × (map .base ≤ at) × (at + size (cells (now area)) levels at ≤ map .base + map .used) ⌝ }
+    ensures { λ r. ⌜ StoresFrom limit (cells (now (area .entry))) (cells (now (area .exit))) map at j r ⌝ }
+{
+    let c = area::cell_at(area, at);
+    if state::over_register(map, area, at, c, j) {
+        return Stored::Done(map);
+    }
+    store_behind(map, area, at, j, limit)
 }
 
 // Stores what register i holds, if there is something, in register j; then null in register i, if it moves.

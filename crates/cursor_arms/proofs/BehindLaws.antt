@@ -12,13 +12,12 @@ use Rattle.intmap.specs.Map.{levels, Frame}
 use Rattle.intmap.specs.Pack.{withNullable}
 use Rattle.intmap.specs.Runs.{size, Agree, Copied}
 use Rattle.intmap.specs.declared.IntMap.{IntMap}
-use Rattle.intmap.proofs.EntryLaws.{span-same}
+use Rattle.intmap.proofs.EntryLaws.{span-same, opened}
 use Rattle.intmap.proofs.MapLaws.{copied-frame, copied-agree, placed-room}
 use Rattle.intmap.proofs.RunLaws.{size-pos}
 use Rattle.intmap.proofs.SameCells.{size-same}
 use Rattle.state.specs.Leads.{Current}
 use Rattle.cursor_arms.specs.Behind.{RunBehind}
-use Rattle.cursor_arms.proofs.StandsLaws.{opened}
 use Rattle.cursor_arms.proofs.TableLaws.{size-kept, here, other, long}
 
 module _ {limit : ℕ} {cs es : List Cell} {a : IntMap} {at n : ℕ} (current : Current limit cs a) (above : a .base ≤ at) (below : at + size cs levels at ≤ a .base + a .used) (new : Copied cs es at (a .base + limit) (size cs levels at) n) where

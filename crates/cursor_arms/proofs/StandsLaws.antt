@@ -3,7 +3,7 @@ use mathlib.Core.Path.{_≡_, refl, sym, ap, subst, _∙_}
 use mathlib.Core.Bool.{Bool, true, false}
 use mathlib.Core.Option.{Option, none, some}
 use mathlib.Core.List.{List, _∷_}
-use Prim.Native.Nat.{ℕ, zero, suc, _+_, _-_, _<_, _≤_}
+use Prim.Native.Nat.{ℕ, _+_, _-_, _<_, _≤_}
 use native.Mathlib.Omega.{arith}
 use lib.Dec.{eqb}
 use lib.IntN.{ℤ}
@@ -34,7 +34,7 @@ use Rattle.intmap.specs.declared.Index.the-variants as index-is
 use Rattle.intmap.specs.declared.IntMap.{IntMap}
 use Rattle.intmap.specs.declared.Slot.{Slot}
 use Rattle.intmap.specs.declared.Slot.the-variants as slot
-use Rattle.intmap.proofs.EntryLaws.{length-span}
+use Rattle.intmap.proofs.EntryLaws.{opened, length-span}
 use Rattle.intmap.proofs.FindLaws.{found-within, found-whole}
 use Rattle.intmap.proofs.PackLaws.{head-nullable}
 use Rattle.intmap.proofs.RunLaws.{size-pos, size-record}
@@ -143,11 +143,6 @@ module _ (cs : List Cell) (x : Slot) where
 
 pub done-same : {A : Type 0} {u v : A} → done u ≡ done v → u ≡ v
 done-same e = cc
-
-pub opened : (cs : List Cell) (p n : ℕ) → 0 < n → getD cs p blank ∷ span cs (p + 1) (n - 1) ≡ span cs p n
-unfolding span
-opened cs p zero h = absurd (omega arith)
-opened cs p (suc n) h = let z : suc n - 1 ≡ n = omega arith in rw z
 
 -- a register that is no record has no columns
 no-record : (c : Cell) (rest : List Cell) (key : ℕ) (v : RegDataType) → c ∷ rest ≡ runRegister key v → (tagOf c ≡ 2 → ⊥) → recordOf (some v) ≡ none

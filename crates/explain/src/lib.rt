@@ -165,24 +165,25 @@ fn result_row(s: MemoryState, area: &[u8], x: Row, limit: usize) -> Handling
     }
 }
 
-// Handles a row x at the state that stands on `at` with the map of these numbers; `again` where its lineage has handled it before. An operation
-// without an arm, number 0, does nothing.
-fn handle_row(
+// Handles the row that the state stands on, at `at` with the map of these numbers; `again` where its lineage has handled it before. The listing's n
+// rows are in the cells from `from` on. An operation without an arm, number 0, does nothing. The row is read here, and the state is given in words:
+// a struct that is handed over is written in words and read back in pairs.
+pub fn handle(
     at: u64,
     base: usize,
     len: u64,
     used: usize,
     area: &mut [u8],
     blocks: &[u8],
-    x: Row,
     again: bool,
     from: usize,
     n: usize,
     limit: usize,
 ) -> Handling
-    requires { ⌜ Ready limit (cells (now area)) (stateOf at base len used) x × SomeRows (cells (now area)) from n × (limit ≤ 65535) × IsBlocks (now blocks) ⌝ }
-    ensures { λ r. ⌜ Handles limit from n (cells (now (area .entry))) (cells (now (area .exit))) (now (blocks .entry)) (stateOf at base len used) x again r ⌝ }
+    requires { ⌜ Ready limit (cells (now area)) (stateOf at base len used) (rowOn (cells (now area)) from at) × SomeRows (cells (now area)) from n × (at < 9223372036854775808 + n) × (limit ≤ 65535) × IsBlocks (now blocks) ⌝ }
+    ensures { λ r. ⌜ Handles limit from n (cells (now (area .entry))) (cells (now (area .exit))) (now (blocks .entry)) (stateOf at base len used) (rowOn (cells (now (area .entry))) from at) again r ⌝ }
 {
+    let x = rows::row_at(area, from, (at - intmap::ZERO) as usize);
     let map = IntMap { base, len, used };
     let s = MemoryState { map, row: at };
     let op = number(x);
@@ -205,26 +206,4 @@ fn handle_row(
         return falls_through(cursor(s, area, blocks, x, op, limit), s.row);
     }
     result_row(s, area, x, limit)
-}
-
-// Handles the row that the state stands on, at `at` with the map of these numbers; `again` where its lineage has handled it before. The listing's n
-// rows are in the cells from `from` on. The row is read here, and the state is given in words: a struct that is handed over is written in words
-// and read back in pairs.
-pub fn handle(
-    at: u64,
-    base: usize,
-    len: u64,
-    used: usize,
-    area: &mut [u8],
-    blocks: &[u8],
-    again: bool,
-    from: usize,
-    n: usize,
-    limit: usize,
-) -> Handling
-    requires { ⌜ Ready limit (cells (now area)) (stateOf at base len used) (rowOn (cells (now area)) from at) × SomeRows (cells (now area)) from n × (at < 9223372036854775808 + n) × (limit ≤ 65535) × IsBlocks (now blocks) ⌝ }
-    ensures { λ r. ⌜ Handles limit from n (cells (now (area .entry))) (cells (now (area .exit))) (now (blocks .entry)) (stateOf at base len used) (rowOn (cells (now (area .entry))) from at) again r ⌝ }
-{
-    let x = rows::row_at(area, from, (at - intmap::ZERO) as usize);
-    handle_row(at, base, len, used, area, blocks, x, again, from, n, limit)
 }

@@ -1,7 +1,7 @@
 -- The laws of entries as lists of runs: the same cells are the same entries, and how many cells they have. Assumes nothing.
 use mathlib.Core.Path.{_≡_, refl, sym, ap, ap₂}
 use mathlib.Core.List.{List, _∷_}
-use Prim.Native.Nat.{ℕ, zero, suc, _+_, _<_, _≤_}
+use Prim.Native.Nat.{ℕ, zero, suc, _+_, _-_, _<_, _≤_}
 use native.Mathlib.Omega.{arith}
 use lib.ListN.{length, getD}
 use Rattle.area.specs.Cells.{blank}
@@ -61,3 +61,9 @@ pub entries-count : (cs : List Cell) (d n p : ℕ) → length (entries cs d n p)
 unfolding entries
 entries-count cs d zero p = refl
 entries-count cs d (suc n) p = ap suc (entries-count cs d n (p + size cs d p))
+
+-- the first of n cells with the others
+pub opened : (cs : List Cell) (p n : ℕ) → 0 < n → getD cs p blank ∷ span cs (p + 1) (n - 1) ≡ span cs p n
+unfolding span
+opened cs p zero h = absurd (omega arith)
+opened cs p (suc n) h = let z : suc n - 1 ≡ n = omega arith in rw z

@@ -14,3 +14,4 @@ pub mod EqualLaws
 pub mod PackLaws
 pub mod ChangeLaws
 pub mod Overwritten
+pub mod OverLaws

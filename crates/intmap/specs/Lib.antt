@@ -6,6 +6,7 @@ pub mod Find
 pub mod Entries
 pub mod Swap
 pub mod Map
+pub mod Over
 pub mod Store
 pub mod Signed
 pub mod Get

@@ -14,6 +14,7 @@ ghost use Rattle.intmap.specs.Store.{RoomMade, IsFound, Opens, Inserts, 
 ghost use Rattle.intmap.specs.Get.{Judges, Gets};
 ghost use Rattle.intmap.specs.Change.{rekey, Writable, FromElem};
 ghost use Rattle.intmap.specs.Entries.{span};
+ghost use Rattle.intmap.specs.Over.{ArePlain, CopiesOver};
 ghost use mathlib.Core.List.{[], _∷_};
 
 // The tags of cells.
@@ -241,6 +242,48 @@ pub fn copy_runs(area: &mut [u8], from: usize, to: usize, n: u64, depth: usize) 
         left -= 1;
     }
     k
+}
+
+// Whether none of the n cells from `at` on is a record's.
+pub fn are_plain(area: &[u8], at: usize, n: u64) -> bool
+    requires { ⌜ (at + n ≤ length (cells (now area))) × (length (cells (now area)) ≤ 1048576) ⌝ }
+    ensures { λ r. ⌜ ArePlain (cells (now (area .entry))) at n r ⌝ }
+{
+    let mut k: u64 = 0;
+    while k < n {
+        if tag_of(area::cell_at(area, at + k as usize)) == RECORD {
+            return false;
+        }
+        k += 1;
+    }
+    true
+}
+
+// Puts c, the head of the record at `from`, and its columns over the record at `to`, if both have as many columns, of one cell each. The run there
+// keeps its key. Says whether it did.
+pub fn copy_over(area: &mut [u8], from: usize, to: usize, c: Cell) -> bool
+    requires { ⌜ IsColumn (cells (now area)) levels from × IsColumn (cells (now area)) levels to × (tagOf c ≡ tagOf (getD (cells (now area)) from blank)) × (c .payload ≡ getD (cells (now area)) from blank .payload) ⌝ }
+    ensures { λ r. ⌜ CopiesOver (cells (now (area .entry))) (cells (now (area .exit))) from to c r ⌝ }
+{
+    if tag_of(c) != RECORD {
+        return false;
+    }
+    let d = area::cell_at(area, to);
+    if tag_of(d) != RECORD {
+        return false;
+    }
+    if d.payload != c.payload {
+        return false;
+    }
+    if !are_plain(area, from + 1, c.payload) {
+        return false;
+    }
+    if !are_plain(area, to + 1, c.payload) {
+        return false;
+    }
+    area::move_cells(area, from + 1, to + 1, c.payload as usize);
+    area::put_cell(area, to, with_key(c, key_of(d)));
+    true
 }
 
 // The larger of two numbers.

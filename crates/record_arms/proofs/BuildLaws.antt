@@ -70,7 +70,7 @@ column-int c x t e = e ∙ sym (ap (λ b. pick b (cell (head 1 1 1 0) 0) c) (eq-
 pub column-other : (c : Cell) → (tagOf c ≡ 3 → ⊥) → c ≡ asColumn c
 column-other c t = sym (ap (λ b. pick b (cell (head 1 1 1 0) 0) c) (ne-eqb (tagOf c) 3 t))
 
-rekey-twice : (key : ℕ) (c : Cell) → withKey key (withKey 0 c) ≡ withKey key c
+pub rekey-twice : (key : ℕ) (c : Cell) → withKey key (withKey 0 c) ≡ withKey key c
 rekey-twice key c = ap (λ h. cell h (c .payload)) (omega arith)
 
 -- the cell at q is that of a column under a key

@@ -309,8 +309,9 @@ module _ (limit bound : ℕ) (cs : List Cell) (a : IntMap) (m : MemoryState) (ho
       let w = deep-register cs (classKey 0 first) (classKey 0 (first + n)) (runMap runCursor 1 (m .p) ++ runMap runTable 2 (m .t)) others (m .r) 0 (holds .good .registers) (a .len) (a .base) (unfold runsOf in (holds .runs)) d in
       some-deep m n first 0 7 (w .key) (omega (arith, w .above)) (omega (arith, w .below)) (subst (λ o. 7 < columnDepth (registerColumn o)) (sym (w .found)) (omega (arith, w .deep, column-depth (w .value))))
 
-  pub held-flat : anyDeep cs (classKey 0 first) (classKey 0 (first + n)) (a .len) (a .base) ≡ false → columnsDepth (fromDenseRecord (columnsFrom n first m)) ≤ 7
-  held-flat d = most-deep m n first 0 7 each
+  -- no register of the range that is there nests more than seven deep
+  pub held-shallow : ((i : ℕ) → first ≤ i → i < first + n → seek cs levels (classKey 0 i) (a .len) (a .base) .present ≡ true → nesting cs levels (seek cs levels (classKey 0 i) (a .len) (a .base) .at) ≤ 7) → columnsDepth (fromDenseRecord (columnsFrom n first m)) ≤ 7
+  held-shallow flat = most-deep m n first 0 7 each
     where
       each : (i : ℕ) → first ≤ i → i < first + n → columnDepth (registerColumn (get i (m .r))) ≤ 7
       each i l g = go (seek cs levels (classKey 0 i) (a .len) (a .base) .present) refl
@@ -323,8 +324,10 @@ module _ (limit bound : ℕ) (cs : List Cell) (a : IntMap) (m : MemoryState) (ho
               let v = told-register-at holds i (omega arith) .present _ (ap done (seek-some cs levels (classKey 0 i) (a .len) (a .base) f)) in
               let long : length (runRegister (classKey 0 i) (v .value)) ≡ size cs levels at = ap length (sym (v .is)) ∙ length-span cs at (size cs levels at) in
               let nests = register-nesting (v .value) cs at levels (classKey 0 i) (omega (arith, v .has .0 .depth)) (ap (span cs at) long ∙ v .is) in
-              let flat = found-flat cs (classKey 0 first) (classKey 0 (first + n)) (classKey 0 i) (a .len) (a .base) (omega arith) (omega arith) d f in
-              subst (λ o. columnDepth (registerColumn o) ≤ 7) (sym (done-same (v .answer))) (omega (arith, nests, flat, column-depth (v .value)))
+              subst (λ o. columnDepth (registerColumn o) ≤ 7) (sym (done-same (v .answer))) (omega (arith, nests, flat i l g f, column-depth (v .value)))
           go false f =
               let gone = told-register-at holds i (omega arith) .absent (ap done (seek-none cs levels (classKey 0 i) (a .len) (a .base) f)) in
               subst (λ o. columnDepth (registerColumn o) ≤ 7) (sym (done-same gone)) (unfold columnDepth in (omega arith))
+
+  pub held-flat : anyDeep cs (classKey 0 first) (classKey 0 (first + n)) (a .len) (a .base) ≡ false → columnsDepth (fromDenseRecord (columnsFrom n first m)) ≤ 7
+  held-flat d = held-shallow (λ i l g f. found-flat cs (classKey 0 first) (classKey 0 (first + n)) (classKey 0 i) (a .len) (a .base) (omega arith) (omega arith) d f)

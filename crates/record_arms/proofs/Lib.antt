@@ -3,3 +3,4 @@ pub mod DeepLaws
 pub mod SearchLaws
 pub mod BuildLaws
 pub mod RecordLaws
+pub mod OverLaws

@@ -120,7 +120,7 @@ module _ (limit bound : ℕ) (cs : List Cell) (a : IntMap) (m : MemoryState) (ho
   made-runs : columnRuns (fromDenseRecord columns) ≡ rekeyed 0 (runsFrom n k (runsAt cs a))
   made-runs = dense-runs 0 columns ∙ ap (rekeyed 0) (sym runs-are)
 
-  made-run : cell 2 n ∷ flatten (rekeyed 0 (runsFrom n k (runsAt cs a))) ≡ runRegister 0 made
+  pub made-run : cell 2 n ∷ flatten (rekeyed 0 (runsFrom n k (runsAt cs a))) ≡ runRegister 0 made
   unfolding runRegister runColumn
   made-run = ap₂ (λ (c : ℕ) (l : Runs). cell 2 c ∷ flatten l) (sym (numbered-count 0 columns ∙ columns-long m n k)) (sym made-runs)
 
@@ -135,11 +135,11 @@ module _ (limit bound : ℕ) (cs : List Cell) (a : IntMap) (m : MemoryState) (ho
   unfolding registerCells columnCells
   made-least = omega (arith, dense-cells columns 0, columns-long m n k)
 
-  made-depth : registerDepth made ≡ suc (columnsDepth (fromDenseRecord columns))
+  pub made-depth : registerDepth made ≡ suc (columnsDepth (fromDenseRecord columns))
   unfolding registerDepth columnDepth
   made-depth = refl
 
-  made-sorted : SortedColumn (Record (fromDenseRecord columns))
+  pub made-sorted : SortedColumn (Record (fromDenseRecord columns))
   unfolding SortedColumn
   made-sorted = sorted-dense columns (omega (arith, columns-long m n k)) (kept (readColumns-good (holds .good) n (pos k)) (columns-read m n k within))
 

@@ -1,6 +1,7 @@
 // Registers one after the other as columns, and the arm of `explain` that makes a record of them, OP_MAKE_RECORD. Translated from sqlx-sqlite
 // 0.9.0, src/connection/explain.rs. No number of registers, however large, makes more turns than there are entries and cells in a state.
 ghost use mathlib.Core.Path.{_≡_};
+ghost use mathlib.Core.Bool.{true};
 ghost use Prim.Native.Nat.{ℕ, _+_, _<_, _≤_};
 ghost use lib.ListN.{length, getD};
 ghost use Rattle.model.specs.Operation.{opMakeRecord};
@@ -11,12 +12,14 @@ ghost use Rattle.intmap.specs.Runs.{IsColumn};
 ghost use Rattle.intmap.specs.Signed.{intOf};
 ghost use Rattle.encoding.specs.Heads.{asColumn};
 ghost use Rattle.rows.specs.Judged.{IsRow};
-ghost use Rattle.state.specs.Leads.{Current, Leads};
+ghost use Rattle.state.specs.Leads.{Held, Current, Leads};
 ghost use Rattle.state.specs.Arms.{RegisterArm};
 ghost use Rattle.record_arms.specs.Records.{JudgesRange, deepAt, anyDeep, Flat, Puttable, PutsColumn, PutsColumns, BuildsRecord, recordFrom};
+ghost use Rattle.record_arms.specs.Over.{TellsSideBySide, Apart, PutsRegisters, PutsRecord, RecordOver};
 use area::Cell;
 use intmap::Index;
 use intmap::IntMap;
+use intmap::Slot;
 use intmap::Stored;
 use rows::Row;
 use type_info::DataType;
@@ -197,8 +200,109 @@ fn build_record(map: IntMap, area: &mut [u8], first: u64, n: u64, limit: usize) 
     }
 }
 
+// Whether the n cells from p on, before `end`, are the registers from k on, and none is a record's.
+fn side_by_side(area: &[u8], end: usize, p: usize, k: u64, n: u64) -> bool
+    requires { ⌜ (p ≤ end) × (end ≤ length (cells (now area))) × (length (cells (now area)) ≤ 1048576) × (k + n ≤ 65536) ⌝ }
+    ensures { λ r. ⌜ TellsSideBySide (cells (now (area .entry))) end p k n r ⌝ }
+{
+    if ((end - p) as u64) < n {
+        return false;
+    }
+    let mut d: u64 = 0;
+    while d < n {
+        let c = area::cell_at(area, p + d as usize);
+        if !intmap::has_key(c, intmap::class_key(state::REGISTERS, k + d)) {
+            return false;
+        }
+        if intmap::tag_of(c) == intmap::RECORD {
+            return false;
+        }
+        d += 1;
+    }
+    true
+}
+
+// Puts the n registers from p on as columns over the cells from q on, which are others, under the keys 0 to n - 1.
+fn put_over(area: &mut [u8], p: usize, q: usize, n: u64)
+    requires { ⌜ (p + n ≤ length (cells (now area))) × (q + n ≤ length (cells (now area))) × (length (cells (now area)) ≤ 1048576) × Apart p q n ⌝ }
+    ensures { λ _. ⌜ PutsRegisters (cells (now (area .entry))) (cells (now (area .exit))) p q n ⌝ }
+{
+    let mut d: u64 = 0;
+    while d < n {
+        let c = map_to_columntype(area::cell_at(area, p + d as usize));
+        area::put_cell(area, q + d as usize, intmap::with_key(c, d));
+        d += 1;
+    }
+}
+
+// Whether the n cells from p on and those from q on have none in common.
+fn are_apart(p: usize, q: usize, n: u64) -> bool
+    requires { ⌜ (p ≤ 1048576) × (q ≤ 1048576) × (n ≤ 65536) ⌝ }
+    ensures { λ r. ⌜ (r ≡ true → Apart p q n) ⌝ }
+{
+    if p + n as usize <= q {
+        return true;
+    }
+    q + n as usize <= p
+}
+
+// Puts the record of n registers from k on, the first of which is at p, over the record at q, if that has as many columns, of one cell each, and the
+// registers stand side by side. Says whether it did.
+fn put_record(area: &mut [u8], end: usize, p: usize, q: usize, k: u64, n: u64) -> bool
+    requires { ⌜ (p ≤ end) × (end ≤ length (cells (now area))) × IsColumn (cells (now area)) levels q × (k + n ≤ 65536) ⌝ }
+    ensures { λ r. ⌜ PutsRecord (cells (now (area .entry))) (cells (now (area .exit))) end p q k n r ⌝ }
+{
+    let d = area::cell_at(area, q);
+    if intmap::tag_of(d) != intmap::RECORD {
+        return false;
+    }
+    if d.payload != n {
+        return false;
+    }
+    if !intmap::are_plain(area, q + 1, n) {
+        return false;
+    }
+    if !side_by_side(area, end, p, k, n) {
+        return false;
+    }
+    if !are_apart(p, q + 1, n) {
+        return false;
+    }
+    put_over(area, p, q + 1, n);
+    let head = intmap::RECORD;
+    area::put_cell(
+        area,
+        q,
+        intmap::with_key(Cell { head, payload: n }, intmap::key_of(d)),
+    );
+    true
+}
+
+// Puts the record of n registers from `first` on over the one in register i, if that can be done where they stand. Says whether it did.
+fn record_over(map: IntMap, area: &mut [u8], first: u64, n: u64, i: u64) -> bool
+    requires { ⌜ Held (cells (now area)) map × (first + n ≤ 65536) ⌝ }
+    ensures { λ r. ⌜ RecordOver (cells (now (area .entry))) (cells (now (area .exit))) map first n i r ⌝ }
+{
+    if n == 0 {
+        return false;
+    }
+    let x = intmap::judge_index(i);
+    let Index::At(k) = x else {
+        return false;
+    };
+    let target = state::entry_at(map, area, state::REGISTERS, k);
+    let Slot::At(q) = target else {
+        return false;
+    };
+    let source = state::entry_at(map, area, state::REGISTERS, first);
+    let Slot::At(p) = source else {
+        return false;
+    };
+    put_record(area, map.base + map.used, p, q, first, n)
+}
+
 // Stores the record of n registers from `first` on in register i. Depth is judged before anything is built, and so are more than `limit` columns.
-fn store_record(map: IntMap, area: &mut [u8], first: u64, n: u64, i: u64, limit: usize) -> Stored
+fn store_behind(map: IntMap, area: &mut [u8], first: u64, n: u64, i: u64, limit: usize) -> Stored
     requires { ⌜ Current limit (cells (now area)) map × (first + n ≤ 65536) ⌝ }
     ensures { λ r. ⌜ Leads limit (cells (now (area .entry))) (cells (now (area .exit))) map r (recordFrom limit n first (intOf i)) ⌝ }
 {
@@ -217,6 +321,17 @@ fn store_record(map: IntMap, area: &mut [u8], first: u64, n: u64, i: u64, limit:
         Room::Full => Stored::Refused(8),
         Room::At(p) => map.store_run(area, state::REGISTERS, i, p, limit),
     }
+}
+
+// The same, at once where it can be put over another.
+fn store_record(map: IntMap, area: &mut [u8], first: u64, n: u64, i: u64, limit: usize) -> Stored
+    requires { ⌜ Current limit (cells (now area)) map × (first + n ≤ 65536) ⌝ }
+    ensures { λ r. ⌜ Leads limit (cells (now (area .entry))) (cells (now (area .exit))) map r (recordFrom limit n first (intOf i)) ⌝ }
+{
+    if record_over(map, area, first, n, i) {
+        return Stored::Done(map);
+    }
+    store_behind(map, area, first, n, i, limit)
 }
 
 // MakeRecord: register P3 becomes the record of P2 registers from P1 on.

@@ -2,3 +2,4 @@ pub mod StoreLeads
 pub mod ReadLaws
 pub mod LeadsLaws
 pub mod OwnLaws
+pub mod OverLaws

@@ -3,3 +3,4 @@ pub mod Reads
 pub mod Arms
 pub mod Steps
 pub mod Own
+pub mod Over

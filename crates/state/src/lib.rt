@@ -17,6 +17,7 @@ ghost use Rattle.encoding.specs.Decode.{nullables};
 ghost use Rattle.rows.specs.Rows.{Operand};
 ghost use Rattle.state.specs.Leads.{Held, Current, Leads};
 ghost use Rattle.state.specs.Own.{entrySlot, isAt, isFlat, HeldAmong, Guesses, FlatSize, Reaches, EntryBelow, Belongs, Locates, PutsPlain, OverwritesOwn, StoresCell, WritesNear, LeadsNear, GetsNear, EntryNear, FlatBefore, Overwrites};
+ghost use Rattle.state.specs.Over.{IsHead, OverEntry, OverRegister};
 ghost use Rattle.state.specs.Reads.{registerIn, Reads};
 use area::Cell;
 use intmap::Found;
@@ -216,16 +217,91 @@ fn near_last(area: &[u8], base: usize, end: usize, key: u64) -> usize
 // From this key on entries are cursors and tables.
 const LATER: u64 = 131072;
 
+// How many cells below a guess are tried: as many registers may be absent before it.
+const GAP: usize = 8;
+
+// Looks for a key in the cells below p, down to an entry with a lower one.
+fn near_below(area: &[u8], base: usize, end: usize, p: usize, key: u64) -> usize
+    requires { ⌜ HeldAmong (cells (now area)) base end × (base ≤ p) × (p ≤ end) ⌝ }
+    ensures { λ r. ⌜ Guesses (cells (now (area .entry))) base end key r ⌝ }
+{
+    let mut q = p;
+    let mut left: usize = GAP;
+    while 0 < left {
+        if q <= base {
+            return end;
+        }
+        q -= 1;
+        let c = area::cell_at(area, q);
+        let k = intmap::key_of(c);
+        if k == key {
+            return q;
+        }
+        if k < key {
+            if intmap::begins(c) {
+                return end;
+            }
+        }
+        left -= 1;
+    }
+    end
+}
+
+// Looks for a key at its distance from the record that the cell at p is a column of, if the cell tells where that begins.
+fn near_behind(area: &[u8], base: usize, end: usize, p: usize, key: u64) -> usize
+    requires { ⌜ HeldAmong (cells (now area)) base end × (base ≤ p) × (p < end) × (key < 1099511627776) ⌝ }
+    ensures { λ r. ⌜ Guesses (cells (now (area .entry))) base end key r ⌝ }
+{
+    let at = head_near(area, base, p);
+    let c = area::cell_at(area, at);
+    let k = intmap::key_of(c);
+    if key <= k {
+        return end;
+    }
+    let q = ahead(at, c, k, key);
+    if is_at(area, end, q, key) {
+        return q;
+    }
+    end
+}
+
+// Looks for a register's key near its distance from the first entry, from where a record before it, or a register that is absent, has moved it.
+fn near_moved(area: &[u8], base: usize, end: usize, key: u64) -> usize
+    requires { ⌜ HeldAmong (cells (now area)) base end × (key < 1099511627776) ⌝ }
+    ensures { λ r. ⌜ Guesses (cells (now (area .entry))) base end key r ⌝ }
+{
+    if end <= base {
+        return end;
+    }
+    let k = intmap::key_of(area::cell_at(area, base));
+    if key < k {
+        return end;
+    }
+    if ((end - base) as u64) <= key - k {
+        return near_below(area, base, end, end, key);
+    }
+    let p = base + (key - k) as usize;
+    let q = near_behind(area, base, end, p, key);
+    if q < end {
+        return q;
+    }
+    near_below(area, base, end, p, key)
+}
+
 // Where a key is found with few tests, or `end`: registers stand close, and cursors and tables are the last entries. It calls nothing that the
 // compiler leaves a call, so that a search costs no copies of what it is given.
 fn near(area: &[u8], base: usize, end: usize, key: u64) -> usize
     requires { ⌜ HeldAmong (cells (now area)) base end × (key < 1099511627776) ⌝ }
     ensures { λ r. ⌜ Guesses (cells (now (area .entry))) base end key r ⌝ }
 {
-    if key < LATER {
-        return near_first(area, base, end, key);
+    if LATER <= key {
+        return near_last(area, base, end, key);
     }
-    near_last(area, base, end, key)
+    let p = near_first(area, base, end, key);
+    if p < end {
+        return p;
+    }
+    near_moved(area, base, end, key)
 }
 
 // How many cells a search tests where it guesses, before it goes by halves.
@@ -426,6 +502,35 @@ pub fn overwrite_own(map: IntMap, area: &mut [u8], class: u64, i: u64, c: Cell) 
         return false;
     }
     put_plain(area, p, key, c)
+}
+
+// Puts the record at `at` of the map, with c for its head, over the one of place k in a class, if both have as many columns, of one cell each. Says
+// whether it did: then the map is as it was.
+pub fn over_entry(map: IntMap, area: &mut [u8], at: usize, c: Cell, class: u64, k: u64) -> bool
+    requires { ⌜ Held (cells (now area)) map × IsHead (cells (now area)) at c × (class < 3) × (k ≤ 65535) ⌝ }
+    ensures { λ r. ⌜ OverEntry (cells (now (area .entry))) (cells (now (area .exit))) map at c class k r ⌝ }
+{
+    let x = entry_at(map, area, class, k);
+    match x {
+        Slot::Bad(_) => false,
+        Slot::Absent => false,
+        Slot::At(p) => intmap::copy_over(area, at, p, c),
+    }
+}
+
+// The same over the record in register i.
+pub fn over_register(map: IntMap, area: &mut [u8], at: usize, c: Cell, i: u64) -> bool
+    requires { ⌜ Held (cells (now area)) map × IsHead (cells (now area)) at c ⌝ }
+    ensures { λ r. ⌜ OverRegister (cells (now (area .entry))) (cells (now (area .exit))) map at c i r ⌝ }
+{
+    if intmap::tag_of(c) != intmap::RECORD {
+        return false;
+    }
+    let x = intmap::judge_index(i);
+    let Index::At(k) = x else {
+        return false;
+    };
+    over_entry(map, area, at, c, REGISTERS, k)
 }
 
 // Stores a cell that is no record's under index i of a class: over its own cell, or where that belongs, or in the place of a record.

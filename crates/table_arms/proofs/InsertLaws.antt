@@ -1,6 +1,6 @@
 -- Insert by what register P2 holds and what cursor P1 is. Assumes nothing.
 use mathlib.Core.Path.{_≡_, refl, sym, ap, ap₂, subst, _∙_}
-use mathlib.Core.Bool.{false}
+use mathlib.Core.Bool.{Bool, true, false}
 use mathlib.Core.Option.{Option, none, some}
 use mathlib.Core.List.{List, [], _∷_}
 use Prim.Native.Nat.{ℕ, zero, suc, _+_, _-_, _/_, _%_, _<_, _≤_}
@@ -23,7 +23,7 @@ use Rattle.area.specs.declared.Cell.{Cell}
 use Rattle.intmap.specs.Change.{onHead, rekey}
 use Rattle.intmap.specs.Entries.{span}
 use Rattle.intmap.specs.Get.{Gets}
-use Rattle.intmap.specs.Map.{levels, runsAt}
+use Rattle.intmap.specs.Map.{levels, runsAt, HasRoom}
 use Rattle.intmap.specs.Pack.{tagOf, kindOf, classKey, withNullable}
 use Rattle.intmap.specs.Runs.{size}
 use Rattle.intmap.specs.Signed.{intOf}
@@ -35,6 +35,7 @@ use Rattle.intmap.specs.declared.Slot.{Slot}
 use Rattle.intmap.specs.declared.Slot.the-variants as slot
 use Rattle.intmap.specs.declared.Stored.{Stored}
 use Rattle.intmap.specs.declared.Stored.the-variants as stored
+use Rattle.intmap.proofs.EntryLaws.{opened}
 use Rattle.intmap.proofs.PackLaws.{head-kind, head-with-nullable}
 use Rattle.intmap.proofs.RunLaws.{size-pos}
 use Rattle.encoding.specs.Encode.{nullableCode, single, count, runColumn, runColumns, runRegister, runTable}
@@ -47,13 +48,16 @@ use Rattle.rows.specs.Judged.{Judged}
 use Rattle.rows.specs.declared.Row.{Row}
 use Rattle.state.specs.Leads.{Current, HoldsMap, Tells, Leaves, Leads}
 use Rattle.state.specs.Arms.{Standard, CursorArm}
+use Rattle.state.specs.Over.{IsHead, headed, OverEntry}
+use Rattle.state.proofs.OverLaws.{is-head}
+use Rattle.state.proofs.StoreLeads.{wider}
 use Rattle.cursor_arms.specs.Behind.{RunBehind}
 use Rattle.cursor_arms.specs.Cursors.{ReadsCursor}
 use Rattle.cursor_arms.specs.StandsFor.{FindsTable, TellsTable, CursorTableChanged}
 use Rattle.cursor_arms.specs.declared.CursorDataType.{CursorDataType}
 use Rattle.cursor_arms.specs.declared.CursorDataType.the-variants as cursor
 use Rattle.cursor_arms.proofs.DupLaws.{frame-same}
-use Rattle.cursor_arms.proofs.StandsLaws.{done-same, opened, led-bad}
+use Rattle.cursor_arms.proofs.StandsLaws.{done-same, led-bad}
 use Rattle.table_arms.specs.Inserted.{fillTable, StoresTable, InsertsRecord, InsertsFrom}
 
 -- ---- the record as a table
@@ -103,6 +107,39 @@ module _ (limit : ℕ) (cs es ds : List Cell) (a : IntMap) (row at n key : ℕ) 
 
   pub stores-done : (b : IntMap) → x ≡ insertion.Done b → StoresTable limit cs ds a row at (stored.Done b)
   stores-done b e = subst (λ y. StoresTable limit cs ds a row at (asStored y)) e stores
+
+-- the record's head as the table's
+pub table-head : {limit : ℕ} {cs : List Cell} {a : IntMap} (at : ℕ) (b c : Cell) → Current limit cs a → at + size cs levels at ≤ a .base + a .used → b ≡ getD cs at blank → c ≡ withNullable 1 b → IsHead cs at c
+table-head at b c current below be ce =
+    is-head at c current below (omega (arith, ap (λ (y : Cell). y .head) ce, ap (λ (y : Cell). y .head) be)) (ap (λ (y : Cell). y .payload) ce ∙ ap (λ (y : Cell). y .payload) be)
+
+-- the record put over the table where that stands
+module _ (limit : ℕ) (cs ds : List Cell) (a : IntMap) (row at : ℕ) (within : row ≤ 65535) (room : HasRoom cs limit a) (b c : Cell) (be : b ≡ getD cs at blank) (ce : c ≡ withNullable 1 b) (r : Bool) (over : OverEntry cs ds a at c 2 row r) (e : r ≡ true) where
+  inserted : Inserts cs ds limit a (rekey (classKey 2 row) (headed cs at c)) (insertion.Done a)
+  inserted = over .yes e limit room
+
+  nulled : headed cs at c ≡ onHead (withNullable 1) (span cs at (size cs levels at))
+  nulled = ap (λ y. y ∷ span cs (at + 1) (size cs levels at - 1)) (ce ∙ ap (withNullable 1) be) ∙ ap (onHead (withNullable 1)) (opened cs at (size cs levels at) (size-pos cs levels at))
+
+  pub stores-over : StoresTable limit cs ds a row at (stored.Done a)
+  unfolding storeAt
+  stores-over =
+      record {
+        says = λ bound m h y r.
+            (let t : TableDataType = record { cols = y; isEmpty = some false } in
+            let run : headed cs at c ≡ runTable (r .key) t = nulled ∙ ap (onHead (withNullable 1)) (r .run) ∙ as-table (r .key) y in
+            let same : done (runsAt ds a) ≡ storeAt limit (classKey 2 row) (columnsDepth y) (runTable (r .key) t) (runsAt cs a) =
+            inserted .answer
+            ∙ ap (λ l. judgeRuns limit (put (rekey (classKey 2 row) l) (runsAt cs a))) run
+            ∙ ap (λ u. u >>= λ v. judgeRuns limit (put (rekey (classKey 2 row) v) (runsAt cs a))) (sym (depth-passes (columnsDepth y) (runTable (r .key) t) (r .depth))) in
+            held-table h row within (r .key) t (λ _. r .sorted) .next ds (a .base) (a .len) (a .used) (runsAt ds a) (sym same) refl (inserted .leaves .room .used));
+        leaves = record { base = refl; room = inserted .leaves .room };
+        frame = wider cs ds (a .base) limit (inserted .frame);
+      }
+
+-- or it was not, and stored from behind the map
+pub stores-then : {limit : ℕ} {cs es ds : List Cell} {a : IntMap} {row at : ℕ} {r : Stored} → es ≡ cs → StoresTable limit es ds a row at r → StoresTable limit cs ds a row at r
+stores-then {limit} {ds = ds} {a} {row} {at} {r} same st = subst (λ l. StoresTable limit l ds a row at r) same st
 
 -- ---- by cursor P1
 
@@ -242,15 +279,15 @@ pub value-within : (limit : ℕ) (cs : List Cell) (a : IntMap) (at : ℕ) → Cu
 value-within limit cs a at current below = omega (arith, below, size-pos cs levels at, current .room .room, current .room .most)
 
 module _ (limit : ℕ) (cs : List Cell) (a : IntMap) (x : Row) (at : ℕ) (current : Current limit cs a) (below : at + size cs levels at ≤ a .base + a .used) (c : Cell) (ce : c ≡ getD cs at blank) where
-  headed : (run : List Cell) → span cs at (size cs levels at) ≡ run → c ∷ span cs (at + 1) (size cs levels at - 1) ≡ run
-  headed run e = ap (λ y. y ∷ span cs (at + 1) (size cs levels at - 1)) ce ∙ opened cs at (size cs levels at) (size-pos cs levels at) ∙ e
+  with-head : (run : List Cell) → span cs at (size cs levels at) ≡ run → c ∷ span cs (at + 1) (size cs levels at - 1) ≡ run
+  with-head run e = ap (λ y. y ∷ span cs (at + 1) (size cs levels at - 1)) ce ∙ opened cs at (size cs levels at) (size-pos cs levels at) ∙ e
 
   pub from-record : tagOf c ≡ 2 → (ds : List Cell) (r : Stored) → InsertsRecord limit cs ds a x at r → InsertsFrom limit cs ds a x at r
   unfolding insertArm registerDepth columnDepth SortedColumn
   from-record t ds r arm =
       record {
         says = λ l j bound m le h key v good run.
-            (let y = is-record c _ key v (headed _ run) t in
+            (let y = is-record c _ key v (with-head _ run) t in
             let g : GoodRegister (Column (Record (y .0))) = subst GoodRegister (y .1) good in
             subst (Tells limit bound ds r) (ap (λ i. readCursor i m >>= λ o. insertRecord limit (y .0) o m) (j .p1) ∙ ap (λ w. insertArm limit l m (some w)) (sym (y .1)))
             (arm .says bound m h (y .0) (record { key = key; run = run ∙ ap (runRegister key) (y .1); depth = omega (arith, g .depth); sorted = g .sorted })));
@@ -266,7 +303,7 @@ module _ (limit : ℕ) (cs : List Cell) (a : IntMap) (x : Row) (at : ℕ) (curre
             subst (Tells limit bound ds r)
             (ap (λ i. readCursor i m >>= λ o. done (updateCursorTable (setEmpty (some false)) o m)) (j .p1)
             ∙ ap (λ n. insertNullIf (isZero n) l m) (sym z ∙ ke)
-            ∙ sym (is-plain c _ key v (headed _ run) t limit l m))
+            ∙ sym (is-plain c _ key v (with-head _ run) t limit l m))
             (arm .says bound m le h);
         leaves = arm .leaves;
         frame = arm .frame;
@@ -282,10 +319,10 @@ module _ (limit : ℕ) (cs : List Cell) (a : IntMap) (x : Row) (at : ℕ) (curre
 
   pub from-kind : tagOf c ≡ 1 → (k : ℕ) → k ≡ kindOf c → (k ≡ 0 → ⊥) → InsertsFrom limit cs cs a x at (stored.Done a)
   from-kind t k ke z =
-      kept (λ l m key v run. is-plain c _ key v (headed _ run) t limit l m ∙ ap (λ b. insertNullIf b l m) (ap isZero (sym ke) ∙ not-zero k z))
+      kept (λ l m key v run. is-plain c _ key v (with-head _ run) t limit l m ∙ ap (λ b. insertNullIf b l m) (ap isZero (sym ke) ∙ not-zero k z))
 
   pub from-number : (tagOf c ≡ 2 → ⊥) → (tagOf c ≡ 1 → ⊥) → InsertsFrom limit cs cs a x at (stored.Done a)
-  from-number s t = kept (λ l m key v run. is-number c _ key v (headed _ run) s t limit l m)
+  from-number s t = kept (λ l m key v run. is-number c _ key v (with-head _ run) s t limit l m)
 
 -- ---- the arm
 

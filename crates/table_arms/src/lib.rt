@@ -119,8 +119,9 @@ pub fn null_row(map: IntMap, area: &mut [u8], x: Row) -> Stored
     }
 }
 
-// Stores the columns of the record at `at` of the map as the table that a row opened, which is not empty then.
-fn store_table(map: IntMap, area: &mut [u8], row: u64, at: usize, limit: usize) -> Stored
+// Stores the columns of the record at `at` of the map as the table that a row opened, which is not empty then. A store may move that record, so it
+// goes to the room behind the map first.
+fn store_behind(map: IntMap, area: &mut [u8], row: u64, at: usize, limit: usize) -> Stored
     requires { ⌜ Current limit (cells (now area)) map × (map .base ≤ at) × (at + size (cells (now area)) levels at ≤ map .base + map .used) × (row ≤ 65535) ⌝ }
     ensures { λ r. ⌜ StoresTable limit (cells (now (area .entry))) (cells (now (area .exit))) map row at r ⌝ }
 {
@@ -131,6 +132,18 @@ fn store_table(map: IntMap, area: &mut [u8], row: u64, at: usize, limit: usize) 
         Insertion::Full => Stored::Refused(8),
         Insertion::Done(m) => Stored::Done(m),
     }
+}
+
+// The same, at once where the table has as many columns, of one cell each.
+fn store_table(map: IntMap, area: &mut [u8], row: u64, at: usize, limit: usize) -> Stored
+    requires { ⌜ Current limit (cells (now area)) map × (map .base ≤ at) × (at + size (cells (now area)) levels at ≤ map .base + map .used) × (row ≤ 65535) ⌝ }
+    ensures { λ r. ⌜ StoresTable limit (cells (now (area .entry))) (cells (now (area .exit))) map row at r ⌝ }
+{
+    let c = intmap::with_nullable(area::cell_at(area, at), cursor_arms::NEVER_EMPTY);
+    if state::over_entry(map, area, at, c, cursor_arms::TABLES, row) {
+        return Stored::Done(map);
+    }
+    store_behind(map, area, row, at, limit)
 }
 
 // Insert of the record at `at` of the map: it replaces the table of cursor P1, if there is one.

@@ -1,57 +1,37 @@
--- `column_arms::store_from` stores a cell alone, or moves the run behind the map, writes its head, and stores it. Assumes nothing.
-use mathlib.Core.Path.{_∙_}
-use native.Mathlib.Omega.{arith}
+-- `column_arms::store_from` puts a record over another, or stores from behind the map. Assumes nothing.
 use borrow.Author.Needs.{needs}
-use Rattle.column_arms.proofs.RunLaws.{behind-inside, run-room, run-above, stores-run, stores-alone}
 use Rattle.state.proofs.LeadsLaws.{current-held}
+use Rattle.state.proofs.OverLaws.{is-head}
+use Rattle.column_arms.proofs.RunLaws.{stores-over}
+use Rattle.column_arms.proofs.ArmLaws.{still-headed, still-stored}
 use Rattle.column_arms.proofs.store_from.Statement.{statement}
 use Rattle.column_arms.proofs.store_from.Tie as tie
 
-tag-of-requires : tie.Need-tag-of-requires
-tag-of-requires c κs = search needs
-
-store-cell-requires : tie.Need-store-cell-requires
-store-cell-requires c κs = (c .before .before .before .before .pre .0 .room, current-held (c .before .before .before .before .pre .0), omega arith, λ e. c .before .if1 .taken (c .before .before .tag-of .ensures ∙ e))
+over-register-requires : tie.Need-over-register-requires
+over-register-requires c κs = (current-held (c .before .before .pre .0), is-head _ _ (c .before .before .pre .0) (c .before .before .pre .2) (c .before .before .pre .3) (c .before .before .pre .4))
 
 same-length : tie.Need-same-length
 same-length c = search needs
 
 returns : tie.Need-returns
-returns c = stores-alone _ _ _ _ _ (c .before .before .before .before .before .before .before .pre .3) (λ e. c .before .before .before .before .if1 .taken (c .before .before .before .before .before .tag-of .ensures ∙ e)) _ _ _ (c .before .before .store-cell .ensures)
+returns c = stores-over _ _ _ _ _ _ _ _ (c .before .before .before .before .before .before .pre .0 .room) (c .before .before .before .over-register .ensures) (c .if1 .taken)
 
-run-behind-requires : tie.Need-run-behind-requires
-run-behind-requires c κs = search needs
-
-add-to : tie.Need-add-to
-add-to c = search needs
-
-put-cell-requires : tie.Need-put-cell-requires
-put-cell-requires c κs = behind-inside _ _ _ _ _ (c .before .before .before .before .before .before .before .before .before .pre .0) (c .before .before .before .before .before .before .before .before .before .pre .1) (c .before .before .before .before .before .before .before .before .before .pre .2) _ (c .before .before .before .before .run-behind .ensures)
-
-store-run-requires : tie.Need-store-run-requires
-store-run-requires c κs = let pre = c .before .before .before .before .before .before .before .before .before .before .before .before .before .pre in
-    let behind = c .before .before .before .before .before .before .before .before .run-behind .ensures in
-    let put = c .before .before .before .put-cell .ensures .cells in
-    (run-room _ _ _ _ _ (pre .0) (pre .1) (pre .2) _ _ _ (pre .3) (pre .4) behind put, omega arith, run-above _ _ _ _ _ (pre .0) (pre .1) (pre .2) _ _ _ (pre .3) (pre .4) behind put)
+store-behind-requires : tie.Need-store-behind-requires
+store-behind-requires c κs = still-headed (c .before .before .before .before .over-register .ensures .no (c .before .if1 .left)) _ _ _ (c .before .before .before .before .before .before .before .pre .0) (c .before .before .before .before .before .before .before .pre .1) (c .before .before .before .before .before .before .before .pre .2) (c .before .before .before .before .before .before .before .pre .3) (c .before .before .before .before .before .before .before .pre .4)
 
 same-length-2 : tie.Need-same-length-2
 same-length-2 c = search needs
 
 returns-2 : tie.Need-returns-2
-returns-2 c = let pre = c .before .before .before .before .before .before .before .before .before .before .before .before .before .before .before .before .pre in
-    stores-run _ _ _ _ _ (pre .0) (pre .1) (pre .2) _ _ _ (pre .3) (pre .4) (c .before .before .before .before .before .before .before .before .before .before .before .run-behind .ensures) (c .before .before .before .before .before .before .put-cell .ensures .cells) _ _ _ (c .before .before .store-run .ensures)
+returns-2 c = still-stored (c .before .before .before .before .before .before .before .over-register .ensures .no (c .before .before .before .before .if1 .left)) _ _ _ (c .before .before .store-behind .ensures)
 
 pub store-from-spec : {M : Type 1} → statement M
 store-from-spec =
     tie.close
     (tie.spec
-    tag-of-requires
-    store-cell-requires
+    over-register-requires
     same-length
     returns
-    run-behind-requires
-    add-to
-    put-cell-requires
-    store-run-requires
+    store-behind-requires
     same-length-2
     returns-2)

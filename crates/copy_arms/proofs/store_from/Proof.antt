@@ -1,57 +1,44 @@
--- `copy_arms::store_from` stores a cell alone, or moves the run behind the map and stores it from there. Assumes nothing.
-use mathlib.Core.Path.{refl, _∙_}
+-- `copy_arms::store_from` puts a record over another, or stores from behind the map. Assumes nothing.
+use mathlib.Core.Path.{ap}
 use native.Mathlib.Omega.{arith}
 use borrow.Author.Needs.{needs}
+use Rattle.area.specs.declared.Cell.{Cell}
+use Rattle.intmap.specs.Pack.{tagOf}
 use Rattle.state.proofs.LeadsLaws.{current-held}
-use Rattle.copy_arms.proofs.CopyLaws.{behind-room, behind-fits, stores-from, alone-inside, stores-alone}
+use Rattle.state.proofs.OverLaws.{is-head, still-current}
+use Rattle.copy_arms.proofs.CopyLaws.{alone-inside, stores-over, stores-then}
 use Rattle.copy_arms.proofs.store_from.Statement.{statement}
 use Rattle.copy_arms.proofs.store_from.Tie as tie
 
 cell-at-requires : tie.Need-cell-at-requires
 cell-at-requires c κs = let inside = alone-inside (c .before .before .pre .0) (c .before .before .pre .2) in omega (arith, inside, c .before .before .pre .0 .room .small)
 
-tag-of-requires : tie.Need-tag-of-requires
-tag-of-requires c κs = search needs
-
-store-cell-requires : tie.Need-store-cell-requires
-store-cell-requires c κs = (c .before .before .before .before .before .before .pre .0 .room, current-held (c .before .before .before .before .before .before .pre .0), omega arith, λ e. c .before .if1 .taken (c .before .before .tag-of .ensures ∙ e))
+over-register-requires : tie.Need-over-register-requires
+over-register-requires c κs = (current-held (c .before .before .before .before .pre .0), is-head _ _ (c .before .before .before .before .pre .0) (c .before .before .before .before .pre .2) (ap tagOf (c .before .cell-at .ensures)) (ap (λ (x : Cell). x .payload) (c .before .cell-at .ensures)))
 
 same-length : tie.Need-same-length
 same-length c = search needs
 
 returns : tie.Need-returns
-returns c = stores-alone _ _ _ _ _ _ _ _ (c .before .before .before .before .before .before .cell-at .ensures) (λ e. c .before .before .before .before .if1 .taken (c .before .before .before .before .before .tag-of .ensures ∙ e)) (c .before .before .store-cell .ensures)
+returns c = stores-over _ _ _ _ _ _ _ _ (c .before .before .before .before .before .before .before .before .pre .0 .room) (c .before .before .before .before .before .cell-at .ensures) (c .before .before .before .over-register .ensures) (c .if1 .taken)
 
-add-to : tie.Need-add-to
-add-to c = search needs
-
-count-requires : tie.Need-count-requires
-count-requires c κs = search needs
-
-move-cells-requires : tie.Need-move-cells-requires
-move-cells-requires c κs = search needs
-
-store-run-requires : tie.Need-store-run-requires
-store-run-requires c κs = (behind-room _ _ _ _ _ _ (c .before .before .before .before .before .before .before .before .before .before .before .before .before .pre .0) (c .before .before .before .before .before .before .before .before .before .before .before .before .before .pre .2) (c .before .before .before .before .before .count .ensures) (c .before .before .before .before .before .before .before .before .before .before .before .before .before .pre .1) (c .before .before .before .move-cells .ensures .cells), omega arith, record { whole = refl; above = omega arith; fits = behind-fits _ _ _ _ _ _ (c .before .before .before .before .before .before .before .before .before .before .before .before .before .pre .0) (c .before .before .before .before .before .before .before .before .before .before .before .before .before .pre .2) (c .before .before .before .before .before .count .ensures) (c .before .before .before .before .before .before .before .before .before .before .before .before .before .pre .1) (c .before .before .before .move-cells .ensures .cells) })
+store-behind-requires : tie.Need-store-behind-requires
+store-behind-requires c κs = let still = still-current _ (c .before .before .before .before .over-register .ensures .no (c .before .if1 .left)) (c .before .before .before .before .before .before .before .before .before .pre .0) (c .before .before .before .before .before .before .before .before .before .pre .2) in (still .0, c .before .before .before .before .before .before .before .before .before .pre .1, still .1)
 
 same-length-2 : tie.Need-same-length-2
 same-length-2 c = search needs
 
 returns-2 : tie.Need-returns-2
-returns-2 c = stores-from _ _ _ _ _ _ (c .before .before .before .before .before .before .before .before .before .before .before .before .before .before .before .before .pre .0) (c .before .before .before .before .before .before .before .before .before .before .before .before .before .before .before .before .pre .2) (c .before .before .before .before .before .before .before .before .count .ensures) (c .before .before .before .before .before .before .before .before .before .before .before .before .before .before .before .before .pre .1) (c .before .before .before .before .before .before .move-cells .ensures .cells) _ _ _ (c .before .before .store-run .ensures)
+returns-2 c = stores-then (c .before .before .before .before .before .before .before .over-register .ensures .no (c .before .before .before .before .if1 .left)) (c .before .before .store-behind .ensures)
 
 pub store-from-spec : {M : Type 1} → statement M
 store-from-spec =
     tie.close
     (tie.spec
     cell-at-requires
-    tag-of-requires
-    store-cell-requires
+    over-register-requires
     same-length
     returns
-    add-to
-    count-requires
-    move-cells-requires
-    store-run-requires
+    store-behind-requires
     same-length-2
     returns-2)

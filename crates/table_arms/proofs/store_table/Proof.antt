@@ -1,65 +1,45 @@
--- `table_arms::store_table` makes a table of the record behind the map, and stores it. Assumes nothing.
-use Rattle.table_arms.proofs.InsertLaws.{stores-full, stores-done}
+-- `table_arms::store_table` puts a record over the table, or stores from behind the map. Assumes nothing.
+use native.Mathlib.Omega.{arith}
 use borrow.Author.Needs.{needs}
+use Rattle.state.proofs.LeadsLaws.{current-held}
+use Rattle.state.proofs.OverLaws.{still-current}
+use Rattle.table_arms.proofs.InsertLaws.{value-within, table-head, stores-over, stores-then}
 use Rattle.table_arms.proofs.store_table.Statement.{statement}
 use Rattle.table_arms.proofs.store_table.Tie as tie
-use Rattle.table_arms.proofs.store_table.Reads as reads
-use Rattle.table_arms.proofs.store_table.Lts as lts
-use Rattle.cursor_arms.proofs.run_behind.Reads as run-behind-reads
-use Rattle.intmap.proofs.IntMap.insert_run.Reads as insert-run-reads
-use Rattle.intmap.proofs.class_key.Reads as class-key-reads
 
--- src/lib.rt:74:9
-run-behind-requires : tie.Need-run-behind-requires
-run-behind-requires c κs = search needs
+cell-at-requires : tie.Need-cell-at-requires
+cell-at-requires c κs = omega (arith, value-within _ _ _ _ (c .before .before .pre .0) (c .before .before .pre .2), c .before .before .pre .0 .room .small)
 
--- src/lib.rt:75:9
-class-key-requires : tie.Need-class-key-requires
-class-key-requires c κs = search needs
+with-nullable-requires : tie.Need-with-nullable-requires
+with-nullable-requires c κs = search needs
 
--- src/lib.rt:76:39
-add-insert-run : tie.Need-add-insert-run
-add-insert-run c = search needs
+over-entry-requires : tie.Need-over-entry-requires
+over-entry-requires c κs = (current-held (c .before .before .before .before .before .pre .0), table-head _ _ _ (c .before .before .before .before .before .pre .0) (c .before .before .before .before .before .pre .2) (c .before .before .cell-at .ensures) (c .before .with-nullable .ensures), omega arith, c .before .before .before .before .before .pre .3)
 
--- src/lib.rt:76:9
-insert-run-requires : tie.Need-insert-run-requires
-insert-run-requires c κs = search needs
-
--- src/lib.rt:78:28
-enum-told : tie.Need-enum-told
-enum-told c = search needs
-
--- src/lib.rt:79:25
-enum-known-x : tie.Need-enum-known-x
-enum-known-x c = search needs
-
--- src/lib.rt:70:1
 same-length : tie.Need-same-length
 same-length c = search needs
 
--- src/lib.rt:70:1
 returns : tie.Need-returns
-returns c = stores-full _ _ _ _ _ _ _ _ _ (c .before .before .before .before .before .before .before .before .before .before .before .before .before .pre .3) (c .before .before .before .before .before .before .before .class-key .ensures) (c .before .before .before .before .before .before .before .before .before .before .run-behind .ensures) _ (c .before .before .before .before .insert-run .ensures) (c .enum-told .given .1)
+returns c = stores-over _ _ _ _ _ _ (c .before .before .before .before .before .before .before .before .before .pre .3) (c .before .before .before .before .before .before .before .before .before .pre .0 .room) _ _ (c .before .before .before .before .before .before .cell-at .ensures) (c .before .before .before .before .before .with-nullable .ensures) _ (c .before .before .before .over-entry .ensures) (c .if1 .taken)
 
--- src/lib.rt:70:1
+store-behind-requires : tie.Need-store-behind-requires
+store-behind-requires c κs = let still = still-current _ (c .before .before .before .before .over-entry .ensures .no (c .before .if1 .left)) (c .before .before .before .before .before .before .before .before .before .before .pre .0) (c .before .before .before .before .before .before .before .before .before .before .pre .2) in (still .0, c .before .before .before .before .before .before .before .before .before .before .pre .1, still .1, c .before .before .before .before .before .before .before .before .before .before .pre .3)
+
 same-length-2 : tie.Need-same-length-2
 same-length-2 c = search needs
 
--- src/lib.rt:70:1
 returns-2 : tie.Need-returns-2
-returns-2 c = stores-done _ _ _ _ _ _ _ _ _ (c .before .before .before .before .before .before .before .before .before .before .before .before .before .before .pre .3) (c .before .before .before .before .before .before .before .before .class-key .ensures) (c .before .before .before .before .before .before .before .before .before .before .before .run-behind .ensures) _ (c .before .before .before .before .before .insert-run .ensures) _ (c .before .x .given .1)
+returns-2 c = stores-then (c .before .before .before .before .before .before .before .over-entry .ensures .no (c .before .before .before .before .if1 .left)) (c .before .before .store-behind .ensures)
 
 pub store-table-spec : {M : Type 1} → statement M
 store-table-spec =
     tie.close
     (tie.spec
-    run-behind-requires
-    class-key-requires
-    add-insert-run
-    insert-run-requires
-    enum-told
-    enum-known-x
+    cell-at-requires
+    with-nullable-requires
+    over-entry-requires
     same-length
     returns
+    store-behind-requires
     same-length-2
     returns-2)
