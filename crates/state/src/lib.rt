@@ -247,27 +247,27 @@ fn near_below(area: &[u8], base: usize, end: usize, p: usize, key: u64) -> usize
     end
 }
 
-// Looks for a key at its distance from the record that the cell at p is a column of, if the cell tells where that begins.
-fn near_behind(area: &[u8], base: usize, end: usize, p: usize, key: u64) -> usize
-    requires { ⌜ HeldAmong (cells (now area)) base end × (base ≤ p) × (p < end) × (key < 1099511627776) ⌝ }
-    ensures { λ r. ⌜ Guesses (cells (now (area .entry))) base end key r ⌝ }
+// Below which cell a key may stand: behind the one at its distance from the entry that the cell at p belongs to, if the key is above, else below p.
+fn top_near(area: &[u8], base: usize, end: usize, p: usize, key: u64) -> usize
+    requires { ⌜ HeldAmong (cells (now area)) base end × (base ≤ p) × (p < end) ⌝ }
+    ensures { λ r. ⌜ (base ≤ r) × (r ≤ end) ⌝ }
 {
     let at = head_near(area, base, p);
     let c = area::cell_at(area, at);
     let k = intmap::key_of(c);
     if key <= k {
-        return end;
+        return p;
     }
     let q = ahead(at, c, k, key);
-    if is_at(area, end, q, key) {
-        return q;
+    if end <= q {
+        return end;
     }
-    end
+    q + 1
 }
 
 // Looks for a register's key near its distance from the first entry, from where a record before it, or a register that is absent, has moved it.
 fn near_moved(area: &[u8], base: usize, end: usize, key: u64) -> usize
-    requires { ⌜ HeldAmong (cells (now area)) base end × (key < 1099511627776) ⌝ }
+    requires { ⌜ HeldAmong (cells (now area)) base end ⌝ }
     ensures { λ r. ⌜ Guesses (cells (now (area .entry))) base end key r ⌝ }
 {
     if end <= base {
@@ -281,11 +281,7 @@ fn near_moved(area: &[u8], base: usize, end: usize, key: u64) -> usize
         return near_below(area, base, end, end, key);
     }
     let p = base + (key - k) as usize;
-    let q = near_behind(area, base, end, p, key);
-    if q < end {
-        return q;
-    }
-    near_below(area, base, end, p, key)
+    near_below(area, base, end, top_near(area, base, end, p, key), key)
 }
 
 // Where a key is found with few tests, or `end`: registers stand close, and cursors and tables are the last entries. It calls nothing that the
