@@ -94,9 +94,9 @@ pub record Lines (k b : ℕ) (kind nullable : Name) : Type 0 where
   pub kind_size : length (spelling kind) ≡ kind.1
   pub nullable_size : length (spelling nullable) ≡ nullable.1
 
-pub column-lines : (k b : ℕ) (d : DataType) (kind nullable : Name) → d ≡ get_or datatypes (b / 4) Null → kind ≡ spelled (name_of d) → nullable ≡ spelled (print_nullable (get_or nullables (b % 4) none)) → Lines k b kind nullable
+pub column_lines_lem : (k b : ℕ) (d : DataType) (kind nullable : Name) → d ≡ get_or datatypes (b / 4) Null → kind ≡ spelled (name_of d) → nullable ≡ spelled (print_nullable (get_or nullables (b % 4) none)) → Lines k b kind nullable
 unfolding column_lines print_column
-column-lines k b d kind nullable e f g =
+column_lines_lem k b d kind nullable e f g =
     let s = spelled_name (name_of d) kind (name_short d) f in
     let t = spelled_name (print_nullable (get_or nullables (b % 4) none)) nullable (nullable_short (get_or nullables (b % 4) none)) g in record {
       is =

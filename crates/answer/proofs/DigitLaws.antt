@@ -1,6 +1,6 @@
 -- The digits of a number: how many there are, and writing them from the last to the first. Assumes nothing.
 use mathlib.Core.Path.{◌≡◌, sym, ap, ◌∙◌}
-use mathlib.Core.List.{List, [], ◌∷◌, ◌++◌, append_assoc, append_nil}
+use mathlib.Core.List.{List, [], ◌∷◌, ◌++◌, append_assoc, append-nil}
 use Prim.Native.Nat.{ℕ, zero, suc, ◌+◌, ◌*◌, ◌-◌, ◌/◌, ◌%◌, ◌≤◌, ◌<◌}
 use native.Mathlib.Omega.{arith}
 use lib.Dec.{ltb}
@@ -53,7 +53,7 @@ pub record Digits (out : List ℕ) (end n : ℕ) (buffer : List ℕ) (i m : ℕ)
   pub room : length (print_natural m) ≤ i
 
 pub digits_start : (out : List ℕ) (end n : ℕ) → length (print_natural n) ≤ end → Digits out end n out end n
-digits_start out end n h = record { done = []; is = append_nil (print_natural n); ends = omega arith; put = sym (patch_nil out end); room = h }
+digits_start out end n h = record { done = []; is = append-nil (print_natural n); ends = omega arith; put = sym (patch_nil out end); room = h }
 
 module _ {out buffer : List ℕ} {end n i m : ℕ} (d : Digits out end n buffer i m) (fits : end ≤ length out) where
   before : 1 ≤ i

@@ -1,7 +1,7 @@
 -- Texts written one behind another, where the whole has room: a field, which is a key, its value and LF, and fields in a row. Names as they
 -- are spelled. Assumes nothing.
 use mathlib.Core.Path.{◌≡◌, refl, sym, ap, ◌∙◌}
-use mathlib.Core.List.{List, [], ◌∷◌, ◌++◌, flatten, append_assoc, append_nil}
+use mathlib.Core.List.{List, [], ◌∷◌, ◌++◌, flatten, append_assoc, append-nil}
 use Prim.Native.Nat.{ℕ, ◌+◌, ◌-◌, ◌≤◌}
 use native.Mathlib.Omega.{arith}
 use native.Mathlib.Nat.{add_assoc}
@@ -72,7 +72,7 @@ flat_length f fs = length-append f (flatten fs)
 
 pub flat_more : (fs : List (List ℕ)) (v : List ℕ) → flatten (fs ++ (v ∷ [])) ≡ flatten fs ++ v
 unfolding flatten
-flat_more [] v = append_nil v
+flat_more [] v = append-nil v
 flat_more (f ∷ fs) v = ap (λ x. f ++ x) (flat_more fs v) ∙ sym (append_assoc f (flatten fs) v)
 
 module _ {out : List ℕ} {at : ℕ} (f : List ℕ) (fs : List (List ℕ)) (room : Room out at (flatten (f ∷ fs))) where
@@ -92,7 +92,7 @@ module _ {out : List ℕ} {at : ℕ} (f : List ℕ) (fs : List (List ℕ)) (room
 -- and no more
 pub flat_last : {out o f : List ℕ} {at r : ℕ} → Put out o at f r → Put out o at (flatten (f ∷ [])) r
 unfolding flatten
-flat_last {out} {o} {f} {at} {r} p = rw (append_nil f) p
+flat_last {out} {o} {f} {at} {r} p = rw (append-nil f) p
 
 -- ---- values
 

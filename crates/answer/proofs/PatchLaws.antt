@@ -1,6 +1,6 @@
 -- A buffer with text written over it: nothing, one text behind another, a byte before a text, and a copy byte by byte. Assumes nothing.
 use mathlib.Core.Path.{◌≡◌, sym, ap, ◌∙◌}
-use mathlib.Core.List.{List, [], ◌∷◌, ◌++◌, append_assoc, append_nil}
+use mathlib.Core.List.{List, [], ◌∷◌, ◌++◌, append_assoc, append-nil}
 use Prim.Native.Nat.{ℕ, zero, suc, ◌+◌, ◌-◌, ◌≤◌, ◌<◌}
 use native.Mathlib.Omega.{arith}
 use native.Mathlib.Nat.{add-zero, add_assoc}
@@ -15,7 +15,7 @@ head-length out at v h = length-append (take at out) v ∙ ap (λ k. k + length 
 module _ (out : List ℕ) (at : ℕ) where
   pub patch_nil : patch out at [] ≡ out
   unfolding patch
-  patch_nil = rw (append_nil, add-zero) (take-append-drop at out)
+  patch_nil = rw (append-nil, add-zero) (take-append-drop at out)
 
   pub patch_length : (v : List ℕ) → at + length v ≤ length out → length (patch out at v) ≡ length out
   unfolding patch

@@ -1,4 +1,6 @@
 // The answer's writer. Its length is found first, so that an answer that does not fit is refused before anything is written.
+#![tactic(auto)]
+
 ghost use Rattle.std.specs.Prelude.{◌≡◌, map, ◌+◌, ◌-◌, ◌<◌, ◌≤◌, length, get_or, take};
 ghost use Rattle.std.proofs.Math.Option.{none};
 ghost use Rattle.type_info.specs.Names.{spelled};
@@ -209,7 +211,7 @@ fn put_head(
 }
 
 // A refusal, or the length of the answer that was written.
-#[derive(Drop)]
+#[derive(Clone, Copy)]
 pub enum Written {
     Refused(u64),
     Length(usize),

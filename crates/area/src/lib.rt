@@ -1,4 +1,6 @@
 // The area: a byte buffer that the caller lends, read and written as words, as cells of two words, and as counts of a byte.
+#![tactic(auto)]
+
 ghost use Rattle.std.specs.Prelude.{◌≡◌, [], ◌∷◌, ◌+◌, ◌≤◌, length, get_or, set, replicate};
 ghost use Rattle.area.specs.Words.{number, eight, words, with_bytes, WordsNow};
 ghost use Rattle.area.specs.Cells.{blank, cells, Inside, WordInside, CellsNow};
@@ -6,7 +8,7 @@ ghost use Rattle.area.specs.Moves.{moved};
 ghost use Rattle.area.specs.Counts.{count, home, Raisable, Raised, HasCounts, CountsCleared};
 
 // Two words, 16 bytes.
-#[derive(Drop)]
+#[derive(Clone, Copy)]
 pub struct Cell {
     pub head: u64,
     pub payload: u64,

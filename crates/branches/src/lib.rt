@@ -1,5 +1,7 @@
 // The remembered states and those that wait, in the area: `BranchList` of sqlx-sqlite 0.9.0, src/connection/explain.rs, its `states` and its
 // `visited_branch_state`.
+#![tactic(auto)]
+
 ghost use Rattle.std.specs.Prelude.{◌≡◌};
 ghost use Rattle.area.specs.Cells.{cells, Inside};
 ghost use Rattle.intmap.specs.Map.{IsMap};
@@ -22,7 +24,7 @@ const HALF: u64 = 4294967296;
 const THIRD: u64 = 2097152;
 
 // Where the remembered states begin, where they end, and the latest that waits (0 where none does).
-#[derive(Drop)]
+#[derive(Clone, Copy)]
 pub struct BranchList {
     pub first: usize,
     pub top: usize,
@@ -30,14 +32,14 @@ pub struct BranchList {
 }
 
 // A branch that was pushed: there is no space for it, or it was known or is kept.
-#[derive(Drop)]
+#[derive(Clone, Copy)]
 pub enum Pushed {
     Full,
     Done(BranchList),
 }
 
 // What waits: nothing, or the state at this place, which waits no more.
-#[derive(Drop)]
+#[derive(Clone, Copy)]
 pub enum Popped {
     Nothing,
     At(BranchList, usize),
@@ -45,7 +47,7 @@ pub enum Popped {
 
 // A state that is looked for: it is known, or the link that would lead to it is free, of the state at this place (0 where none is
 // remembered) by the last digit of these bits.
-#[derive(Drop)]
+#[derive(Clone, Copy)]
 enum Place {
     Known,
     Free(usize, u64),

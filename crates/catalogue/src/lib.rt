@@ -1,4 +1,6 @@
 // The catalogue's text: its records, read one at a time, and how many there are.
+#![tactic(auto)]
+
 ghost use Rattle.std.specs.Prelude.{◌≡◌, ◌≤◌, length};
 ghost use Rattle.type_info.specs.Ascii.{ascii};
 ghost use Rattle.model.specs.Fields.{take_field};
@@ -14,7 +16,7 @@ use text::{Counted, Field, Value};
 const MOST: usize = 4096;
 
 // A record as it was read. Its declared type has `size` bytes and begins at `from`; the next record stands at `next`.
-#[derive(Drop)]
+#[derive(Clone, Copy)]
 pub struct Record {
     pub db: u64,
     pub page: u64,
@@ -25,14 +27,14 @@ pub struct Record {
     pub next: usize,
 }
 
-#[derive(Drop)]
+#[derive(Clone, Copy)]
 pub enum RecordRead {
     Is(Record),
     Bad,
 }
 
 // A flag and the offset behind its field.
-#[derive(Drop)]
+#[derive(Clone, Copy)]
 pub enum Flag {
     Is { set: bool, next: usize },
     Bad,

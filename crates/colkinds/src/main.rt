@@ -1,12 +1,14 @@
 // Prints what each result column of listing.txt is, by the tables of catalog.txt, or the refusal. 01, "Sample runs".
 // Both files are in the folder that the program runs in; one that is missing is empty.
+#![tactic(auto)]
+
 ghost use Rattle.std.specs.Prelude.{◌≡◌, ◌%◌, length};
 ghost use Rattle.io.specs.Counts.{IsPrefixLen};
 
 use libc::STDOUT_FILENO;
 
 // A file that was read: how many of its bytes are in the buffer, and whether it has more.
-#[derive(Drop)]
+#[derive(Clone, Copy)]
 struct Contents {
     len: usize,
     longer: bool,

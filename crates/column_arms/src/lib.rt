@@ -1,5 +1,7 @@
 // The arms of `explain` that take what a cursor stands for: Column, RowData and SorterData. Translated from sqlx-sqlite 0.9.0,
 // src/connection/explain.rs.
+#![tactic(auto)]
+
 ghost use Rattle.std.specs.Prelude.{◌≡◌, ℕ, ◌+◌, ◌<◌, ◌≤◌, true, false, ltb, length, get_or};
 ghost use Rattle.model.specs.State.{Record, end, Column};
 ghost use Rattle.model.specs.Access.{store_register};

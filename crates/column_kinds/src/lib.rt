@@ -1,4 +1,6 @@
 // The call: what each result column of a listing is, and whether it may be blank. 01, "The call".
+#![tactic(auto)]
+
 ghost use Rattle.std.specs.Prelude.{◌≡◌, ◌≤◌};
 ghost use Rattle.column_kinds.specs.Calls.{Calls};
 ghost use Rattle.column_kinds.specs.Inner.{serves, RowRoom, Prepared, WalksRows, Writable, WritesWalk, MayWalk, Catalogued, AnswersRows, CallsInner};

@@ -6,7 +6,7 @@ use Prim.Native.Nat.{ℕ, zero, suc, ◌+◌, ◌<◌, ◌≤◌}
 use native.Mathlib.Omega.{arith}
 use lib.Dec.{eqb, ltb}
 use lib.ListN.{get_or}
-use borrow.Author.Tests.{ltb-true, eqb-true, eqb-false, eq-eqb, not_true}
+use borrow.Author.Tests.{ltb-true, eqb-true, eqb-false, eq-eqb, not-true}
 use Rattle.area.specs.Cells.{blank}
 use Rattle.area.specs.declared.Cell.{Cell}
 use Rattle.intmap.specs.Find.{place, seek}
@@ -34,7 +34,7 @@ alone_here cs a p k c ce key ke tag te inside small same plain =
       inside = inside;
       small = small;
       key = sym (ke ∙ ap key_of ce) ∙ same;
-      plain = λ t. eqb-false tag 2 (not_true (eqb tag 2) plain) (te ∙ ap tag_of ce ∙ t);
+      plain = λ t. eqb-false tag 2 (not-true (eqb tag 2) plain) (te ∙ ap tag_of ce ∙ t);
     }
 
 -- ---- what stays

@@ -1,5 +1,7 @@
 // The arms of `explain` that copy or move registers. Translated from sqlx-sqlite 0.9.0, src/connection/explain.rs: OP_SCOPY, OP_INT_COPY,
 // OP_NOT, OP_COPY, OP_MOVE.
+#![tactic(auto)]
+
 ghost use Rattle.std.specs.Prelude.{◌≡◌, true, ◌+◌, ◌-◌, ◌<◌, ◌≤◌};
 ghost use Rattle.model.specs.RegisterArms.{copy_to};
 ghost use Rattle.model.specs.Operation.{op_copy_one, op_copy, op_move};

@@ -40,13 +40,13 @@ pub record NumberArm (limit : ℕ) (o : JumpOperation) : Type 0 where
   pub is : (rows : List Listed) (l : Listed) (m : Defined) → jump_arm limit rows l m o ≡ (read_register l.p1 m >>= λ v. after rows l m (known_int v))
   pub unknown : (rows : List Listed) (l : Listed) (m : Defined) → after rows l m none ≡ ends
 
-pub end-coroutine-arm : (limit : ℕ) → NumberArm limit op_end_coroutine
+pub end_coroutine_arm_lem : (limit : ℕ) → NumberArm limit op_end_coroutine
 unfolding jump_arm end_coroutine_arm
-end-coroutine-arm limit = record { after = end_coroutine_arm; is = λ rows l m. refl; unknown = λ rows l m. refl }
+end_coroutine_arm_lem limit = record { after = end_coroutine_arm; is = λ rows l m. refl; unknown = λ rows l m. refl }
 
-pub yield-arm : (limit : ℕ) → NumberArm limit op_yield
+pub yield_arm_lem : (limit : ℕ) → NumberArm limit op_yield
 unfolding jump_arm yield_arm
-yield-arm limit = record { after = yield_arm; is = λ rows l m. refl; unknown = λ rows l m. refl }
+yield_arm_lem limit = record { after = yield_arm; is = λ rows l m. refl; unknown = λ rows l m. refl }
 
 module _ (limit : ℕ) (cs : List Cell) (s : MemoryState) (x : Row) (from n : ℕ) where
   module _ (o : JumpOperation) (arm : NumberArm limit o) where
@@ -79,9 +79,9 @@ module _ (limit : ℕ) (cs : List Cell) (s : MemoryState) (x : Row) (from n : �
     -- ---- EndCoroutine
 
     end_is : (t : Target) → Targets cs from n w t → (rows : List Listed) → HaveRows cs from rows → length rows ≡ n → (l : Listed) → Judged l x → (bound : ℕ) (m : Defined) → HoldsState limit bound cs s m → jump_arm limit rows l m op_end_coroutine ≡ end_coroutine_to l m (target_of t)
-    unfolding end_coroutine_arm end-coroutine-arm
+    unfolding end_coroutine_arm end_coroutine_arm_lem
     end_is t told rows have len l j bound m h =
-        read_is op_end_coroutine (end-coroutine-arm limit) rows l m j _ (knows.says limit bound m h.map).answer
+        read_is op_end_coroutine (end_coroutine_arm_lem limit) rows l m j _ (knows.says limit bound m h.map).answer
         ∙ ap (end_coroutine_to l m) (sym (told.says rows have len))
 
     pub end_here : (t : Target) → Targets cs from n w t → t ≡ target.NoYield → RowsArm limit cs cs s x from n op_end_coroutine (step.Ways way.Nowhere way.Nowhere)
@@ -117,7 +117,7 @@ module _ (limit : ℕ) (cs : List Cell) (s : MemoryState) (x : Row) (from n : �
         }
 
     pub yield_to : (row : ℕ) → Follows cs from n w row → (ds : List Cell) (r : Stored) → Leads limit cs ds s.map r (store_register limit (int_of x.p1) (Int (int_of s.row))) → RowsArm limit cs ds s x from n op_yield (step_after row r)
-    unfolding yield_arm yield-arm
+    unfolding yield_arm yield_arm_lem
     yield_to row follows ds r leads =
         record {
           says = λ rows have len l j bound m le h.
@@ -130,5 +130,5 @@ module _ (limit : ℕ) (cs : List Cell) (s : MemoryState) (x : Row) (from n : �
       where
         is : (rows : List Listed) (l : Listed) → Judged l x → (bound : ℕ) (m : Defined) → HoldsState limit bound cs s m → jump_arm limit rows l m op_yield ≡ (update_register (int_of x.p1) (λ u. Int (int_of s.row)) (go_to (row_after_yield (yield_target (row_at rows (int_of w))) (int_of w)) m) >>= λ k. goes_on k)
         is rows l j bound m h =
-            read_is op_yield (yield-arm limit) rows l m j _ (knows.says limit bound m h.map).answer
+            read_is op_yield (yield_arm_lem limit) rows l m j _ (knows.says limit bound m h.map).answer
             ∙ ap₂ (λ i v. update_register i (λ u. Int v) (go_to (row_after_yield (yield_target (row_at rows (int_of w))) (int_of w)) m) >>= λ k. goes_on k) (sym j.p1) (sym h.row)

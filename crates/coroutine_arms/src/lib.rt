@@ -1,5 +1,7 @@
 // The arms of `explain` that look at another row of the listing: sqlx-sqlite 0.9.0, src/connection/explain.rs. The listing's n rows lie in the
 // cells from `from` on.
+#![tactic(auto)]
+
 ghost use Rattle.model.specs.Operation.{op_end_coroutine, op_yield};
 ghost use Rattle.area.specs.Cells.{cells};
 ghost use Rattle.rows.specs.Judged.{SomeRows};
@@ -11,7 +13,7 @@ use rows::Row;
 use state::{MemoryState, Step, Way};
 
 // Where a row goes, if it is a Yield.
-#[derive(Drop)]
+#[derive(Clone, Copy)]
 pub enum Target {
     NoYield,
     To(u64),

@@ -1,5 +1,1 @@
-pub mod Adds
-pub mod Counts
-pub mod Lends
-pub mod Local
 pub mod SumLaws

@@ -1,8 +1,10 @@
 // The four counts of a walk. They are lent to the two functions that count, as the Rust's logger is told of each operation and of each result.
+#![tactic(auto)]
+
 ghost use Rattle.std.specs.Prelude.{◌≡◌, ◌+◌, ◌<◌, ◌^◌};
 ghost use Rattle.counters.specs.Counted.{with_operation, with_result, one_charged, one_loopstop, one_gasstop, one_repeat};
 
-#[derive(Drop)]
+#[derive(Clone, Copy)]
 pub struct Counters {
     pub charged: u64,
     pub loopstops: u64,

@@ -34,9 +34,9 @@ module _ (row : ℕ) (x : Row) (meaning : Meaning) (l : Listed) (j : Judged l x)
   is_refused : (n : ℕ) → read_cursor (int_of x.p1) m ≡ refused n → cursor_arm meaning row l m op_delete ≡ refused n
   is_refused n e = delete_is (refused n) e
 
-  is-absent : read_cursor (int_of x.p1) m ≡ done none → cursor_arm meaning row l m op_delete ≡ done m
+  is_absent_lem : read_cursor (int_of x.p1) m ≡ done none → cursor_arm meaning row l m op_delete ≡ done m
   unfolding update_cursor_table
-  is-absent e = delete_is (done none) e
+  is_absent_lem e = delete_is (done none) e
 
   is_normal : (k : ℕ) → read_cursor (int_of x.p1) m ≡ done (some (Normal k)) → cursor_arm meaning row l m op_delete ≡ done (update_table k after_delete m)
   unfolding update_cursor_table
@@ -69,7 +69,7 @@ module _ (cs : List Cell) (a : IntMap) (x : Row) (p : CursorDataType) (reads : R
       record {
         leads = λ meaning l st j.
             record {
-              says = λ bound m le h. record { state = m; answer = is-absent row x meaning l j m ((as_read cursor.Absent e).says limit bound m h); holds = h };
+              says = λ bound m le h. record { state = m; answer = is_absent_lem row x meaning l j m ((as_read cursor.Absent e).says limit bound m h); holds = h };
               leaves = record { base = refl; room = current.room };
               frame = frame_same cs _ _;
             };

@@ -194,9 +194,9 @@ module _ {limit bound : ℕ} {cs : List Cell} {a : IntMap} {m : MemoryState} (h 
         ∙ head_nullable 2 0 (nullable_code t.table.is_empty) t.key (omega arith) (omega arith) (nullable_small t.table.is_empty)
         ∙ ap (λ u. nullable_code (table_is_empty u)) (sym table_is)
 
-    table-columns : HasColumns cs a p (done (table_columns o))
+    table_columns_lem : HasColumns cs a p (done (table_columns o))
     unfolding run_table
-    table-columns =
+    table_columns_lem =
         record {
           columns = t.table.cols;
           answer = ap (λ u. done (table_columns u)) table_is;
@@ -213,7 +213,7 @@ module _ {limit bound : ℕ} {cs : List Cell} {a : IntMap} {m : MemoryState} (h 
   table_columns_tell row slot.Absent e = ap (λ o. done (table_columns o)) (done-same (table_tells row slot.Absent e))
   table_columns_tell row (slot.At p) e =
       let t = table_tells row (slot.At p) e in
-      subst (λ s. TellsColumns cs a s (done (table_columns (get row m.t)))) (head_there cs (slot.At p) p refl (get_or cs p blank) refl (table_tag t)) (table-columns t)
+      subst (λ s. TellsColumns cs a s (done (table_columns (get row m.t)))) (head_there cs (slot.At p) p refl (get_or cs p blank) refl (table_tag t)) (table_columns_lem t)
 
   empty_tells : (row : ℕ) (s : Slot) → entry_slot cs a 2 row ≡ s → empty_in cs s ≡ nullable_code (table_is_empty (get row m.t))
   empty_tells row (slot.Bad n) e = absurd (led_bad cs a 2 row n e)
@@ -221,9 +221,9 @@ module _ {limit bound : ℕ} {cs : List Cell} {a : IntMap} {m : MemoryState} (h 
   empty_tells row (slot.At p) e = table_emptiness (table_tells row (slot.At p) e)
 
   -- the record in a register
-  record-at : (k p : ℕ) → k ≤ 65535 → Led cs a 0 k p → TellsColumns cs a (head_slot cs (slot.At p)) (done (record_of (get k m.r)))
+  record_at_lem : (k p : ℕ) → k ≤ 65535 → Led cs a 0 k p → TellsColumns cs a (head_slot cs (slot.At p)) (done (record_of (get k m.r)))
   unfolding run_register run_column register_depth column_depth SortedColumn
-  record-at k p le l = subst (λ y. TellsColumns cs a (head_slot cs (slot.At y)) (done (record_of (get k m.r)))) l.at (go (eqb (tag_of (get_or cs q blank)) 2) refl)
+  record_at_lem k p le l = subst (λ y. TellsColumns cs a (head_slot cs (slot.At y)) (done (record_of (get k m.r)))) l.at (go (eqb (tag_of (get_or cs q blank)) 2) refl)
     where
       key : ℕ
       key = class_key 0 k
@@ -260,7 +260,7 @@ module _ {limit bound : ℕ} {cs : List Cell} {a : IntMap} {m : MemoryState} (h 
   record_tells : (k : ℕ) → k ≤ 65535 → (s : Slot) → entry_slot cs a 0 k ≡ s → TellsColumns cs a (head_slot cs s) (done (record_of (get k m.r)))
   record_tells k le (slot.Bad n) e = absurd (led_bad cs a 0 k n e)
   record_tells k le slot.Absent e = ap (λ o. done (record_of o)) (done-same ((told_register_at h k le).absent (ap done (seek_none cs levels (class_key 0 k) a.len a.base (led_nowhere cs a 0 k e)))))
-  record_tells k le (slot.At p) e = record-at k p le (led_at cs a 0 k p e)
+  record_tells k le (slot.At p) e = record_at_lem k p le (led_at cs a 0 k p e)
 
   register_tells : (i : ℤ) → TellsColumns cs a (head_slot cs (register_slot cs a (index i))) (read_register i m >>= λ v. done (record_of v))
   unfolding read_register register_slot

@@ -28,7 +28,7 @@ use Rattle.encoding.specs.Decode.{nullables, nullable_in}
 use Rattle.encoding.proofs.Accesses.{apart}
 use Rattle.encoding.proofs.BySearch.{search_table_kept, search_empty}
 use Rattle.state.specs.Leads.{HoldsMap}
-use Rattle.state.proofs.StoreLeads.{nullable-code}
+use Rattle.state.proofs.StoreLeads.{nullable_code_lem}
 use Rattle.cursor_arms.proofs.DupLaws.{frame_same}
 use Rattle.state.specs.Own.{entry_slot}
 use Rattle.state.proofs.OwnLaws.{case}
@@ -215,4 +215,4 @@ module _ (cs : List Cell) (a : IntMap) (c : CursorDataType) (r : Slot) (finds : 
     pub empty_set : IsMap cs a → (n : ℕ) → n < 3 → (ds : List Cell) (b x : Cell) → b ≡ get_or cs p blank → x ≡ with_nullable n b → ds ≡ set cs p x → CursorTableChanged (set_empty (get_or nullables n none)) cs ds a c
     empty_set is n small ds b x be xe de =
         of_table (set_empty (get_or nullables n none)) ds its_row.0 its_row.1
-        (one_changed (λ _. get_or nullables n none) cs a its_row.0 p is its_row.2 ds b x be (xe ∙ ap (λ k. with_nullable k b) (sym (nullable-code n small))) de)
+        (one_changed (λ _. get_or nullables n none) cs a its_row.0 p is its_row.2 ds b x be (xe ∙ ap (λ k. with_nullable k b) (sym (nullable_code_lem n small))) de)

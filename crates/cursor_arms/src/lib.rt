@@ -1,6 +1,8 @@
 // Cursors in the state by value, and the arms of `explain` that open one on what is there already, or say that a table may be empty:
 // OpenPseudo, OpenDup and Delete.
 // Translated from sqlx-sqlite 0.9.0, src/connection/explain.rs.
+#![tactic(auto)]
+
 ghost use Rattle.std.specs.Prelude.{◌≡◌, ℕ, ◌+◌, ◌<◌, ◌≤◌, length, get_or};
 ghost use Rattle.std.proofs.Math.Option.{none};
 ghost use Rattle.model.specs.State.{Normal, Pseudo};
@@ -85,7 +87,7 @@ pub fn open_pseudo(map: IntMap, area: &mut [u8], x: Row, limit: usize) -> Stored
 }
 
 // What a cursor is. One on a table is told by the row that opened it, a pseudo cursor by its register's word.
-#[derive(Drop)]
+#[derive(Clone, Copy)]
 pub enum CursorDataType {
     Bad(u64),
     Absent,

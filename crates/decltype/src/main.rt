@@ -1,5 +1,7 @@
 // Prints the kind and the affinity of the declared type that its argument is, or the refusal.
 // An argument that is missing, or too long for the buffer, is refused as an empty one is.
+#![tactic(auto)]
+
 use libc::STDOUT_FILENO;
 use type_info::DeclaredType;
 

@@ -127,9 +127,9 @@ module _ {A : Type 0} (key : ℕ) (run : A → List Cell) (f : A → A) (h : Lis
     (absent : o ≡ none → m ≡ n)
     (present : (v : A) → o ≡ some v → swap key (run (f v) ∷ []) (runs_of m) ≡ runs_of n)
   where
-    change-at : change_at key h (runs_of m) ≡ runs_of n
+    change_at_lem : change_at key h (runs_of m) ≡ runs_of n
     unfolding change_at
-    change-at = ap (λ l. change_if l key h (runs_of m)) found ∙ go o refl
+    change_at_lem = ap (λ l. change_if l key h (runs_of m)) found ∙ go o refl
       where
         go : (p : Option A) → o ≡ p → change_if (Option.map run p) key h (runs_of m) ≡ runs_of n
         go none e = ap runs_of (absent e)
@@ -138,11 +138,11 @@ module _ {A : Type 0} (key : ℕ) (run : A → List Cell) (f : A → A) (h : Lis
 module _ (limit : ℕ) (m : MemoryState) (good : Good limit m) where
   -- ---- reads
   module _ (i : ℤ) where
-    pub read-register : read_runs 0 i (runs_of m) ≡ (index i >>= λ k. done (Option.map (run_register (class_key 0 k)) (get k m.r)))
-    read-register = read_class 0 i run_register (runs_of m) m.r (state.get_register limit m good)
+    pub read_register_lem : read_runs 0 i (runs_of m) ≡ (index i >>= λ k. done (Option.map (run_register (class_key 0 k)) (get k m.r)))
+    read_register_lem = read_class 0 i run_register (runs_of m) m.r (state.get_register limit m good)
 
-    pub read-cursor : read_runs 1 i (runs_of m) ≡ (index i >>= λ k. done (Option.map (run_cursor (class_key 1 k)) (get k m.p)))
-    read-cursor = read_class 1 i run_cursor (runs_of m) m.p (state.get_cursor limit m good)
+    pub read_cursor_lem : read_runs 1 i (runs_of m) ≡ (index i >>= λ k. done (Option.map (run_cursor (class_key 1 k)) (get k m.p)))
+    read_cursor_lem = read_class 1 i run_cursor (runs_of m) m.p (state.get_cursor limit m good)
 
     -- as the definition's reads
     pub register_read : read_runs 0 i (runs_of m) ≡ map_tried (Option.map (run_register (class_key 0 (turns i)))) (read_register i m)
@@ -154,9 +154,9 @@ module _ (limit : ℕ) (m : MemoryState) (good : Good limit m) where
     cursor_read = read_map 1 i run_cursor (runs_of m) m.p (state.get_cursor limit m good)
 
     -- ---- stores: the key that the run is given with does not matter
-    pub store-register : (key : ℕ) (v : RegDataType) → store_runs limit 0 i (register_depth v) (run_register key v) (runs_of m) ≡ map_tried runs_of (store_register limit i v m)
+    pub store_register_lem : (key : ℕ) (v : RegDataType) → store_runs limit 0 i (register_depth v) (run_register key v) (runs_of m) ≡ map_tried runs_of (store_register limit i v m)
     unfolding store_runs store_register
-    store-register key v =
+    store_register_lem key v =
         by_index i _ (λ k. map_tried runs_of (judge_depth (register_depth v) v >>= λ w. judge_cells limit (with_registers (insert k w m.r) m))) (λ k h.
         store_at_lem limit (class_key 0 k) (register_depth v) (run_register key v) (run_register (class_key 0 k) v) v m (λ w. with_registers (insert k w m.r) m)
         (register_rekey v key (class_key 0 k))
@@ -164,9 +164,9 @@ module _ (limit : ℕ) (m : MemoryState) (good : Good limit m) where
         (state.insert_register limit m good k h v))
         ∙ sym (map_bind runs_of (index i) _)
 
-    pub store-cursor : (key : ℕ) (v : CursorDataType) → store_runs limit 1 i 0 (run_cursor key v) (runs_of m) ≡ map_tried runs_of (store_cursor limit i v m)
+    pub store_cursor_lem : (key : ℕ) (v : CursorDataType) → store_runs limit 1 i 0 (run_cursor key v) (runs_of m) ≡ map_tried runs_of (store_cursor limit i v m)
     unfolding store_runs store_cursor judge_depth
-    store-cursor key v =
+    store_cursor_lem key v =
         by_index i _ (λ k. map_tried runs_of (judge_cells limit (with_cursors (insert k v m.p) m))) (λ k h.
         store_at_lem limit (class_key 1 k) 0 (run_cursor key v) (run_cursor (class_key 1 k) v) v m (λ w. with_cursors (insert k w m.p) m)
         (cursor-rekey v key (class_key 1 k))
@@ -175,48 +175,48 @@ module _ (limit : ℕ) (m : MemoryState) (good : Good limit m) where
         ∙ sym (map_bind runs_of (index i) _)
 
     -- ---- a removal
-    pub remove-register : remove_runs 0 i (runs_of m) ≡ map_tried runs_of (remove_register i m)
+    pub remove_register_lem : remove_runs 0 i (runs_of m) ≡ map_tried runs_of (remove_register i m)
     unfolding remove_runs remove_register
-    remove-register =
-        by_index i _ (λ k. done (runs_of (with_registers (remove k m.r) m))) (λ k h. ap done (state.remove-register limit m good k h))
+    remove_register_lem =
+        by_index i _ (λ k. done (runs_of (with_registers (remove k m.r) m))) (λ k h. ap done (state.remove_register_lem limit m good k h))
         ∙ sym (map_bind runs_of (index i) _)
 
     -- ---- a change in place, by a change of each run
-    pub update-register : (f : RegDataType → RegDataType) (h : List Cell → List Cell) → ((v : RegDataType) (key : ℕ) → h (run_register key v) ≡ run_register key (f v)) → change_runs 0 i h (runs_of m) ≡ map_tried runs_of (update_register i f m)
+    pub update_register_lem : (f : RegDataType → RegDataType) (h : List Cell → List Cell) → ((v : RegDataType) (key : ℕ) → h (run_register key v) ≡ run_register key (f v)) → change_runs 0 i h (runs_of m) ≡ map_tried runs_of (update_register i f m)
     unfolding change_runs update_register
-    update-register f h heads =
+    update_register_lem f h heads =
         by_index i _ (λ k. done (runs_of (with_registers (update k f m.r) m))) (λ k small. ap done
-        (change-at (class_key 0 k) (run_register (class_key 0 k)) f h m (with_registers (update k f m.r) m) (get k m.r)
+        (change_at_lem (class_key 0 k) (run_register (class_key 0 k)) f h m (with_registers (update k f m.r) m) (get k m.r)
         (λ v. heads v (class_key 0 k))
         (state.get_register limit m good k small)
         (λ e. ap (λ r. with_registers r m) (sym (update_absent (λ _ _. Unit {0}) k f m.r e)))
-        (state.update-register limit m good k small f)))
+        (state.update_register_lem limit m good k small f)))
         ∙ sym (map_bind runs_of (index i) _)
 
     pub not_null_register : change_runs 0 i (on_head (single_nullable 1)) (runs_of m) ≡ map_tried runs_of (update_register i to_not_null m)
-    not_null_register = update-register to_not_null (on_head (single_nullable 1)) register_not_null
+    not_null_register = update_register_lem to_not_null (on_head (single_nullable 1)) register_not_null
 
   -- ---- tables, by row
   module _ (row : ℕ) where
     pub read_table : lookup (class_key 2 row) (runs_of m) ≡ Option.map (run_table (class_key 2 row)) (get row m.t)
     read_table = state.get_table limit m good row
 
-    pub store-table : (key : ℕ) (t : TableDataType) → store_at limit (class_key 2 row) (columns_depth t.cols) (run_table key t) (runs_of m) ≡ map_tried runs_of (store_table limit row t m)
+    pub store_table_lem : (key : ℕ) (t : TableDataType) → store_at limit (class_key 2 row) (columns_depth t.cols) (run_table key t) (runs_of m) ≡ map_tried runs_of (store_table limit row t m)
     unfolding store_table
-    store-table key t =
+    store_table_lem key t =
         store_at_lem limit (class_key 2 row) (columns_depth t.cols) (run_table key t) (run_table (class_key 2 row) t) t m (λ u. with_tables (insert row u m.t) m)
         (table-rekey t key (class_key 2 row))
         (table-key (class_key 2 row) t)
         (state.insert_table limit m good row t)
 
-    pub update-table : (f : TableDataType → TableDataType) (h : List Cell → List Cell) → ((t : TableDataType) (key : ℕ) → h (run_table key t) ≡ run_table key (f t)) → change_at (class_key 2 row) h (runs_of m) ≡ runs_of (update_table row f m)
+    pub update_table_lem : (f : TableDataType → TableDataType) (h : List Cell → List Cell) → ((t : TableDataType) (key : ℕ) → h (run_table key t) ≡ run_table key (f t)) → change_at (class_key 2 row) h (runs_of m) ≡ runs_of (update_table row f m)
     unfolding update_table
-    update-table f h heads =
-        change-at (class_key 2 row) (run_table (class_key 2 row)) f h m (with_tables (update row f m.t) m) (get row m.t)
+    update_table_lem f h heads =
+        change_at_lem (class_key 2 row) (run_table (class_key 2 row)) f h m (with_tables (update row f m.t) m) (get row m.t)
         (λ t. heads t (class_key 2 row))
         (state.get_table limit m good row)
         (λ e. ap (λ t. with_tables t m) (sym (update_absent (λ _ _. Unit {0}) row f m.t e)))
-        (state.update-table limit m good row f)
+        (state.update_table_lem limit m good row f)
 
-    pub empty-table : (n : Option Bool) → change_at (class_key 2 row) (on_head (with_nullable (nullable_code n))) (runs_of m) ≡ runs_of (update_table row (set_empty n) m)
-    empty-table n = update-table (set_empty n) (on_head (with_nullable (nullable_code n))) (table_empty n)
+    pub empty_table_lem : (n : Option Bool) → change_at (class_key 2 row) (on_head (with_nullable (nullable_code n))) (runs_of m) ≡ runs_of (update_table row (set_empty n) m)
+    empty_table_lem n = update_table_lem (set_empty n) (on_head (with_nullable (nullable_code n))) (table_empty n)

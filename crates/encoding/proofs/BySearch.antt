@@ -29,7 +29,7 @@ use Rattle.encoding.specs.Encode.{nullable_code, run_register, run_table}
 use Rattle.encoding.specs.Decode.{nullable_in}
 use Rattle.encoding.specs.Heads.{single_nullable, on_heads, null_heads}
 use Rattle.encoding.specs.Holds.{SmallRegister, Holds, HeldNext}
-use Rattle.encoding.proofs.Reading.{register_record, register_plain, table-columns, table-is_empty}
+use Rattle.encoding.proofs.Reading.{register_record, register_plain, table_columns_lem, table_is_empty_lem}
 use Rattle.encoding.proofs.Updates.{update_kept, table_kept}
 use Rattle.encoding.proofs.HeldRead.{Value, told_register_at, told_table}
 use Rattle.encoding.proofs.HeldInPlace.{held_not_null, held_record_null, held_empty, held_table_null}
@@ -112,10 +112,10 @@ module _ {limit bound : ℕ} {cs : List Cell} {base len used : ℕ} {m : MemoryS
       pub search_empty : (e : Option Bool → Option Bool) (ds : List Cell) → base + used ≤ length cs → ds ≡ set cs (seek cs 9 (class_key 2 row) len base).at (with_nullable (nullable_code (e (nullable_in (get_or cs (seek cs 9 (class_key 2 row) len base).at blank)))) (get_or cs (seek cs 9 (class_key 2 row) len base).at blank)) → Holds limit bound ds base len used (update_table row (λ t. set_empty (e t.is_empty) t) m)
       search_empty e ds room is =
           held_empty holds row table_there.value (done-same table_there.answer) (λ t. e t.is_empty) ds room
-          (is ∙ ap (λ n. set cs spot (with_nullable (nullable_code (e n)) (get_or cs spot blank))) (sym (table-is_empty (get_or cs spot blank) (rest spot) own table_there.value table_headed)))
+          (is ∙ ap (λ n. set cs spot (with_nullable (nullable_code (e n)) (get_or cs spot blank))) (sym (table_is_empty_lem (get_or cs spot blank) (rest spot) own table_there.value table_headed)))
 
       -- NullRow
       pub search_table_null : (ds : List Cell) → base + used ≤ length cs → ds ≡ null_heads cs (seek cs 9 (class_key 2 row) len base).at → Holds limit bound ds base len used (update_table row null_table m)
       search_table_null ds room e =
           held_table_null holds row table_there.value (done-same table_there.answer) ds room
-          (e ∙ ap (λ n. on_heads (single_nullable 2) 8 cs n (spot + 1)) (table-columns (get_or cs spot blank) (rest spot) own table_there.value table_headed).number)
+          (e ∙ ap (λ n. on_heads (single_nullable 2) 8 cs n (spot + 1)) (table_columns_lem (get_or cs spot blank) (rest spot) own table_there.value table_headed).number)

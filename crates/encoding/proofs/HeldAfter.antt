@@ -27,7 +27,7 @@ use Rattle.encoding.specs.Changes.{change_at, change_runs}
 use Rattle.encoding.specs.Holds.{largest, SmallRegister, SmallCursor, SmallNumbers, Holds, HeldNext}
 use Rattle.encoding.proofs.Numbers.{numbers_insert, numbers_insert_cursor, numbers_remove, numbers_tables, numbers_update}
 use Rattle.encoding.proofs.Updates.{update_stored}
-use Rattle.encoding.proofs.Accesses.{apart, store-register, store-cursor, store-table, remove-register, update-register, update-table}
+use Rattle.encoding.proofs.Accesses.{apart, store_register_lem, store_cursor_lem, store_table_lem, remove_register_lem, update_register_lem, update_table_lem}
 
 -- an access to the runs of m is the definition's t, whose state, if there is one, is good and has small numbers
 pub record Follows (limit bound : ℕ) (access : Runs → Tried Runs) (m : MemoryState) (t : Tried MemoryState) : Type 0 where
@@ -88,7 +88,7 @@ module _ (limit bound : ℕ) (m : MemoryState) (good : Good limit m) (small : Sm
     unfolding store_register
     register_follows key v sorted s =
         record {
-          same = store-register limit m good i key v;
+          same = store_register_lem limit m good i key v;
           good = store_register_good good i v sorted;
           small =
               index_small i >> λ k _.
@@ -100,7 +100,7 @@ module _ (limit bound : ℕ) (m : MemoryState) (good : Good limit m) (small : Sm
     unfolding store_cursor
     cursor_follows key v g s =
         record {
-          same = store-cursor limit m good i key v;
+          same = store_cursor_lem limit m good i key v;
           good = store_cursor_good good i v g;
           small = index_small i >> λ k _. cells-kept (SmallNumbers bound) limit _ (numbers_insert_cursor bound m small k v s);
         }
@@ -109,7 +109,7 @@ module _ (limit bound : ℕ) (m : MemoryState) (good : Good limit m) (small : Sm
     unfolding remove_register
     removal_follows =
         record {
-          same = remove-register limit m good i;
+          same = remove_register_lem limit m good i;
           good = remove_register_good good i;
           small = index_small i >> λ k _. value (numbers_remove bound m small k);
         }
@@ -118,7 +118,7 @@ module _ (limit bound : ℕ) (m : MemoryState) (good : Good limit m) (small : Sm
     unfolding update_register
     change_follows more f h change heads =
         record {
-          same = update-register limit m good i f h heads;
+          same = update_register_lem limit m good i f h heads;
           good = update_register_good good i f change.no_larger;
           small = index_small i >> λ k _. value (numbers_update bound more change.rises change.most m small k f change.keeps);
         }
@@ -128,7 +128,7 @@ module _ (limit bound : ℕ) (m : MemoryState) (good : Good limit m) (small : Sm
     unfolding store_table
     table_follows h key t sorted =
         record {
-          same = store-table limit m good row key t;
+          same = store_table_lem limit m good row key t;
           good = store_table_good good row h t sorted;
           small = depth_kept (λ _. Unit {0}) (columns_depth t.cols) t tt >> λ u _. cells-kept (SmallNumbers bound) limit _ (numbers_tables bound m small _);
         }
@@ -137,7 +137,7 @@ module _ (limit bound : ℕ) (m : MemoryState) (good : Good limit m) (small : Sm
     unfolding update_table
     table_change_follows f h heads no_larger =
         record {
-          same = ap done (update-table limit m good row f h heads);
+          same = ap done (update_table_lem limit m good row f h heads);
           good = value (update_table_good good row f no_larger);
           small = value (numbers_tables bound m small _);
         }

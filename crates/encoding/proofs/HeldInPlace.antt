@@ -40,7 +40,7 @@ use Rattle.encoding.proofs.Numbers.{numbers_update, numbers_tables}
 use Rattle.encoding.proofs.InPlace.{register_not_null, table_empty, table_null, record_null}
 use Rattle.encoding.proofs.Replaced.{Replaced, replaced_entries, replaced_sizes, head_replaced, heads_replaced}
 use Rattle.encoding.proofs.HeldAfter.{SmallChange}
-use Rattle.encoding.proofs.StateRuns.{get_register, get_table, update-register, update-table}
+use Rattle.encoding.proofs.StateRuns.{get_register, get_table, update_register_lem, update_table_lem}
 
 -- ---- an entry of a held state, where it stands, and replaced
 
@@ -146,7 +146,7 @@ module _ {limit bound : ℕ} {cs : List Cell} {base len used : ℕ} {m : MemoryS
               held_replaced holds its (run_register its v) register_found more ds (run_register its (f v)) _
               (register_whole (f v) its ((change.no_larger v).good good_there).depth)
               r
-              (update-register limit m holds.good k within f v there)
+              (update_register_lem limit m holds.good k within f v there)
               (kept (update_register_good holds.good i f change.no_larger) (updated f))
               (numbers_update bound more change.rises change.most m holds.small k f change.keeps);
         }
@@ -192,7 +192,7 @@ module _ {limit bound : ℕ} {cs : List Cell} {base len used : ℕ} {m : MemoryS
         held_replaced holds own (run_table own t) table_found bound ds (run_table own (f t)) _
         (table-whole (f t) own ((no_larger t).good table_deep).depth)
         r
-        (update-table limit m holds.good row f t there)
+        (update_table_lem limit m holds.good row f t there)
         (update_table_good holds.good row f no_larger)
         (numbers_tables bound m holds.small _)
 

@@ -27,7 +27,7 @@ use Rattle.encoding.specs.Heads.{single_nullable, on_heads}
 use Rattle.encoding.specs.Holds.{Stands}
 use Rattle.intmap.proofs.PackLaws.{head_with_nullable}
 use Rattle.encoding.proofs.Packing.{code_small, nullable_small}
-use Rattle.encoding.proofs.StateRuns.{update-register, update-table}
+use Rattle.encoding.proofs.StateRuns.{update_register_lem, update_table_lem}
 use Rattle.encoding.proofs.Lengths.{length-flatten, count_runs}
 use Rattle.encoding.proofs.Standing.{stands_head, stands_rest, columns_whole}
 use Rattle.encoding.proofs.Heads.{heads_below, heads_stand}
@@ -69,10 +69,10 @@ register_not_null (Int i) key = ap (λ c. c ∷ []) (no_nullable 1 (cell (head 3
 
 module _ (limit : ℕ) (m : MemoryState) (good : Good limit m) (k : ℕ) where
   pub not_null_state : (v : RegDataType) → k ≤ 65535 → get k m.r ≡ some v → swap (class_key 0 k) (on_head (single_nullable 1) (run_register (class_key 0 k) v) ∷ []) (runs_of m) ≡ runs_of (with_registers (update k to_not_null m.r) m)
-  not_null_state v h g = ap (λ r. swap (class_key 0 k) (r ∷ []) (runs_of m)) (register_not_null v (class_key 0 k)) ∙ update-register limit m good k h to_not_null v g
+  not_null_state v h g = ap (λ r. swap (class_key 0 k) (r ∷ []) (runs_of m)) (register_not_null v (class_key 0 k)) ∙ update_register_lem limit m good k h to_not_null v g
 
   pub empty_state : (n : Option Bool) (t : TableDataType) → get k m.t ≡ some t → swap (class_key 2 k) (on_head (with_nullable (nullable_code n)) (run_table (class_key 2 k) t) ∷ []) (runs_of m) ≡ runs_of (with_tables (update k (set_empty n) m.t) m)
-  empty_state n t g = ap (λ r. swap (class_key 2 k) (r ∷ []) (runs_of m)) (table_empty n t (class_key 2 k)) ∙ update-table limit m good k (set_empty n) t g
+  empty_state n t g = ap (λ r. swap (class_key 2 k) (r ∷ []) (runs_of m)) (table_empty n t (class_key 2 k)) ∙ update_table_lem limit m good k (set_empty n) t g
 
 -- ---- by place: the nullable of a record's or table's single columns set, where its run stands
 

@@ -115,10 +115,10 @@ module _ {A : Type 0} (run : ℕ → A → List Cell) (keyed : (key : ℕ) (v : 
   runs_by [] = []
   runs_by (e ∷ es) = run (at e.key) e.value ∷ runs_by es
 
-  pub insert-by : ((i j : ℕ) → i < j → at i < at j) → (k : ℕ) (v : A) (es : List (Entry A)) → swap (at k) (run (at k) v ∷ []) (runs_by es) ≡ runs_by (insert k v es)
+  pub insert_by_lem : ((i j : ℕ) → i < j → at i < at j) → (k : ℕ) (v : A) (es : List (Entry A)) → swap (at k) (run (at k) v ∷ []) (runs_by es) ≡ runs_by (insert k v es)
   unfolding insert
-  insert-by rises k v [] = swap_from (at k) (run (at k) v ∷ []) [] tt
-  insert-by rises k v (e ∷ es) = by (compare k e.key) refl (insert-by rises k v es)
+  insert_by_lem rises k v [] = swap_from (at k) (run (at k) v ∷ []) [] tt
+  insert_by_lem rises k v (e ∷ es) = by (compare k e.key) refl (insert_by_lem rises k v es)
     where
       key : key_run (run (at e.key) e.value) ≡ at e.key
       key = keyed (at e.key) e.value
@@ -174,7 +174,7 @@ module _ {A : Type 0} (run : ℕ → A → List Cell) (keyed : (key : ℕ) (v : 
     its = class_key class k
 
     pub insert_map : (v : A) (es : List (Entry A)) → swap (class_key class k) (run (class_key class k) v ∷ []) (run_map run class es) ≡ run_map run class (insert k v es)
-    insert_map v es = ap (swap its (run its v ∷ [])) (sym (map_by es)) ∙ insert-by run keyed (class_key class) (λ i j lt. omega arith) k v es ∙ map_by (insert k v es)
+    insert_map v es = ap (swap its (run its v ∷ [])) (sym (map_by es)) ∙ insert_by_lem run keyed (class_key class) (λ i j lt. omega arith) k v es ∙ map_by (insert k v es)
 
     module _ (P : ℕ → A → Type 0) where
       pub lookup_map : (low : ℕ) (es : List (Entry A)) → Rising P low es → lookup (class_key class k) (run_map run class es) ≡ map (run (class_key class k)) (get k es)

@@ -2,7 +2,7 @@
 -- record or table have lower ones. So a search for that key leads to the cell, whoever found it. Assumes nothing.
 use mathlib.Core.Path.{◌≡◌, refl, sym, ap, subst, ◌∙◌}
 use mathlib.Core.Bool.{Bool, true, false}
-use mathlib.Core.List.{List, [], ◌∷◌, ◌++◌, append_nil, flatten}
+use mathlib.Core.List.{List, [], ◌∷◌, ◌++◌, append-nil, flatten}
 use Prim.Native.Nat.{ℕ, zero, suc, ◌+◌, ◌<◌, ◌≤◌}
 use native.Mathlib.Omega.{arith}
 use native.Mathlib.Decide.{ℕ_discrete}
@@ -88,7 +88,7 @@ unfolding runs_of
 state_apart limit m good =
     apart-map run_register register_key GoodRegister register_within 0 (run_map run_cursor 1 m.p ++ run_map run_table 2 m.t)
     (apart-map run_cursor cursor-key GoodCursor cursor-within 1 (run_map run_table 2 m.t)
-    (subst (Apart 196608) (append_nil (run_map run_table 2 m.t)) (apart-map run_table table-key GoodTable table-within 2 [] tt 0 m.t (omega arith) good.tables))
+    (subst (Apart 196608) (append-nil (run_map run_table 2 m.t)) (apart-map run_table table-key GoodTable table-within 2 [] tt 0 m.t (omega arith) good.tables))
     0 m.p (omega arith) good.cursors)
     0 m.r (omega arith) good.registers
 

@@ -25,9 +25,9 @@ use Rattle.encoding.specs.Holds.{Holds}
 use Rattle.encoding.proofs.Dense.{register_as_column, dense_runs}
 use Rattle.encoding.proofs.Accesses.{apart, register_read}
 
-column-run : (key : ℕ) (o : Option RegDataType) → column_run (Option.map (run_register key) o) ≡ run_column 0 (register_column o)
-column-run key none = refl
-column-run key (some v) = register_as_column v key 0
+column_run_lem : (key : ℕ) (o : Option RegDataType) → column_run (Option.map (run_register key) o) ≡ run_column 0 (register_column o)
+column_run_lem key none = refl
+column_run_lem key (some v) = register_as_column v key 0
 
 -- one more before the others
 one_more : (key : ℕ) (t : Tried (Option RegDataType)) (u : Tried (List ColumnType))
@@ -35,7 +35,7 @@ one_more : (key : ℕ) (t : Tried (Option RegDataType)) (u : Tried (List ColumnT
     ≡ map_tried (map (run_column 0)) (t >>= λ v. u >>= λ cs. done (register_column v ∷ cs))
 one_more key (refused n) u = refl
 one_more key (done v) (refused n) = refl
-one_more key (done v) (done cs) = ap (λ r. done (r ∷ map (run_column 0) cs)) (column-run key v)
+one_more key (done v) (done cs) = ap (λ r. done (r ∷ map (run_column 0) cs)) (column_run_lem key v)
 
 pub read-columns : (limit : ℕ) (m : MemoryState) → Good limit m → (n : ℕ) (i : ℤ) → read_column_runs n i (runs_of m) ≡ map_tried (map (run_column 0)) (read_columns n i m)
 unfolding read_column_runs read_columns

@@ -26,11 +26,11 @@ use Rattle.encoding.proofs.Injective.{first-is}
 pub single_datatype : (d : DataType) (n : Option Bool) (key : ℕ) → datatype_in (single (datatype_code d) (nullable_code n) key) ≡ d
 single_datatype d n key = ap (λ k. get_or datatypes k Null) (head_kind 1 (datatype_code d) (nullable_code n) key (omega arith) (code_small d)) ∙ datatype_coded d
 
-pub single-nullable : (d : DataType) (n : Option Bool) (key : ℕ) → nullable_in (single (datatype_code d) (nullable_code n) key) ≡ n
-single-nullable d n key = ap (λ k. get_or nullables k none) (head_nullable 1 (datatype_code d) (nullable_code n) key (omega arith) (code_small d) (nullable_small n)) ∙ nullable_coded n
+pub single_nullable_lem : (d : DataType) (n : Option Bool) (key : ℕ) → nullable_in (single (datatype_code d) (nullable_code n) key) ≡ n
+single_nullable_lem d n key = ap (λ k. get_or nullables k none) (head_nullable 1 (datatype_code d) (nullable_code n) key (omega arith) (code_small d) (nullable_small n)) ∙ nullable_coded n
 
 single_column : (d : DataType) (n : Option Bool) (key : ℕ) → column_in (single (datatype_code d) (nullable_code n) key) ≡ Single d n
-single_column d n key = ap₂ Single (single_datatype d n key) (single-nullable d n key)
+single_column d n key = ap₂ Single (single_datatype d n key) (single_nullable_lem d n key)
 
 -- the columns of a record, seen by its head c and what follows it
 pub record Headed (c : Cell) (rest : List Cell) (x : Columns) : Type 0 where
@@ -56,14 +56,14 @@ module _ (c : Cell) (rest : List Cell) (key : ℕ) where
   column_tag (Record x) e t = omega (arith, (first-is c _ rest (run_columns x) e).0)
 
   -- a register
-  pub register-column : (v : RegDataType) → c ∷ rest ≡ run_register key v → (tag_of c ≡ 3 → ⊥) → (w : ColumnType) × (v ≡ Column w) × (c ∷ rest ≡ run_column key w)
+  pub register_column_lem : (v : RegDataType) → c ∷ rest ≡ run_register key v → (tag_of c ≡ 3 → ⊥) → (w : ColumnType) × (v ≡ Column w) × (c ∷ rest ≡ run_column key w)
   unfolding run_register
-  register-column (Column w) e t = (w, refl, e)
-  register-column (Int i) e t = absurd (t (omega (arith, (first-is c _ rest [] e).0)))
+  register_column_lem (Column w) e t = (w, refl, e)
+  register_column_lem (Int i) e t = absurd (t (omega (arith, (first-is c _ rest [] e).0)))
 
   pub register_record : (v : RegDataType) → c ∷ rest ≡ run_register key v → tag_of c ≡ 2 → (x : Columns) × (v ≡ Column (Record x)) × Headed c rest x
   register_record v e t =
-      let f = register-column v e (omega arith) in
+      let f = register_column_lem v e (omega arith) in
       let g = column_record f.0 f.2 t in
       (g.0, f.1 ∙ ap Column g.1, g.2)
 
@@ -92,13 +92,13 @@ module _ (c : Cell) (rest : List Cell) (key : ℕ) where
   cursor_pseudo bound h (Pseudo i) s e t = ap Pseudo (sym (int_word bound i h s) ∙ ap int_of (sym (first-is c _ rest [] e).1))
 
   -- a table
-  pub table-columns : (v : TableDataType) → c ∷ rest ≡ run_table key v → Headed c rest v.cols
+  pub table_columns_lem : (v : TableDataType) → c ∷ rest ≡ run_table key v → Headed c rest v.cols
   unfolding run_table
-  table-columns v e = let f = first-is c _ rest (run_columns v.cols) e in record { number = f.1; columns = f.2 }
+  table_columns_lem v e = let f = first-is c _ rest (run_columns v.cols) e in record { number = f.1; columns = f.2 }
 
-  pub table-is_empty : (v : TableDataType) → c ∷ rest ≡ run_table key v → v.is_empty ≡ nullable_in c
+  pub table_is_empty_lem : (v : TableDataType) → c ∷ rest ≡ run_table key v → v.is_empty ≡ nullable_in c
   unfolding run_table
-  table-is_empty v e =
+  table_is_empty_lem v e =
       let n = nullable_code v.is_empty in
       let f = (first-is c _ rest (run_columns v.cols) e).0 in
       sym (nullable_coded v.is_empty)

@@ -71,13 +71,13 @@ module _ (limit : ℕ) (m : MemoryState) (good : Good limit m) where
       unfolding runs_of
       insert_register v = swap_registers within _ ∙ ap (λ l. l ++ (cursors ++ tables)) (insert_map run_register register_key 0 k v m.r)
 
-      pub remove-register : swap (class_key 0 k) [] (runs_of m) ≡ runs_of (with_registers (remove k m.r) m)
+      pub remove_register_lem : swap (class_key 0 k) [] (runs_of m) ≡ runs_of (with_registers (remove k m.r) m)
       unfolding runs_of
-      remove-register = swap_registers within _ ∙ ap (λ l. l ++ (cursors ++ tables)) (remove_map run_register register_key 0 k _ 0 m.r good.registers)
+      remove_register_lem = swap_registers within _ ∙ ap (λ l. l ++ (cursors ++ tables)) (remove_map run_register register_key 0 k _ 0 m.r good.registers)
 
-      pub update-register : (f : RegDataType → RegDataType) (v : RegDataType) → get k m.r ≡ some v → swap (class_key 0 k) (run_register (class_key 0 k) (f v) ∷ []) (runs_of m) ≡ runs_of (with_registers (update k f m.r) m)
+      pub update_register_lem : (f : RegDataType → RegDataType) (v : RegDataType) → get k m.r ≡ some v → swap (class_key 0 k) (run_register (class_key 0 k) (f v) ∷ []) (runs_of m) ≡ runs_of (with_registers (update k f m.r) m)
       unfolding runs_of
-      update-register f v g = swap_registers within _ ∙ ap (λ l. l ++ (cursors ++ tables)) (update_map run_register register_key 0 k _ f v 0 m.r good.registers g)
+      update_register_lem f v g = swap_registers within _ ∙ ap (λ l. l ++ (cursors ++ tables)) (update_map run_register register_key 0 k _ f v 0 m.r good.registers g)
 
       -- cursors
       pub get_cursor : lookup (class_key 1 k) (runs_of m) ≡ map (run_cursor (class_key 1 k)) (get k m.p)
@@ -115,9 +115,9 @@ module _ (limit : ℕ) (m : MemoryState) (good : Good limit m) where
     unfolding runs_of
     remove_table = swap_tables _ ∙ ap (λ l. registers ++ (cursors ++ l)) (remove_map run_table table-key 2 k _ 0 m.t good.tables)
 
-    pub update-table : (f : TableDataType → TableDataType) (v : TableDataType) → get k m.t ≡ some v → swap (class_key 2 k) (run_table (class_key 2 k) (f v) ∷ []) (runs_of m) ≡ runs_of (with_tables (update k f m.t) m)
+    pub update_table_lem : (f : TableDataType → TableDataType) (v : TableDataType) → get k m.t ≡ some v → swap (class_key 2 k) (run_table (class_key 2 k) (f v) ∷ []) (runs_of m) ≡ runs_of (with_tables (update k f m.t) m)
     unfolding runs_of
-    update-table f v g = swap_tables _ ∙ ap (λ l. registers ++ (cursors ++ l)) (update_map run_table table-key 2 k _ f v 0 m.t good.tables g)
+    update_table_lem f v g = swap_tables _ ∙ ap (λ l. registers ++ (cursors ++ l)) (update_map run_table table-key 2 k _ f v 0 m.t good.tables g)
 
 -- the columns of a record or table, whose keys are their numbers
 columns-map : (x : Columns) → runs_by run_column column_key (λ k. k) (entries x) ≡ column_runs x

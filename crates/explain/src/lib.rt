@@ -1,4 +1,6 @@
 // One row of the walk: the `match` of `explain` in sqlx-sqlite 0.9.0, src/connection/explain.rs.
+#![tactic(auto)]
+
 ghost use Rattle.std.specs.Prelude.{◌≡◌, Bool, false, List, ℕ, ◌+◌, ◌<◌, ◌≤◌};
 ghost use Rattle.area.specs.Cells.{cells};
 ghost use Rattle.rows.specs.Rows.{Fits};
@@ -15,7 +17,7 @@ use state::{MemoryState, Step, Way};
 
 // What handling a row gives: a refusal; at most one branch, the state that goes on, and whether it counts as a repeat; three branches and the
 // state that goes on; or a result row, its branch and the registers that are its columns: where they begin, and how many.
-#[derive(Drop)]
+#[derive(Clone, Copy)]
 pub enum Handling {
     Refused(u64),
     Ways(Way, Way, bool),

@@ -1,4 +1,6 @@
 // The arm IfPos of `explain`, the one that asks whether its row is handled again: sqlx-sqlite 0.9.0, src/connection/explain.rs.
+#![tactic(auto)]
+
 ghost use Rattle.model.specs.IfPosArm.{is_positive};
 ghost use Rattle.std.specs.Prelude.{true};
 ghost use Rattle.area.specs.Cells.{cells};

@@ -1,5 +1,7 @@
 // Rows whose arm writes over cells where they stand, and offers no branch: the arms of `explain` once more, in words and with few tests. What is
 // not done so is left to `explain::handle`. Translated from sqlx-sqlite 0.9.0, src/connection/explain.rs.
+#![tactic(auto)]
+
 ghost use Rattle.std.specs.Prelude.{◌≡◌, ℕ, ◌+◌, ◌<◌, ◌≤◌};
 ghost use Rattle.model.specs.RegisterArms.{copy_to};
 ghost use Rattle.model.specs.Operation.{op_arithmetic, op_halt_if_null, op_null, op_copy, op_column};

@@ -2,7 +2,7 @@
 use mathlib.Core.Path.{◌≡◌, refl, sym, ap, ◌∙◌}
 use mathlib.Core.Bool.{Bool, true, false}
 use mathlib.Core.Option.{Option, none, some}
-use mathlib.Core.List.{List, [], ◌∷◌, ◌++◌, append_nil, append_assoc}
+use mathlib.Core.List.{List, [], ◌∷◌, ◌++◌, append-nil, append_assoc}
 use Prim.Native.Nat.{ℕ, ◌+◌, ◌<◌, ◌≤◌}
 use native.Mathlib.Omega.{arith}
 use lib.Dec.{eqb, ltb}
@@ -70,7 +70,7 @@ module _ (key : ℕ) (r : List Cell) (rs : Runs) where
 module _ (key : ℕ) where
   pub swap_from : (new rs : Runs) → From (key + 1) rs → swap key new rs ≡ new ++ rs
   unfolding swap
-  swap_from new [] h = sym (append_nil new)
+  swap_from new [] h = sym (append-nil new)
   swap_from new (r ∷ rs) h = rw (le-ltb (key_run r) key (omega arith), ne_eqb (key_run r) key (omega arith))
 
   pub lookup_from : (rs : Runs) → From (key + 1) rs → lookup key rs ≡ none

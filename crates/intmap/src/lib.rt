@@ -1,4 +1,6 @@
 // Maps in the area: columns as runs of cells, and entries by key.
+#![tactic(auto)]
+
 ghost use Rattle.std.specs.Prelude.{◌≡◌, ◌+◌, ◌<◌, ◌≤◌, max, eqb, leb, length, get_or, [], ◌∷◌};
 ghost use Rattle.area.specs.Cells.{blank, cells};
 ghost use Rattle.intmap.specs.Pack.{Parts, head, tag_of, kind_of, nullable_of, key_of, with_key, with_nullable, class_key};
@@ -349,7 +351,7 @@ pub fn from_elem(area: &mut [u8], at: usize, c: Cell, n: usize)
 pub const LEVELS: usize = 9;
 
 // A map: where its entries begin, how many they are, and how many cells they take. They are runs in the order of their keys.
-#[derive(Drop)]
+#[derive(Clone, Copy)]
 pub struct IntMap {
     pub base: usize,
     pub len: u64,
@@ -357,7 +359,7 @@ pub struct IntMap {
 }
 
 // Where an entry's key is or belongs: the place, how many entries stand from there on, and whether the first is the one.
-#[derive(Drop)]
+#[derive(Clone, Copy)]
 pub struct Found {
     pub at: usize,
     pub left: u64,
@@ -365,35 +367,35 @@ pub struct Found {
 }
 
 // Where room was made for an entry, and the map with it, or that there is none.
-#[derive(Drop)]
+#[derive(Clone, Copy)]
 enum Place {
     Full,
     At(usize, IntMap),
 }
 
 // What a store gives: a refusal, which is 01's 8, or the map.
-#[derive(Drop)]
+#[derive(Clone, Copy)]
 pub enum Insertion {
     Full,
     Done(IntMap),
 }
 
 // What a store or a removal by an index gives: 01's number, or the map.
-#[derive(Drop)]
+#[derive(Clone, Copy)]
 pub enum Stored {
     Refused(u64),
     Done(IntMap),
 }
 
 // A map index, judged: 01's number, or the place in its class.
-#[derive(Drop)]
+#[derive(Clone, Copy)]
 pub enum Index {
     Bad(u64),
     At(u64),
 }
 
 // Where an entry is: 01's number for a bad index, nowhere, or there.
-#[derive(Drop)]
+#[derive(Clone, Copy)]
 pub enum Slot {
     Bad(u64),
     Absent,

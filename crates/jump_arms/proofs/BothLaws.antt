@@ -81,8 +81,8 @@ module _ (limit : ℕ) (cs there : List Cell) (a : IntMap) (current : Current li
     map_holds : (bound : ℕ) (m : Defined) → HoldsMap limit bound cs a m → HoldsMap limit bound two a m
     map_holds bound m h = held_elsewhere limit bound there _ _ _ m (held_elsewhere limit bound cs _ _ _ m h there _ first_same) two _ second_same
 
-    pub state-held : Held two a
-    state-held =
+    pub state_held_lem : Held two a
+    state_held_lem =
         record {
           map = room_map state_room;
           limit = limit;

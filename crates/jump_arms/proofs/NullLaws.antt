@@ -62,19 +62,19 @@ may_be (suc (suc (suc n))) h e = absurd (omega arith)
 no_kind : (k : ℕ) → k ≡ 0 → not (is_null_type (get_or datatypes k Null)) ≡ false
 no_kind k e = ap (λ j. not (is_null_type (get_or datatypes j Null))) e
 
-has-kind : (k : ℕ) → k < 11 → (k ≡ 0 → ⊥) → not (is_null_type (get_or datatypes k Null)) ≡ true
-has-kind zero h e = absurd (e refl)
-has-kind (suc zero) h e = refl
-has-kind (suc (suc zero)) h e = refl
-has-kind (suc (suc (suc zero))) h e = refl
-has-kind (suc (suc (suc (suc zero)))) h e = refl
-has-kind (suc (suc (suc (suc (suc zero))))) h e = refl
-has-kind (suc (suc (suc (suc (suc (suc zero)))))) h e = refl
-has-kind (suc (suc (suc (suc (suc (suc (suc zero))))))) h e = refl
-has-kind (suc (suc (suc (suc (suc (suc (suc (suc zero)))))))) h e = refl
-has-kind (suc (suc (suc (suc (suc (suc (suc (suc (suc zero))))))))) h e = refl
-has-kind (suc (suc (suc (suc (suc (suc (suc (suc (suc (suc zero)))))))))) h e = refl
-has-kind (suc (suc (suc (suc (suc (suc (suc (suc (suc (suc (suc k))))))))))) h e = absurd (omega arith)
+has_kind_lem : (k : ℕ) → k < 11 → (k ≡ 0 → ⊥) → not (is_null_type (get_or datatypes k Null)) ≡ true
+has_kind_lem zero h e = absurd (e refl)
+has_kind_lem (suc zero) h e = refl
+has_kind_lem (suc (suc zero)) h e = refl
+has_kind_lem (suc (suc (suc zero))) h e = refl
+has_kind_lem (suc (suc (suc (suc zero)))) h e = refl
+has_kind_lem (suc (suc (suc (suc (suc zero))))) h e = refl
+has_kind_lem (suc (suc (suc (suc (suc (suc zero)))))) h e = refl
+has_kind_lem (suc (suc (suc (suc (suc (suc (suc zero))))))) h e = refl
+has_kind_lem (suc (suc (suc (suc (suc (suc (suc (suc zero)))))))) h e = refl
+has_kind_lem (suc (suc (suc (suc (suc (suc (suc (suc (suc zero))))))))) h e = refl
+has_kind_lem (suc (suc (suc (suc (suc (suc (suc (suc (suc (suc zero)))))))))) h e = refl
+has_kind_lem (suc (suc (suc (suc (suc (suc (suc (suc (suc (suc (suc k))))))))))) h e = absurd (omega arith)
 
 module _ (cs : List Cell) (a : IntMap) (i : ℕ) (x : Register) (reads : Reads cs a i x) where
   pub asks_bad : (n : ℕ) → x ≡ register.Bad n → Asks cs a i (asked.Bad n)
@@ -97,13 +97,13 @@ module _ (cs : List Cell) (a : IntMap) (i : ℕ) (x : Register) (reads : Reads c
     asks_neither p q = record { says = λ limit bound m h. record { value = _; answer = (told.says limit bound m h).answer; null = never-false n p; kind = no_kind k q } }
 
     pub asks_kind : n ≡ 1 → (k ≡ 0 → ⊥) → Asks cs a i asked.Kind
-    asks_kind p q = record { says = λ limit bound m h. (let t = told.says limit bound m h in record { value = _; answer = t.answer; null = never-false n p; kind = has-kind k t.kind_small q }) }
+    asks_kind p q = record { says = λ limit bound m h. (let t = told.says limit bound m h in record { value = _; answer = t.answer; null = never-false n p; kind = has_kind_lem k t.kind_small q }) }
 
     pub asks_null : (n ≡ 1 → ⊥) → k ≡ 0 → Asks cs a i asked.Null
     asks_null p q = record { says = λ limit bound m h. (let t = told.says limit bound m h in record { value = _; answer = t.answer; null = may_be n t.nullable_small p; kind = no_kind k q }) }
 
     pub asks_either : (n ≡ 1 → ⊥) → (k ≡ 0 → ⊥) → Asks cs a i asked.Either
-    asks_either p q = record { says = λ limit bound m h. (let t = told.says limit bound m h in record { value = _; answer = t.answer; null = may_be n t.nullable_small p; kind = has-kind k t.kind_small q }) }
+    asks_either p q = record { says = λ limit bound m h. (let t = told.says limit bound m h in record { value = _; answer = t.answer; null = may_be n t.nullable_small p; kind = has_kind_lem k t.kind_small q }) }
 
 -- ---- the changes
 

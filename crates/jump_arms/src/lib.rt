@@ -1,4 +1,6 @@
 // The arms of `explain` that name the next row, add a branch or end the branch: sqlx-sqlite 0.9.0, src/connection/explain.rs.
+#![tactic(auto)]
+
 ghost use Rattle.std.specs.Prelude.{◌≡◌, not, ◌<◌, get_or};
 ghost use Rattle.std.proofs.Math.Option.{none, some};
 ghost use Rattle.model.specs.Operation.{op_goto, op_gosub, op_branch, op_must_be_int, op_is_null, op_not_null, op_if, op_init_coroutine, op_return, op_halt};
@@ -113,7 +115,7 @@ pub fn init_coroutine(s: MemoryState, area: &mut [u8], x: Row, limit: usize) -> 
 }
 
 // The number that a register is known to hold.
-#[derive(Drop)]
+#[derive(Clone, Copy)]
 pub enum Known {
     Bad(u64),
     Unknown,
@@ -270,7 +272,7 @@ pub fn if_(s: MemoryState, area: &mut [u8], x: Row, limit: usize) -> Step
 }
 
 // What IsNull and NotNull ask of a register: whether its kind is not Null, and whether it may be null.
-#[derive(Drop)]
+#[derive(Clone, Copy)]
 pub enum Asked {
     Bad(u64),
     Neither,

@@ -2,7 +2,7 @@
 use mathlib.Core.Path.{◌≡◌, refl, sym, ap, ◌∙◌, subst}
 use mathlib.Core.Bool.{Bool}
 use mathlib.Core.Option.{Option, none, some}
-use mathlib.Core.List.{List, [], ◌∷◌, ◌++◌, append_nil, append_assoc}
+use mathlib.Core.List.{List, [], ◌∷◌, ◌++◌, append-nil, append_assoc}
 use Prim.Native.Nat.{ℕ, suc, ◌+◌, ◌*◌, ◌-◌, ◌≤◌, ◌<◌}
 use native.Mathlib.Omega.{arith}
 use native.Mathlib.Numerals.{add-one}
@@ -34,8 +34,8 @@ unfolding hex_value
 hex_is c {x} {y} e f = ap (λ v. hex_value_if x v c) (sym f) ∙ ap (λ v. hex_value_if v (within 97 102 c) c) (sym e)
 
 module _ (c : ℕ) where
-  pub hex-digit : 48 ≤ c → c < 58 → some (c - 48) ≡ hex_value c
-  hex-digit h k = hex_is c (within_both 48 57 c h (omega arith)) refl
+  pub hex_digit_lem : 48 ≤ c → c < 58 → some (c - 48) ≡ hex_value c
+  hex_digit_lem h k = hex_is c (within_both 48 57 c h (omega arith)) refl
 
   pub hex_letter : 57 < c → 97 ≤ c → c < 103 → some (c - 87) ≡ hex_value c
   hex_letter o h k = hex_is c (within_above 48 57 c o) (within_both 97 102 c h (omega arith))
@@ -81,7 +81,7 @@ module _ (t bytes : List ℕ) (i n : ℕ) where
 
   pub hex_end : length t ≤ i → some (take n bytes) ≡ hex_from t bytes i n
   unfolding hex_from read_hex
-  hex_end h = sym (rw (drop_of_length-le t h, append_nil (take n bytes)))
+  hex_end h = sym (rw (drop_of_length-le t h, append-nil (take n bytes)))
 
   pub hex_odd : i < length t → length t - i ≡ 1 → none ≡ hex_from t bytes i n
   unfolding hex_from read_hex

@@ -1,4 +1,6 @@
 // The listing's text: its rows, read, judged and laid down in the area, and how many there are.
+#![tactic(auto)]
+
 ghost use Rattle.std.specs.Prelude.{◌≡◌, ◌+◌, ◌<◌, ◌≤◌, length};
 ghost use Rattle.type_info.specs.Ascii.{ascii};
 ghost use Rattle.model.specs.Fields.{take_field};
@@ -19,21 +21,21 @@ const MOST: usize = 2048;
 const ZERO: u64 = 9223372036854775808;
 
 // The value of a hexadecimal digit.
-#[derive(Drop)]
+#[derive(Clone, Copy)]
 pub enum Nibble {
     Is(u8),
     Bad,
 }
 
 // How many bytes were decoded.
-#[derive(Drop)]
+#[derive(Clone, Copy)]
 pub enum Hex {
     Is(usize),
     Bad,
 }
 
 // A row as it was read. Its operation's name stands from `from` up to `to`, its P4 has `size` bytes, and the next row stands at `next`.
-#[derive(Drop)]
+#[derive(Clone, Copy)]
 pub struct Found {
     pub from: usize,
     pub to: usize,
@@ -44,14 +46,14 @@ pub struct Found {
     pub next: usize,
 }
 
-#[derive(Drop)]
+#[derive(Clone, Copy)]
 pub enum RowRead {
     Is(Found),
     Bad,
 }
 
 // A judged row and the offset behind it.
-#[derive(Drop)]
+#[derive(Clone, Copy)]
 pub enum JudgedRow {
     Is { row: rows::Row, next: usize },
     Bad,

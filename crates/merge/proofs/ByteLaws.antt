@@ -96,17 +96,17 @@ unfolding column_byte
 byte_nullable c = omega (arith, nullable_few c.nullable)
 
 -- the byte of a register's first cell is that of its column
-pub register-byte : (key : ℕ) (v : RegDataType) → cell_byte (head_run (run_register key v)) ≡ column_byte (result_column (map_to_columntype v))
+pub register_byte_lem : (key : ℕ) (v : RegDataType) → cell_byte (head_run (run_register key v)) ≡ column_byte (result_column (map_to_columntype v))
 unfolding run_register run_column column_byte
-register-byte key (Column (Single d n)) =
+register_byte_lem key (Column (Single d n)) =
     let a = datatype_code d in
     let b = nullable_code n in
     let kind : head 1 a b key / 256 % 256 ≡ a = head_kind 1 a b key (omega arith) (code_small d) in
     let nullable : head 1 a b key / 65536 % 256 ≡ b = head_nullable 1 a b key (omega arith) (code_small d) (nullable_small n) in
     sym (cell_single (cell (head 1 a b key) 0) 1 a b (omega (arith, head_tag 1 a b key (omega arith))) refl (sym kind) (sym nullable))
     ∙ omega (arith, code_few d, nullable_few n)
-register-byte key (Column (Record cs)) = sym (cell_record _ 2 (omega arith) (omega arith) (omega arith))
-register-byte key (Int i) = sym (cell_int _ 3 (omega arith) (omega arith) (omega arith))
+register_byte_lem key (Column (Record cs)) = sym (cell_record _ 2 (omega arith) (omega arith) (omega arith))
+register_byte_lem key (Int i) = sym (cell_int _ 3 (omega arith) (omega arith) (omega arith))
 
 -- the kind and the nullable that the definition merges, as codes
 first_code : (k : ℕ) (a b : DataType) → datatype_code (first_if (is_zero k) a b) ≡ pick (eqb k 0) (datatype_code b) (datatype_code a)

@@ -31,7 +31,7 @@ use Rattle.encoding.proofs.Accesses.{apart}
 use Rattle.state.specs.Leads.{HoldsMap}
 use Rattle.merge.specs.Columns.{unsaid, column_byte, HasColumns, Merges}
 use Rattle.merge.specs.Entries.{merge_byte, merge_cell, head_run, merge_runs}
-use Rattle.merge.proofs.ByteLaws.{merge-nothing, register-byte, merged_at, merged_length}
+use Rattle.merge.proofs.ByteLaws.{merge-nothing, register_byte_lem, merged_at, merged_length}
 use Rattle.merge.proofs.EntryLaws.{cell_long, cell_merged, cell_kept, runs_on, runs_past, head-key, merged_sought}
 
 -- ---- the row that the definition reads
@@ -102,7 +102,7 @@ module _ (i n : ℕ) (rest : Runs) (above : From (class_key 0 i + n) rest) where
             (λ t. let same : e.key ≡ i + j = eqb-true e.key (i + j) t in
             absent_byte (get (i + j) rs) _ (get_past P (i + j) (suc e.key) rs (omega arith) s.2)
             ∙ cell_merged first (head_run run) bytes j (head_is ∙ omega (arith, same)) (omega arith)
-            ∙ ap (λ x. merge_byte x (get_or bytes j 0)) (register-byte (class_key 0 e.key) e.value)
+            ∙ ap (λ x. merge_byte x (get_or bytes j 0)) (register_byte_lem (class_key 0 e.key) e.value)
             ∙ ap (λ o. merge_byte (register_byte o) (get_or bytes j 0)) (sym (get_first (i + j) e rs same)))
             (λ t. let other : e.key ≡ i + j → ⊥ = eqb-false e.key (i + j) t in
             ap₂ (λ o x. merge_byte (register_byte o) x) (sym (get_other (i + j) e rs other)) (cell_kept first (head_run run) bytes j (λ p. other (omega (arith, head_is, p)))))

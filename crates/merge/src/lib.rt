@@ -1,5 +1,7 @@
 // The result rows counted so far, folded into one byte for each column. Translated from sqlx-sqlite 0.9.0, src/connection/explain.rs: the loop
 // over `result_states`, a row at a time.
+#![tactic(auto)]
+
 ghost use Rattle.std.specs.Prelude.{◌≡◌, ◌+◌, ◌<◌, ◌≤◌, max, length};
 ghost use Rattle.area.specs.Cells.{cells};
 ghost use Rattle.intmap.specs.Pack.{key_of};

@@ -41,7 +41,7 @@ use Rattle.model.proofs.Catalogue.{SmallColumn, standard_good}
 use Rattle.model.proofs.Good.{fresh_good, ways_good}
 use Rattle.model.proofs.States.{everywhere}
 use Rattle.model.proofs.TextTheorems.{catalogue_text}
-use Rattle.model.proofs.WalkTheorems.{limits, taken-up, coverage}
+use Rattle.model.proofs.WalkTheorems.{limits, taken_up_lem, coverage}
 
 -- the numbers of a call's refusals
 abbrev Number : ℕ → Type 0
@@ -64,8 +64,8 @@ test_number : {A : Type 0} (k : ℕ) → Number k → (b : Bool) (a : A) → Ref
 test_number k h true a = value
 test_number k h false a = refusal h
 
-no-space : (k : ℕ) → k ≡ 11 → Number k
-no-space k e = (omega arith, omega arith)
+no_space_lem : (k : ℕ) → k ≡ 11 → Number k
+no_space_lem k e = (omega arith, omega arith)
 
 module _ (rows : List Row) (records : List CatalogueRecord) (area : ℕ) where
   walk_number : Refuses Number (outcome_of (walk_listing (standard records) rows area))
@@ -75,7 +75,7 @@ module _ (rows : List Row) (records : List CatalogueRecord) (area : ℕ) where
       go : (w : Walked MemoryState ResultRow) → walk_listing (standard records) rows area ≡ w → Refuses Number (outcome_of w)
       go (refused_with k n) e =
           elim (refused_because eq_state (row_of rows) (ways (standard records) rows) (units rows) gas_given fresh (space_of (standard records) rows area) k n e) [
-            | inl is ↦ refusal (no-space k is)
+            | inl is ↦ refusal (no_space_lem k is)
             | inr why ↦ refusal (of_row-number k (row_refusals (standard records) rows why.0 why.1 k why.2))
           ]
       go (answered n) e = value
@@ -139,6 +139,7 @@ columns_as X Y same columns s =
 -- the width
 wide_enough : (rs : List ResultRow) (r : ResultRow) → r ∈ rs → length r.columns ≤ widest rs
 unfolding widest
+wide_enough [] r i = elim i [ ]
 wide_enough (x ∷ rs) r (inl e) = subst (λ (y : ResultRow). length y.columns ≤ max (length x.columns) (widest rs)) e (omega arith)
 wide_enough (x ∷ rs) r (inr i) = omega (arith, wide_enough rs r i)
 
@@ -174,7 +175,7 @@ module _ (rows : List Row) (records : List CatalogueRecord) (area : ℕ) where
   answer_claims : (n : Notes MemoryState ResultRow) → walk_listing (standard records) rows area ≡ answered n → AnswerClaims rows records n
   answer_claims n e =
       record {
-        taken_up = taken-up eq_state (row_of rows) (ways (standard records) rows) (units rows) gas_given fresh (space_of (standard records) rows area) sound n e;
+        taken_up = taken_up_lem eq_state (row_of rows) (ways (standard records) rows) (units rows) gas_given fresh (space_of (standard records) rows area) sound n e;
         counted = counted_say n.counted;
         coverage = covered;
         reached = λ q. columns_as (λ r. r ∈ n.counted) (Reached rows records) (covered q).exact (columns_of n.counted) (counted_say n.counted);

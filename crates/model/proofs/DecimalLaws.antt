@@ -2,7 +2,7 @@
 use mathlib.Core.Path.{◌≡◌, refl, sym, ap, ◌∙◌, subst}
 use mathlib.Core.Bool.{true, false, not, ◌||◌, and-eq-true_iff, false≢true}
 use mathlib.Core.Option.{Option, some}
-use mathlib.Core.List.{List, [], ◌∷◌, ◌++◌, append_assoc, append_nil}
+use mathlib.Core.List.{List, [], ◌∷◌, ◌++◌, append_assoc, append-nil}
 use Prim.Native.Nat.{ℕ, zero, suc, ◌+◌, ◌*◌, ◌-◌, ◌/◌, ◌%◌, ◌≤◌, ◌<◌}
 use native.Mathlib.Omega.{arith}
 use lib.Dec.{ltb, eqb}
@@ -109,7 +109,7 @@ natural_print = by_digits (λ n. read_natural (print_natural n) ≡ some n)
 
 digits_back : (s : List ℕ) (a n : ℕ) → 1 ≤ a → read_digits a s ≡ some n → print_natural a ++ s ≡ print_natural n
 unfolding read_digits
-digits_back [] a n h e = append_nil (print_natural a) ∙ ap print_natural (some_same e)
+digits_back [] a n h e = append-nil (print_natural a) ∙ ap print_natural (some_same e)
 digits_back (b ∷ s) a n h e =
     let (good, rest) = only_if-some (is_digit b) e in
     let (low, high) = digit_range b good in

@@ -3,11 +3,11 @@ use mathlib.Core.Path.{◌≡◌, refl, sym, ap, ◌∙◌, subst}
 use mathlib.Core.Logic.{◌↔◌}
 use mathlib.Core.Bool.{Bool, true, not, and-eq-true_iff}
 use mathlib.Core.Option.{Option, some}
-use mathlib.Core.List.{List, [], ◌∷◌, ◌++◌, append_assoc, append_nil}
+use mathlib.Core.List.{List, [], ◌∷◌, ◌++◌, append_assoc, append-nil}
 use Prim.Native.Nat.{ℕ, ◌<◌}
 use native.Mathlib.Omega.{arith}
 use lib.Dec.{eqb}
-use borrow.Author.Tests.{eq-eqb, ne_eqb, eqb-true, not_true}
+use borrow.Author.Tests.{eq-eqb, ne_eqb, eqb-true, not-true}
 use Rattle.type_info.specs.Ascii.{within}
 use Rattle.type_info.specs.All.{all_of}
 use Rattle.model.specs.Reader.{◌then◌, read_if, read_name}
@@ -48,7 +48,7 @@ unfolding take_line all_of
 line_on [] u h = refl
 line_on (b ∷ v) u h =
     let (first, rest) = (and-eq-true_iff (not (eqb b 10)) (all_of (λ b. not (eqb b 10)) v)).0 h in
-    rw (not_true (eqb b 10) first, take_line) (ap (λ o. o then λ l. some (b ∷ l.0, l.1)) (line_on v u rest))
+    rw (not-true (eqb b 10) first, take_line) (ap (λ o. o then λ l. some (b ∷ l.0, l.1)) (line_on v u rest))
 
 -- a line and what stands behind it
 abbrev Line : List ℕ → List ℕ × List ℕ → Type 0
@@ -97,5 +97,5 @@ value-takes key = takes_from
 pub field-takes : {A : Type 0} {read : List ℕ → Option A} {Valid : A → Type 0} {print : A → List ℕ} (key : List ℕ) → Value read Valid print → Takes (take_field key read) Valid (λ v. print_field key (print v))
 unfolding take_field
 field-takes {print = print} key value = takes_from
-    (λ v h. yields_as (append_nil (print_field key (print v))) (then_yields (value-takes key) _ (value.one_line v h) (given_yields (reads value.exact h))))
+    (λ v h. yields_as (append-nil (print_field key (print v))) (then_yields (value-takes key) _ (value.one_line v h) (given_yields (reads value.exact h))))
     (then_gives (value-takes key) _ λ s _. given_gives λ a e u. let (good, is) = only value.exact e in (good, ap (λ x. print_field key x ++ u) is))

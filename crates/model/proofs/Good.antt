@@ -18,7 +18,7 @@ use Rattle.model.specs.Results.{ResultRow}
 use Rattle.model.specs.Meaning.{Meaning}
 use Rattle.model.specs.Operation.{Operation, jumps, op_if_pos, registers, cursors, op_result_row, no_arm, operation_of}
 use Rattle.model.specs.Offer.{turns, row_at}
-use Rattle.model.specs.Explain.{arm, at_row_lem, ways}
+use Rattle.model.specs.Explain.{arm, at_row, ways}
 use Rattle.model.specs.Good.{Good, GoodWays, GoodMeaning, Each, OnSome}
 use Rattle.model.proofs.Tried.{Kept, ◌>>◌, kept}
 use Rattle.model.proofs.Rows.{row_at-within}
@@ -41,7 +41,7 @@ module _ (meaning : Meaning) (q : GoodMeaning meaning) (rows : List Row) (few : 
   arm_good small x op_result_row = result_row_good meaning.cell_limit rows x m g (turns m.program_i)
   arm_good small x no_arm = goes_on_good (next_good g)
 
-  row_good : (o : Option Row) → row_at rows m.program_i ≡ o → Kept (GoodWays meaning.cell_limit) (at_row_lem meaning rows again m o)
+  row_good : (o : Option Row) → row_at rows m.program_i ≡ o → Kept (GoodWays meaning.cell_limit) (at_row meaning rows again m o)
   row_good none e = ends_good
   row_good (some x) e = arm_good (omega (arith, row_at-within rows m.program_i x e)) x (operation_of x.op)
 

@@ -82,5 +82,5 @@ unfolding print_hex all_of
 hex_line [] = refl
 hex_line (b ∷ bs) = rw (hex_digit_line (b / 16), hex_digit_line (b % 16)) (hex_line bs)
 
-pub hex-value : Value read_hex (All (λ b. b < 256)) print_hex
-hex-value = record { exact = exactly (λ bs h. hex_print h) hex_back; one_line = λ bs _. hex_line bs }
+pub hex_value_lem : Value read_hex (All (λ b. b < 256)) print_hex
+hex_value_lem = record { exact = exactly (λ bs h. hex_print h) hex_back; one_line = λ bs _. hex_line bs }

@@ -1,7 +1,7 @@
 -- Laws of items in a row: so many of them, and as many as the text has. Assumes nothing.
 use mathlib.Core.Path.{◌≡◌, refl, sym, ap, ◌∙◌, subst}
 use mathlib.Core.Option.{some}
-use mathlib.Core.List.{List, [], ◌∷◌, ◌++◌, append_assoc, append_nil}
+use mathlib.Core.List.{List, [], ◌∷◌, ◌++◌, append_assoc, append-nil}
 use Prim.Native.Nat.{ℕ, zero, suc, ◌+◌, ◌≤◌}
 use native.Mathlib.Omega.{arith}
 use lib.ListN.{length, length-append}
@@ -23,7 +23,7 @@ module _ {A : Type 0} (item : ℕ → Reader A) (Valid : A → Type 0) (print : 
   unfolding take_items print_items
   more_yield n k rest all_nil e = absurd (omega arith)
   more_yield n k rest (all_cons {x = x} {xs = more} v w) e =
-      yields_as (ap (λ s. print k x ++ s) (append_nil (print_items print (suc k) more)))
+      yields_as (ap (λ s. print k x ++ s) (append-nil (print_items print (suc k) more)))
       (then_yields (law k) _ v (then_yields rest _ (omega arith, w) give_yields))
 
   pub items_take : (n k : ℕ) → Takes (take_items item n k) (λ xs. (length xs ≡ n) × All Valid xs) (print_items print k)

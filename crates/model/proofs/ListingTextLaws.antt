@@ -19,7 +19,7 @@ use Rattle.model.proofs.TestLaws.{all_of_weaker}
 use Rattle.model.proofs.FieldLaws.{within_no_lf, Value, if_value, text_value, field-takes}
 use Rattle.model.proofs.ItemLaws.{items_exact}
 use Rattle.model.proofs.DecimalLaws.{index-value, signed_value}
-use Rattle.model.proofs.HexLaws.{hex-value}
+use Rattle.model.proofs.HexLaws.{hex_value_lem}
 
 alnum_no_lf : (b : ℕ) → is_alnum b ≡ true → not (eqb b 10) ≡ true
 alnum_no_lf b e = go (is_digit b) (within 65 90 b) refl refl e
@@ -35,7 +35,7 @@ operation_value = text_value λ s e. all_of_weaker alnum_no_lf s ((and-eq-true_i
 
 p4_value : Value read_p4 (λ bs. (length bs ≤ 255) × All (λ b. b < 256) bs) print_hex
 unfolding read_p4
-p4_value = if_value hex-value λ bs. (λ h. (leb-true (length bs) 255 h.1, h.0), λ h. (h.1, le-leb (length bs) 255 h.0))
+p4_value = if_value hex_value_lem λ bs. (λ h. (leb-true (length bs) 255 h.1, h.0), λ h. (h.1, le-leb (length bs) 255 h.0))
 
 pub row-takes : (addr : ℕ) → Takes (take_row addr) ValidRow (print_row addr)
 unfolding take_row print_row flatten

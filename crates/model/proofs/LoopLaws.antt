@@ -65,9 +65,9 @@ module _ {M R : Type 0} (row_of : M → Option ℕ) where
     leaves e = rw (e, go_on)
 
     -- so a paused front is one of a current lineage
-    pub at_row : (row : ℕ) → row_of l.mem ≡ some row → go_on row_of (some l) ls n ≡ on_row row l ls n
+    pub at_row_lem : (row : ℕ) → row_of l.mem ≡ some row → go_on row_of (some l) ls n ≡ on_row row l ls n
     unfolding go_on
-    at_row row e = rw (e, go_on)
+    at_row_lem row e = rw (e, go_on)
 
   -- with no gas the waiting lineages are closed one by one
   closes : (ls : List (Lineage M)) (n : Notes M R) → close row_of (take_up row_of ls n) ≡ answered (close_all row_of ls n)
@@ -100,7 +100,7 @@ module _ {M R : Type 0} (row_of : M → Option ℕ) where
   unfolding close go_on
   empties {ends} c l ls n row e =
       c.is (go_on row_of (some l) ls n) ∙
-      ap (λ f. ends (close row_of f)) (at_row l ls n row e) ∙
+      ap (λ f. ends (close row_of f)) (at_row_lem l ls n row e) ∙
       sym (ap ends (closes ls (gas_stop n))) ∙
       sym (c.is (take_up row_of ls (gas_stop n)))
 
@@ -143,7 +143,7 @@ module _
         after eq row_of ways units budget gas (some l) ls n ≡ paused gas (on_row row l ls n)
     unfolding run
     run_pauses budget zero l ls n row z h e = absurd (omega arith)
-    run_pauses zero (suc gas) l ls n row z h e = ap (run eq row_of ways units zero (suc gas)) (at_row row_of l ls n row e)
+    run_pauses zero (suc gas) l ls n row z h e = ap (run eq row_of ways units zero (suc gas)) (at_row_lem row_of l ls n row e)
     run_pauses (suc budget) (suc gas) l ls n row z h e = absurd (omega arith)
 
     -- with no gas both close what is left
@@ -197,7 +197,7 @@ module _
         -- the turn at the current lineage's row
         at_turn : now (go_on row_of (some l) ls n) ≡ after_turn ends next (handle_if eq row_of ways units (under_limit row l.past) row l ls (charge n))
         unfolding turn
-        at_turn = t.is (go_on row_of (some l) ls n) ∙ ap (λ f. after_turn ends next (turn eq row_of ways units f)) (at_row row_of l ls n row at)
+        at_turn = t.is (go_on row_of (some l) ls n) ∙ ap (λ f. after_turn ends next (turn eq row_of ways units f)) (at_row_lem row_of l ls n row at)
 
         -- it is closed at the loop limit
         pub loops : 3 ≤ count row l.past → now (go_on row_of (some l) ls n) ≡ next (go_on row_of none ls (loop_stop (charge n)))

@@ -3,7 +3,7 @@ use mathlib.Core.Path.{◌≡◌, refl, sym, ap, ◌∙◌, subst}
 use mathlib.Core.Logic.{◌↔◌}
 use mathlib.Core.Bool.{Bool, true, false, and-eq-true_iff, false≢true}
 use mathlib.Core.Option.{Option, none, some}
-use mathlib.Core.List.{List, [], ◌∷◌, ◌++◌, append_assoc, append_nil}
+use mathlib.Core.List.{List, [], ◌∷◌, ◌++◌, append_assoc, append-nil}
 use Prim.Native.Nat.{ℕ}
 use native.Mathlib.Omega.{arith}
 use lib.Dec.{eqb}
@@ -103,12 +103,12 @@ module _ {A : Type 0} {r : Reader A} {Valid : A → Type 0} {print : A → List 
   pub whole_exact : Takes r Valid print → Exactly (whole r) Valid print
   unfolding whole
   whole_exact law = exactly
-      (λ v h. ap (λ s. whole r s) (sym (append_nil (print v))) ∙ ap (λ o. o then λ x. only_if (ended x.1) (some x.0)) ((yields law h).is []))
+      (λ v h. ap (λ s. whole r s) (sym (append-nil (print v))) ∙ ap (λ o. o then λ x. only_if (ended x.1) (some x.0)) ((yields law h).is []))
       (λ t v e. then_some (r t) e λ x is kept.
       let (over, same) = only_if-some (ended x.1) kept in
       let here = (law.is t x.0 x.1).0 is in
       let v-is = some_same same in
-      (subst Valid v-is here.0, here.1 ∙ ap (λ s. print x.0 ++ s) (nothing x.1 over) ∙ append_nil (print x.0) ∙ ap print v-is))
+      (subst Valid v-is here.0, here.1 ∙ ap (λ s. print x.0 ++ s) (nothing x.1 over) ∙ append-nil (print x.0) ∙ ap print v-is))
     where
       nothing : (s : List ℕ) → ended s ≡ true → s ≡ []
       nothing [] e = refl

@@ -24,7 +24,7 @@ use Rattle.model.specs.IfPosArm.{if_pos_arm}
 use Rattle.model.specs.ResultArm.{result_if, result_row_arm}
 use Rattle.model.specs.RegisterArms.{store_some, copy_to, copy_many, move_some, move_many, null_many, null_turns, function_arm, agg_step_arm, agg_final_arm, register_arm}
 use Rattle.model.specs.CursorArms.{column_of, store_into, insert_record, insert_null_if, insert_arm, store_some_cursor, open_table, cursor_arm}
-use Rattle.model.specs.Explain.{arm, at_row_lem, ways}
+use Rattle.model.specs.Explain.{arm, at_row, ways}
 use Rattle.model.specs.Refusals.{of_row}
 use Rattle.model.proofs.Refuses.{Refuses, refusal, value, ◌>>◌, refused_by}
 
@@ -33,14 +33,14 @@ abbrev Numbered : {A : Type 0} → Tried A → Type 0
 Numbered t = Refuses (λ k. of_row k ≡ true) t
 
 -- accesses
-index-if : (b : Bool) (k : ℕ) → Numbered (index_if b k)
+index_if_lem : (b : Bool) (k : ℕ) → Numbered (index_if b k)
 unfolding of_row
-index-if true k = value
-index-if false k = refusal refl
+index_if_lem true k = value
+index_if_lem false k = refusal refl
 
 an_index : (i : ℤ) → Numbered (index i)
 unfolding index of_row
-an_index (pos k) = index-if (leb k 65535) k
+an_index (pos k) = index_if_lem (leb k 65535) k
 an_index (negsuc k) = refusal refl
 
 a_count : (i : ℤ) → Numbered (count_of i)
@@ -48,24 +48,24 @@ unfolding count_of of_row
 a_count (pos k) = value
 a_count (negsuc k) = refusal refl
 
-depth-if : {A : Type 0} (b : Bool) (v : A) → Numbered (depth_if b v)
+depth_if_lem : {A : Type 0} (b : Bool) (v : A) → Numbered (depth_if b v)
 unfolding of_row
-depth-if true v = value
-depth-if false v = refusal refl
+depth_if_lem true v = value
+depth_if_lem false v = refusal refl
 
-cells-if : (b : Bool) (m : MemoryState) → Numbered (cells_if b m)
+cells_if_lem : (b : Bool) (m : MemoryState) → Numbered (cells_if b m)
 unfolding of_row
-cells-if true m = value
-cells-if false m = refusal refl
+cells_if_lem true m = value
+cells_if_lem false m = refusal refl
 
-text-if : (b : Bool) (p4 : List ℕ) → Numbered (text_if b p4)
+text_if_lem : (b : Bool) (p4 : List ℕ) → Numbered (text_if b p4)
 unfolding of_row
-text-if true p4 = value
-text-if false p4 = refusal refl
+text_if_lem true p4 = value
+text_if_lem false p4 = refusal refl
 
 a_text : (p4 : List ℕ) → Numbered (text_of p4)
 unfolding text_of
-a_text p4 = text-if (is_utf8 p4) p4
+a_text p4 = text_if_lem (is_utf8 p4) p4
 
 module _ (i : ℤ) (m : MemoryState) where
   register_read : Numbered (read_register i m)
@@ -92,11 +92,11 @@ columns-read (suc n) i m = register_read i m >> λ v. (columns-read n (suc_ℤ i
 module _ (limit : ℕ) where
   few_cells : (m : MemoryState) → Numbered (judge_cells limit m)
   unfolding judge_cells
-  few_cells m = cells-if (leb (cells m) limit) m
+  few_cells m = cells_if_lem (leb (cells m) limit) m
 
   register_stored : (i : ℤ) (v : RegDataType) (m : MemoryState) → Numbered (store_register limit i v m)
   unfolding store_register judge_depth
-  register_stored i v m = an_index i >> λ k. (depth-if (leb (register_depth v) 8) v >> λ w. few_cells (with_registers (insert k w m.r) m))
+  register_stored i v m = an_index i >> λ k. (depth_if_lem (leb (register_depth v) 8) v >> λ w. few_cells (with_registers (insert k w m.r) m))
 
   cursor_stored : (i : ℤ) (c : CursorDataType) (m : MemoryState) → Numbered (store_cursor limit i c m)
   unfolding store_cursor
@@ -104,7 +104,7 @@ module _ (limit : ℕ) where
 
   table_stored : (row : ℕ) (t : TableDataType) (m : MemoryState) → Numbered (store_table limit row t m)
   unfolding store_table judge_depth
-  table_stored row t m = depth-if (leb (columns_depth t.cols) 8) t >> λ u. few_cells (with_tables (insert row u m.t) m)
+  table_stored row t m = depth_if_lem (leb (columns_depth t.cols) 8) t >> λ u. few_cells (with_tables (insert row u m.t) m)
 
   -- loops over registers
   some_stored : (i : ℤ) (f : RegDataType → RegDataType) (v : Option RegDataType) (m : MemoryState) → Numbered (store_some limit i f v m)
@@ -201,67 +201,67 @@ columns_nulled (some (Normal row)) m = value
 columns_nulled (some (Pseudo i)) m = register_updated i m null_record
 
 module _ (meaning : Meaning) (x : Row) (m : MemoryState) where
-  register-arm : (o : RegisterOperation) → Numbered (register_arm meaning x m o)
+  register_arm_lem : (o : RegisterOperation) → Numbered (register_arm meaning x m o)
   unfolding register_arm
-  register-arm op_make_record = a_count x.p2 >> λ n. (columns-read n x.p1 m >> λ cs. register_stored meaning.cell_limit x.p3 _ m)
-  register-arm op_variable = register_stored meaning.cell_limit x.p2 _ m
-  register-arm op_halt_if_null = register_updated x.p3 m _
-  register-arm op_function = a_text x.p4 >> λ text. function_stored meaning.cell_limit x m (meaning.function_for text)
-  register-arm op_agg_step = a_text x.p4 >> λ text. step_stored meaning.cell_limit x m (aggregate_of text)
-  register-arm op_agg_final = a_text x.p4 >> λ text. final_stored meaning.cell_limit x m (aggregate_of text)
-  register-arm op_cast = register_updated x.p1 m _
-  register-arm op_copy_one = copied meaning.cell_limit x.p1 x.p2 _ m
-  register-arm op_copy = many_copied meaning.cell_limit (turns (suc_ℤ x.p3)) x.p1 x.p2 m
-  register-arm op_move = many_moved meaning.cell_limit (turns x.p3) x.p1 x.p2 m
-  register-arm op_integer = register_stored meaning.cell_limit x.p2 _ m
-  register-arm op_null = many_nulled meaning.cell_limit (null_turns x) x.p2 m
-  register-arm op_arithmetic = register_read x.p1 m >> λ a. (register_read x.p2 m >> λ b. register_stored meaning.cell_limit x.p3 _ m)
-  register-arm (op_constant d) = register_stored meaning.cell_limit x.p2 _ m
+  register_arm_lem op_make_record = a_count x.p2 >> λ n. (columns-read n x.p1 m >> λ cs. register_stored meaning.cell_limit x.p3 _ m)
+  register_arm_lem op_variable = register_stored meaning.cell_limit x.p2 _ m
+  register_arm_lem op_halt_if_null = register_updated x.p3 m _
+  register_arm_lem op_function = a_text x.p4 >> λ text. function_stored meaning.cell_limit x m (meaning.function_for text)
+  register_arm_lem op_agg_step = a_text x.p4 >> λ text. step_stored meaning.cell_limit x m (aggregate_of text)
+  register_arm_lem op_agg_final = a_text x.p4 >> λ text. final_stored meaning.cell_limit x m (aggregate_of text)
+  register_arm_lem op_cast = register_updated x.p1 m _
+  register_arm_lem op_copy_one = copied meaning.cell_limit x.p1 x.p2 _ m
+  register_arm_lem op_copy = many_copied meaning.cell_limit (turns (suc_ℤ x.p3)) x.p1 x.p2 m
+  register_arm_lem op_move = many_moved meaning.cell_limit (turns x.p3) x.p1 x.p2 m
+  register_arm_lem op_integer = register_stored meaning.cell_limit x.p2 _ m
+  register_arm_lem op_null = many_nulled meaning.cell_limit (null_turns x) x.p2 m
+  register_arm_lem op_arithmetic = register_read x.p1 m >> λ a. (register_read x.p2 m >> λ b. register_stored meaning.cell_limit x.p3 _ m)
+  register_arm_lem (op_constant d) = register_stored meaning.cell_limit x.p2 _ m
 
-  cursor-arm : (row : ℕ) (o : CursorOperation) → Numbered (cursor_arm meaning row x m o)
+  cursor_arm_lem : (row : ℕ) (o : CursorOperation) → Numbered (cursor_arm meaning row x m o)
   unfolding cursor_arm
-  cursor-arm row op_column =
+  cursor_arm_lem row op_column =
       cursor_read x.p1 m >> λ c. (columns_of c m >> λ cs. (one_column x.p2 cs >> λ v. register_stored meaning.cell_limit x.p3 _ m))
-  cursor-arm row op_row_data = cursor_read x.p1 m >> λ c. (columns_of c m >> λ cs. register_stored meaning.cell_limit x.p2 _ m)
-  cursor-arm row op_insert = register_read x.p2 m >> λ v. inserted meaning.cell_limit x m v
-  cursor-arm row op_delete = cursor_read x.p1 m >> λ c. value
-  cursor-arm row op_open_pseudo = cursor_stored meaning.cell_limit x.p1 _ m
-  cursor-arm row op_open_dup = cursor_read x.p2 m >> λ c. cursor_shared meaning.cell_limit x.p1 c m
-  cursor-arm row op_open_read = table_opened meaning.cell_limit row x _ m
-  cursor-arm row op_open_ephemeral = a_count x.p2 >> λ n. table_opened meaning.cell_limit row x _ m
-  cursor-arm row op_null_row = cursor_read x.p1 m >> λ c. columns_nulled c m
+  cursor_arm_lem row op_row_data = cursor_read x.p1 m >> λ c. (columns_of c m >> λ cs. register_stored meaning.cell_limit x.p2 _ m)
+  cursor_arm_lem row op_insert = register_read x.p2 m >> λ v. inserted meaning.cell_limit x m v
+  cursor_arm_lem row op_delete = cursor_read x.p1 m >> λ c. value
+  cursor_arm_lem row op_open_pseudo = cursor_stored meaning.cell_limit x.p1 _ m
+  cursor_arm_lem row op_open_dup = cursor_read x.p2 m >> λ c. cursor_shared meaning.cell_limit x.p1 c m
+  cursor_arm_lem row op_open_read = table_opened meaning.cell_limit row x _ m
+  cursor_arm_lem row op_open_ephemeral = a_count x.p2 >> λ n. table_opened meaning.cell_limit row x _ m
+  cursor_arm_lem row op_null_row = cursor_read x.p1 m >> λ c. columns_nulled c m
 
 -- jumps
-store-if : (b : Bool) (limit : ℕ) (i n : ℤ) (m : MemoryState) → Numbered (store_if b limit i n m)
-store-if true limit i n m = register_stored limit i (Int n) m
-store-if false limit i n m = value
+store_if_lem : (b : Bool) (limit : ℕ) (i n : ℤ) (m : MemoryState) → Numbered (store_if b limit i n m)
+store_if_lem true limit i n m = register_stored limit i (Int n) m
+store_if_lem false limit i n m = value
 
 module _ (limit : ℕ) (rows : List Row) (x : Row) (m : MemoryState) where
   branch_stored : Numbered (if_branch limit x m)
   unfolding if_branch
-  branch_stored = store-if (is_zero_int x.p3) limit x.p1 (pos 1) (go_to x.p2 m)
+  branch_stored = store_if_lem (is_zero_int x.p3) limit x.p1 (pos 1) (go_to x.p2 m)
 
   stay_stored : Numbered (if_stay limit x m)
   unfolding if_stay
-  stay_stored = store-if (is_zero_int x.p3) limit x.p1 (pos 0) (next m)
+  stay_stored = store_if_lem (is_zero_int x.p3) limit x.p1 (pos 0) (next m)
 
-  if-known : (b : Bool) → Numbered (if_known limit x m b)
-  if-known true = stay_stored >> λ s. value
-  if-known false = branch_stored >> λ s. value
+  if_known_lem : (b : Bool) → Numbered (if_known limit x m b)
+  if_known_lem true = stay_stored >> λ s. value
+  if_known_lem false = branch_stored >> λ s. value
 
-  if-arm : (n : Option ℤ) → Numbered (if_arm limit x m n)
+  if_arm_lem : (n : Option ℤ) → Numbered (if_arm limit x m n)
   unfolding if_arm
-  if-arm none = branch_stored >> λ b. (stay_stored >> λ s. value)
-  if-arm (some n) = if-known (is_zero_int n)
+  if_arm_lem none = branch_stored >> λ b. (stay_stored >> λ s. value)
+  if_arm_lem (some n) = if_known_lem (is_zero_int n)
 
   rewound : (c : Option CursorDataType) → Numbered (rewind_cursor x m c)
   unfolding rewind_cursor
   rewound none = value
   rewound (some c) = value
 
-  rewind-if : (b : Bool) → Numbered (rewind_if b x m)
-  rewind-if true = value
-  rewind-if false = cursor_read x.p1 m >> rewound
+  rewind_if_lem : (b : Bool) → Numbered (rewind_if b x m)
+  rewind_if_lem true = value
+  rewind_if_lem false = cursor_read x.p1 m >> rewound
 
   ended_to : (target : Option ℤ) → Numbered (end_coroutine_to x m target)
   ended_to none = value
@@ -272,13 +272,13 @@ module _ (limit : ℕ) (rows : List Row) (x : Row) (m : MemoryState) where
   end_coroutine none = value
   end_coroutine (some i) = ended_to (yield_target (row_at rows i))
 
-  return-else : (b : Bool) → Numbered (return_else b m)
-  return-else true = value
-  return-else false = value
+  return_else_lem : (b : Bool) → Numbered (return_else b m)
+  return_else_lem true = value
+  return_else_lem false = value
 
   returned : (n : Option ℤ) → Numbered (return_arm x m n)
   unfolding return_arm
-  returned none = return-else (eq_int x.p3 (pos 1))
+  returned none = return_else_lem (eq_int x.p3 (pos 1))
   returned (some i) = register_removed x.p1 (go_to (suc_ℤ i) m) >> λ s. value
 
   yielded : (n : Option ℤ) → Numbered (yield_arm rows x m n)
@@ -294,46 +294,46 @@ module _ (limit : ℕ) (rows : List Row) (x : Row) (m : MemoryState) where
   two_ways f g rest h =
       register_read x.p1 m >> λ v. (register_updated x.p1 (go_to x.p2 m) f >> λ b. (register_updated x.p1 (next m) g >> λ s. h v b s))
 
-  jump-arm : (o : JumpOperation) → Numbered (jump_arm limit rows x m o)
+  jump_arm_lem : (o : JumpOperation) → Numbered (jump_arm limit rows x m o)
   unfolding jump_arm is_null_arm not_null_arm
-  jump-arm op_goto = value
-  jump-arm op_gosub = register_stored limit x.p1 _ m >> λ s. value
-  jump-arm op_branch = value
-  jump-arm op_is_null = two_ways _ _ _ (λ v b s. value)
-  jump-arm op_not_null = two_ways _ _ _ (λ v b s. value)
-  jump-arm op_must_be_int = value
-  jump-arm op_if = register_read x.p1 m >> λ v. if-arm (known_int v)
-  jump-arm op_rewind = rewind-if (is_zero_int x.p2)
-  jump-arm op_init_coroutine = register_stored limit x.p1 _ m >> λ s. value
-  jump-arm op_end_coroutine = register_read x.p1 m >> λ v. end_coroutine (known_int v)
-  jump-arm op_return = register_read x.p1 m >> λ v. returned (known_int v)
-  jump-arm op_yield = register_read x.p1 m >> λ v. yielded (known_int v)
-  jump-arm op_jump = value
-  jump-arm op_halt = value
+  jump_arm_lem op_goto = value
+  jump_arm_lem op_gosub = register_stored limit x.p1 _ m >> λ s. value
+  jump_arm_lem op_branch = value
+  jump_arm_lem op_is_null = two_ways _ _ _ (λ v b s. value)
+  jump_arm_lem op_not_null = two_ways _ _ _ (λ v b s. value)
+  jump_arm_lem op_must_be_int = value
+  jump_arm_lem op_if = register_read x.p1 m >> λ v. if_arm_lem (known_int v)
+  jump_arm_lem op_rewind = rewind_if_lem (is_zero_int x.p2)
+  jump_arm_lem op_init_coroutine = register_stored limit x.p1 _ m >> λ s. value
+  jump_arm_lem op_end_coroutine = register_read x.p1 m >> λ v. end_coroutine (known_int v)
+  jump_arm_lem op_return = register_read x.p1 m >> λ v. returned (known_int v)
+  jump_arm_lem op_yield = register_read x.p1 m >> λ v. yielded (known_int v)
+  jump_arm_lem op_jump = value
+  jump_arm_lem op_halt = value
 
-  if-pos-arm : (again : Bool) → Numbered (if_pos_arm again x m)
+  if_pos_arm_lem : (again : Bool) → Numbered (if_pos_arm again x m)
   unfolding if_pos_arm
-  if-pos-arm again = two_ways _ _ _ (λ v b s. value)
+  if_pos_arm_lem again = two_ways _ _ _ (λ v b s. value)
 
-result-if : (b : Bool) (row : ℕ) (x : Row) (m : MemoryState) → Numbered (result_if b row x m)
+result_if_lem : (b : Bool) (row : ℕ) (x : Row) (m : MemoryState) → Numbered (result_if b row x m)
 unfolding of_row
-result-if true row x m = columns-read (turns x.p2) x.p1 m >> λ cs. value
-result-if false row x m = refusal refl
+result_if_lem true row x m = columns-read (turns x.p2) x.p1 m >> λ cs. value
+result_if_lem false row x m = refusal refl
 
 module _ (meaning : Meaning) (rows : List Row) (again : Bool) (m : MemoryState) where
   any_arm : (x : Row) (o : Operation) → Numbered (arm meaning rows again m x o)
   unfolding arm result_row_arm
-  any_arm x (jumps o) = jump-arm meaning.cell_limit rows x m o
-  any_arm x op_if_pos = if-pos-arm meaning.cell_limit rows x m again
-  any_arm x (registers o) = register-arm meaning x m o >> λ s. value
-  any_arm x (cursors o) = cursor-arm meaning x m (turns m.program_i) o >> λ s. value
-  any_arm x op_result_row = result-if (leb (turns x.p2) 2000) (turns m.program_i) x m
+  any_arm x (jumps o) = jump_arm_lem meaning.cell_limit rows x m o
+  any_arm x op_if_pos = if_pos_arm_lem meaning.cell_limit rows x m again
+  any_arm x (registers o) = register_arm_lem meaning x m o >> λ s. value
+  any_arm x (cursors o) = cursor_arm_lem meaning x m (turns m.program_i) o >> λ s. value
+  any_arm x op_result_row = result_if_lem (leb (turns x.p2) 2000) (turns m.program_i) x m
   any_arm x no_arm = value
 
-  at_row : (o : Option Row) → Numbered (at_row_lem meaning rows again m o)
-  at_row none = value
-  at_row (some x) = any_arm x (operation_of x.op)
+  at_row_lem : (o : Option Row) → Numbered (at_row meaning rows again m o)
+  at_row_lem none = value
+  at_row_lem (some x) = any_arm x (operation_of x.op)
 
   pub row_refusals : (k : ℕ) → ways meaning rows again m ≡ refused k → of_row k ≡ true
   unfolding ways
-  row_refusals k e = refused_by (at_row (row_at rows m.program_i)) e
+  row_refusals k e = refused_by (at_row_lem (row_at rows m.program_i)) e

@@ -13,7 +13,7 @@ use Rattle.model.specs.Meaning.{Meaning}
 use Rattle.model.specs.Operation.{Operation, jumps, op_if_pos, registers, cursors, op_result_row, no_arm, operation_of}
 use Rattle.model.specs.Offer.{row_at}
 use Rattle.model.specs.IfPosArm.{if_pos_arm, count_down, forget}
-use Rattle.model.specs.Explain.{arm, at_row_lem, ways}
+use Rattle.model.specs.Explain.{arm, at_row, ways}
 use Rattle.model.proofs.Tried.{Kept, value, ◌>>◌, anything, kept}
 
 -- IfPos counts a repeat whenever it is told of one
@@ -39,6 +39,6 @@ module _ (meaning : Meaning) (rows : List Row) (m : MemoryState) (w : Ways Memor
   unfolding ways
   repeats_counted = go (row_at rows m.program_i)
     where
-      go : (o : Option Row) → at_row_lem meaning rows true m o ≡ done w → at_row_lem meaning rows true m o ≡ at_row_lem meaning rows false m o
+      go : (o : Option Row) → at_row meaning rows true m o ≡ done w → at_row meaning rows true m o ≡ at_row meaning rows false m o
       go none e = refl
       go (some x) e = arm_repeats x (operation_of x.op) e

@@ -11,7 +11,7 @@ use Rattle.model.specs.Row.{Row}
 use Rattle.model.specs.State.{MemoryState}
 use Rattle.model.specs.Meaning.{Meaning}
 use Rattle.model.specs.Offer.{turns, row_at, ends}
-use Rattle.model.specs.Explain.{at_row_lem, ways, number_at, row_of}
+use Rattle.model.specs.Explain.{at_row, ways, number_at, row_of}
 
 get_elem?-within : {A : Type 0} (xs : List A) (k : ℕ) (a : A) → get_elem? xs k ≡ some a → k < length xs
 get_elem?-within [] k a e = absurd (none-ne-some a e)
@@ -36,6 +36,6 @@ module _ (rows : List Row) (m : MemoryState) where
   unfolding row_of ways
   outside_ends meaning again = go (row_at rows m.program_i)
     where
-      go : (o : Option Row) → number_at m o ≡ none → at_row_lem meaning rows again m o ≡ ends
+      go : (o : Option Row) → number_at m o ≡ none → at_row meaning rows again m o ≡ ends
       go none h = refl
       go (some x) h = absurd (some-ne-none (turns m.program_i) h)

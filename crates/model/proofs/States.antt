@@ -3,7 +3,7 @@ use mathlib.Core.Path.{◌≡◌, refl, subst}
 use mathlib.Core.Logic.{inl, inr}
 use mathlib.Core.Bool.{Bool}
 use mathlib.Core.Option.{Option, none, some}
-use mathlib.Core.List.{List, ◌∷◌}
+use mathlib.Core.List.{List, [], ◌∷◌}
 use Prim.Native.Nat.{ℕ}
 use Rattle.model.specs.Walk.{◌∈◌, Tried, done, Ways, Lineage, mems, onward, Notes, charge, loop_stop, gas_stop, notes_of, handled_before, walk}
 use Rattle.model.specs.Steps.{pick}
@@ -24,6 +24,7 @@ module _
     Alive ls = (l : Lineage M) → l ∈ ls → S l.mem
 
     state_of : (ls : List (Lineage M)) → Alive ls → (m : M) → m ∈ mems ls → S m
+    state_of [] h m i = elim i [ ]
     state_of (l ∷ ls) h m (inl e) = subst S e (h l (inl refl))
     state_of (l ∷ ls) h m (inr i) = state_of ls (λ x j. h x (inr j)) m i
 

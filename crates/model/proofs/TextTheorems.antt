@@ -10,14 +10,14 @@ use Rattle.model.proofs.ListingTextLaws.{listing_exact}
 use Rattle.model.proofs.CatalogueTextLaws.{catalogue_exact}
 use Rattle.model.proofs.AnswerTextLaws.{answer-takes, answer_exact}
 
-pub listing-text : ListingExact
-listing-text = listing_exact
+pub listing_text_lem : ListingExact
+listing_text_lem = listing_exact
 
 pub catalogue_text : CatalogueExact
 catalogue_text = catalogue_exact
 
-pub answer-text : AnswerExact
-answer-text = answer_exact
+pub answer_text_lem : AnswerExact
+answer_text_lem = answer_exact
 
 pub answer-first : AnswerFirst
 answer-first = answer-takes

@@ -33,8 +33,8 @@ module _
         }
 
     -- every answered walk took up each branch that it accepted, once
-    pub taken-up : Sound eq → (n : Notes M R) → walk eq row_of ways units gas fresh space ≡ answered n → TakenUp eq fresh n
-    taken-up sound = all_taken eq row_of ways units sound fresh gas space
+    pub taken_up_lem : Sound eq → (n : Notes M R) → walk eq row_of ways units gas fresh space ≡ answered n → TakenUp eq fresh n
+    taken_up_lem sound = all_taken eq row_of ways units sound fresh gas space
 
     -- every answered walk with quiet notes covers what lists of allowed steps reach
     pub coverage :

@@ -31,12 +31,12 @@ module _ (meaning : Meaning) (rows : List Row) where
   arm again m x op_result_row = result_row_arm (turns m.program_i) x m
   arm again m x no_arm = goes_on (next m)
 
-  abbrev pub at_row_lem : Bool → MemoryState → Option Row → Offer
-  at_row_lem again m none = ends
-  at_row_lem again m (some x) = arm again m x (operation_of x.op)
+  abbrev pub at_row : Bool → MemoryState → Option Row → Offer
+  at_row again m none = ends
+  at_row again m (some x) = arm again m x (operation_of x.op)
 
   unfoldable pub ways : Bool → MemoryState → Offer
-  ways again m = at_row_lem again m (row_at rows m.program_i)
+  ways again m = at_row again m (row_at rows m.program_i)
 
   -- the units that the area has for remembering
   unfoldable pub space_of : ℕ → ℕ

@@ -1,6 +1,8 @@
 // A listing's operations and P4 texts as numbers: a row is judged once, when it is read, and the walk compares numbers.
 // Translated from sqlx-sqlite 0.9.0, src/connection/explain.rs: the constants OP_, the arms of `explain` that look at P4,
 // `affinity_to_type` and `opcode_to_type`.
+#![tactic(auto)]
+
 ghost use Rattle.std.specs.Prelude.{◌≡◌, ◌+◌, ◌<◌, ◌≤◌, length, drop, take};
 ghost use Rattle.type_info.specs.Ascii.{starts_with};
 ghost use Rattle.model.specs.Operation.{operation_of};
@@ -98,7 +100,7 @@ pub const OP_NULL_ROW: u8 = 41;
 pub const OP_RESULT_ROW: u8 = 42;
 
 // What P4 says, as numbers of a function's value and of an aggregate.
-#[derive(Drop)]
+#[derive(Clone, Copy)]
 pub enum P4 {
     NotUtf8,
     Text { function: u8, aggregate: u8 },

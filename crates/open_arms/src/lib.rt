@@ -1,5 +1,7 @@
 // The arms of `explain` that open a cursor on a table of their own: a table from its run, for those whose columns stand there, and OpenEphemeral,
 // OpenAutoindex, SorterOpen. Translated from sqlx-sqlite 0.9.0, src/connection/explain.rs.
+#![tactic(auto)]
+
 ghost use Rattle.std.specs.Prelude.{◌+◌, ◌<◌, ◌≤◌};
 ghost use Rattle.model.specs.Operation.{op_open_ephemeral};
 ghost use Rattle.area.specs.Cells.{cells, Inside};

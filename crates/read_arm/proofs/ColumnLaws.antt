@@ -30,7 +30,7 @@ use Rattle.intmap.proofs.StoreLaws.{frame_same}
 use Rattle.intmap.proofs.SignedLaws.{int_above, int_same}
 use Rattle.encoding.specs.Encode.{nullable_code, single, run_column, column_runs}
 use Rattle.encoding.proofs.Packing.{column_key}
-use Rattle.encoding.proofs.MapRuns.{runs_by, insert-by}
+use Rattle.encoding.proofs.MapRuns.{runs_by, insert_by_lem}
 use Rattle.rows.specs.declared.Row.{Row}
 use Rattle.root_block.specs.Blocks.{column_of, IsBlock}
 use Rattle.read_arm.specs.Gathers.{block_for}
@@ -70,7 +70,7 @@ as_map (e ∷ es) = ap (λ l. run_column e.key e.value ∷ l) (as_map es)
 put_column : (k : ℕ) (v : ColumnType) (es : List (Entry ColumnType)) → put (run_column k v) (column_runs (as_columns es)) ≡ column_runs (as_columns (insert k v es))
 put_column k v es =
     ap₂ (λ j l. swap j (run_column k v ∷ []) l) (column_key k v) (sym (as_map es))
-    ∙ insert-by run_column column_key (λ j. j) (λ i j lt. lt) k v es
+    ∙ insert_by_lem run_column column_key (λ j. j) (λ i j lt. lt) k v es
     ∙ as_map (insert k v es)
 
 -- of any columns that the map holds, it then holds those with the column of the record in a cell, if the record is one for the row; they may be

@@ -3,7 +3,7 @@
 use mathlib.Core.Path.{◌≡◌, refl, sym, ap, subst, ◌∙◌}
 use mathlib.Core.Bool.{Bool, true, false, ◌&&◌, ◌||◌}
 use mathlib.Core.Logic.{◌⊎◌, inl, inr}
-use mathlib.Core.List.{List, [], ◌∷◌, ◌++◌, append_nil, append_assoc}
+use mathlib.Core.List.{List, [], ◌∷◌, ◌++◌, append-nil, append_assoc}
 use Prim.Native.Nat.{ℕ, zero, suc, ◌+◌, ◌-◌, ◌%◌, ◌<◌, ◌≤◌, compare, Ordering}
 use native.Mathlib.Omega.{arith}
 use native.Mathlib.Nat.{mod-lt}
@@ -249,7 +249,7 @@ module _ {limit : ℕ} {cs ds : List Cell} {base : ℕ} {bs : List ℕ} {x : Row
           runs = λ records h.
               (let f = g.says records h in
               let none = chain_end (cells bs) f.low link f.rest le f.chain in
-              f.runs ∙ ap column_runs (of_all records f.first (f.all ∙ ap (λ l. f.first ++ l) none ∙ append_nil f.first)));
+              f.runs ∙ ap column_runs (of_all records f.first (f.all ∙ ap (λ l. f.first ++ l) none ∙ append-nil f.first)));
           place = g.place;
           room = g.room;
         };

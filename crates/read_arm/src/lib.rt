@@ -1,6 +1,8 @@
 // The arm of `explain` that opens a cursor on a table of the catalogue: OP_OPEN_READ, OP_OPEN_WRITE. Translated from sqlx-sqlite 0.9.0,
 // src/connection/explain.rs. The table's columns, which the Rust takes from its map, are gathered from the blocks of the page (see root_block), in
 // the room behind the map.
+#![tactic(auto)]
+
 ghost use Rattle.std.specs.Prelude.{◌≡◌, ◌&&◌, ◌+◌, ◌≤◌, pos, length};
 ghost use Rattle.model.specs.Equality.{eq_int};
 ghost use Rattle.area.specs.Cells.{cells};

@@ -200,10 +200,10 @@ module _ (cs : List Cell) (a : IntMap) (first end : ℕ) (flat : any_deep cs (cl
 
 -- ---- the record of a state's registers
 
-column-depth : (v : RegDataType) → column_depth (map_to_columntype v) ≡ register_depth v
+column_depth_lem : (v : RegDataType) → column_depth (map_to_columntype v) ≡ register_depth v
 unfolding register_depth column_depth
-column-depth (Column c) = refl
-column-depth (Int i) = refl
+column_depth_lem (Column c) = refl
+column_depth_lem (Int i) = refl
 
 module _ (m : MemoryState) where
   abbrev depth_of : ℕ → ℕ
@@ -307,7 +307,7 @@ module _ (limit bound : ℕ) (cs : List Cell) (a : IntMap) (m : MemoryState) (ho
   held_deep d =
       let others = each-join (λ r. class_key 0 (first + n) ≤ key_run r) (run_map run_cursor 1 m.p) (run_map run_table 2 m.t) (each_map run_cursor cursor-key 1 (class_key 0 (first + n)) (omega arith) m.p) (each_map run_table table-key 2 (class_key 0 (first + n)) (omega arith) m.t) in
       let w = deep_register cs (class_key 0 first) (class_key 0 (first + n)) (run_map run_cursor 1 m.p ++ run_map run_table 2 m.t) others m.r 0 holds.good.registers a.len a.base (unfold runs_of in holds.runs) d in
-      some_deep m n first 0 7 w.key (omega (arith, w.above)) (omega (arith, w.below)) (subst (λ o. 7 < column_depth (register_column o)) (sym w.found) (omega (arith, w.deep, column-depth w.value)))
+      some_deep m n first 0 7 w.key (omega (arith, w.above)) (omega (arith, w.below)) (subst (λ o. 7 < column_depth (register_column o)) (sym w.found) (omega (arith, w.deep, column_depth_lem w.value)))
 
   -- no register of the range that is there nests more than seven deep
   pub held_shallow : ((i : ℕ) → first ≤ i → i < first + n → (seek cs levels (class_key 0 i) a.len a.base).present ≡ true → nesting cs levels (seek cs levels (class_key 0 i) a.len a.base).at ≤ 7) → columns_depth (from_dense_record (columns_from n first m)) ≤ 7
@@ -324,7 +324,7 @@ module _ (limit bound : ℕ) (cs : List Cell) (a : IntMap) (m : MemoryState) (ho
               let v = (told_register_at holds i (omega arith)).present _ (ap done (seek_some cs levels (class_key 0 i) a.len a.base f)) in
               let long : length (run_register (class_key 0 i) v.value) ≡ size cs levels at = ap length (sym v.is) ∙ length-span cs at (size cs levels at) in
               let nests = register_nesting v.value cs at levels (class_key 0 i) (omega (arith, v.has.0.depth)) (ap (span cs at) long ∙ v.is) in
-              subst (λ o. column_depth (register_column o) ≤ 7) (sym (done-same v.answer)) (omega (arith, nests, flat i l g f, column-depth v.value))
+              subst (λ o. column_depth (register_column o) ≤ 7) (sym (done-same v.answer)) (omega (arith, nests, flat i l g f, column_depth_lem v.value))
           go false f =
               let gone = (told_register_at holds i (omega arith)).absent (ap done (seek_none cs levels (class_key 0 i) a.len a.base f)) in
               subst (λ o. column_depth (register_column o) ≤ 7) (sym (done-same gone)) (unfold column_depth in (omega arith))

@@ -1,5 +1,7 @@
 // Registers one after the other as columns, and the arm of `explain` that makes a record of them, OP_MAKE_RECORD. Translated from sqlx-sqlite
 // 0.9.0, src/connection/explain.rs. No number of registers, however large, makes more turns than there are entries and cells in a state.
+#![tactic(auto)]
+
 ghost use Rattle.std.specs.Prelude.{◌≡◌, true, ℕ, ◌+◌, ◌<◌, ◌≤◌, length, get_or};
 ghost use Rattle.model.specs.Operation.{op_make_record};
 ghost use Rattle.area.specs.Cells.{blank, cells};
@@ -20,14 +22,14 @@ use rows::Row;
 use type_info::DataType;
 
 // Registers one after the other, judged: 01's number, or the first of them.
-#[derive(Drop)]
+#[derive(Clone, Copy)]
 pub enum Range {
     Bad(u64),
     From(u64),
 }
 
 // A place in the room behind the map, unless there is none.
-#[derive(Drop)]
+#[derive(Clone, Copy)]
 enum Room {
     Full,
     At(usize),
@@ -35,7 +37,7 @@ enum Room {
 
 // What putting a column leaves: no room for it, or the place of the next column, and the place and the number of the entries that the next register
 // is looked for among.
-#[derive(Drop)]
+#[derive(Clone, Copy)]
 enum Step {
     Full,
     Next(usize, usize, u64),

@@ -31,7 +31,7 @@ use Rattle.state.specs.Reads.{Reads, TellsRegister}
 use Rattle.state.specs.declared.Register.{Register}
 use Rattle.state.specs.declared.Register.TheVariants as register
 use Rattle.register_arms.specs.Values.{nullable_of, IsNullable, is_absent}
-use Rattle.register_arms.proofs.ValueLaws.{is_bad, is-absent, IsSome, some-value}
+use Rattle.register_arms.proofs.ValueLaws.{is_bad, is_absent_lem, IsSome, some-value}
 use Rattle.register_arms.proofs.RegisterLaws.{good_read}
 
 cast_column : (limit : ℕ) (m : MemoryState) → Good limit m → (i : ℤ) (v : Option RegDataType) → IsSome v → read_register i m ≡ done v → (d : DataType) (n : ℕ) → get_or nullables n none ≡ nullable_of v → store_register limit i (Column (Single d (get_or nullables n none))) m ≡ update_register i (cast_to d) m
@@ -58,7 +58,7 @@ module _
       pub cast_nothing : true ≡ is_absent r → register_arm meaning l m op_cast ≡ done m
       cast_nothing e =
           cast_is
-          ∙ update_kept h.good (int_of x.p1) (cast_to (affinity_to_type (low_byte l.p2))) none (told x.p1 g register.Absent (is-absent r e)) tt
+          ∙ update_kept h.good (int_of x.p1) (cast_to (affinity_to_type (low_byte l.p2))) none (told x.p1 g register.Absent (is_absent_lem r e)) tt
 
       pub cast_stored : is_bad r ≡ false → false ≡ is_absent r → (d : DataType) (b n : ℕ) → b ≡ x.p2 % 256 → d ≡ affinity_to_type b → IsNullable r n → store_register limit (int_of x.p1) (Column (Single d (get_or nullables n none))) m ≡ register_arm meaning l m op_cast
       cast_stored good present d b n low kind nullable =

@@ -35,7 +35,7 @@ use Rattle.state.specs.Reads.{Reads}
 use Rattle.state.specs.declared.Register.{Register}
 use Rattle.state.specs.declared.Register.TheVariants as register
 use Rattle.register_arms.specs.Values.{datatype_of, nullable_of, IsDatatype, IsNullable, AreNullable, is_absent}
-use Rattle.register_arms.proofs.ValueLaws.{is_bad, IsRead, value_read, operands_are, is-absent, IsSome, some-value}
+use Rattle.register_arms.proofs.ValueLaws.{is_bad, IsRead, value_read, operands_are, is_absent_lem, IsSome, some-value}
 use Rattle.state.specs.Arms.{Standard}
 
 -- ---- without a store
@@ -96,12 +96,12 @@ module _ (limit : ℕ) (meaning : Meaning) (l : Listed) (x : Row) (s : Standard 
   unfolding text_of
   not_text e = ap (λ b. text_if b l.p4) (sym j.text ∙ ne_eqb x.text 1 e)
 
-  is-text : x.text ≡ 1 → is_utf8 l.p4 ≡ true
-  is-text e = sym j.text ∙ eq-eqb x.text 1 e
+  is_text_lem : x.text ≡ 1 → is_utf8 l.p4 ≡ true
+  is_text_lem e = sym j.text ∙ eq-eqb x.text 1 e
 
   text_is : x.text ≡ 1 → text_of l.p4 ≡ done l.p4
   unfolding text_of
-  text_is e = ap (λ b. text_if b l.p4) (is-text e)
+  text_is e = ap (λ b. text_if b l.p4) (is_text_lem e)
 
   pub function_refused : (x.text ≡ 1 → ⊥) → register_arm meaning l m op_function ≡ refused 10
   unfolding register_arm
@@ -111,7 +111,7 @@ module _ (limit : ℕ) (meaning : Meaning) (l : Listed) (x : Row) (s : Standard 
   unfolding register_arm
   function_is e n is =
       ap (λ t. t >>= λ text. function_arm meaning.cell_limit l m (meaning.function_for text)) (text_is e)
-      ∙ ap (function_arm meaning.cell_limit l m) (s.functions l.p4 ∙ sym (j.function (is-text e)).value ∙ ap function_at is)
+      ∙ ap (function_arm meaning.cell_limit l m) (s.functions l.p4 ∙ sym (j.function (is_text_lem e)).value ∙ ap function_at is)
 
   pub function_unknown : x.text ≡ 1 → x.function ≡ 0 → register_arm meaning l m op_function ≡ done m
   unfolding function_at values
@@ -137,7 +137,7 @@ module _ (limit : ℕ) (meaning : Meaning) (l : Listed) (x : Row) (s : Standard 
       pub function_integer : (x.function ≡ 0 → ⊥) → (x.function ≡ 1 → ⊥) → (x.function ≡ 2 → ⊥) → (x.function ≡ 3 → ⊥) → store_register limit (int_of x.p3) (Column (Single Integer (get_or nullables nullable none))) m ≡ register_arm meaning l m op_function
       unfolding function_at values
       function_integer a b c d =
-          value_stored Integer by_p2 nullable by_p ∙ sym (function_is e 4 (last_of_five x.function (j.function (is-text e)).below a b c d))
+          value_stored Integer by_p2 nullable by_p ∙ sym (function_is e 4 (last_of_five x.function (j.function (is_text_lem e)).below a b c d))
 
 -- ---- registers that are read
 
@@ -201,7 +201,7 @@ module _ (limit : ℕ) (cs : List Cell) (a : IntMap) (i k : ℕ) (r : Register) 
   copy_refused f n e = copy_is f ∙ ap (stores f) (bad_read limit bound cs a i r g m h n e)
 
   pub copy_nothing : (f : RegDataType → RegDataType) → true ≡ is_absent r → copy_to limit (int_of i) (int_of k) f m ≡ done m
-  copy_nothing f e = copy_is f ∙ ap (stores f) ((subst (Reads cs a i) (is-absent r e) g).says limit bound m h)
+  copy_nothing f e = copy_is f ∙ ap (stores f) ((subst (Reads cs a i) (is_absent_lem r e) g).says limit bound m h)
 
   module _ (good : is_bad r ≡ false) (present : false ≡ is_absent r) (d : DataType) (kind : IsDatatype r d) where
     pub sum_stored : (e : DataType) (n : ℕ) → e ≡ sum_datatype d → IsNullable r n → store_register limit (int_of k) (Column (Single e (get_or nullables n none))) m ≡ copy_to limit (int_of i) (int_of k) summed m
@@ -236,7 +236,7 @@ module _ (limit : ℕ) (meaning : Meaning) (l : Listed) (x : Row) (s : Standard 
 
   module _ (e : x.text ≡ 1) where
     aggregate_is : (n : ℕ) → x.aggregate ≡ n → aggregate_of l.p4 ≡ aggregate_at n
-    aggregate_is n is = sym (j.aggregate (is-text limit meaning l x s j m e)).value ∙ ap aggregate_at is
+    aggregate_is n is = sym (j.aggregate (is_text_lem limit meaning l x s j m e)).value ∙ ap aggregate_at is
 
     step_is : (n : ℕ) → x.aggregate ≡ n → register_arm meaning l m op_agg_step ≡ agg_step_arm meaning.cell_limit l m (aggregate_at n)
     unfolding register_arm
@@ -274,7 +274,7 @@ module _ (limit : ℕ) (meaning : Meaning) (l : Listed) (x : Row) (s : Standard 
 
     pub step_operand : (x.aggregate ≡ 1 → ⊥) → (x.aggregate ≡ 2 → ⊥) → (x.aggregate ≡ 3 → ⊥) → (x.aggregate ≡ 4 → ⊥) → copy_to limit (int_of x.p2) (int_of x.p3) (λ v. v) m ≡ register_arm meaning l m op_agg_step
     unfolding aggregate_at aggregates
-    step_operand b c d f = copied (λ v. v) ∙ sym (step_is 0 (first_of_five x.aggregate (j.aggregate (is-text limit meaning l x s j m e)).below b c d f))
+    step_operand b c d f = copied (λ v. v) ∙ sym (step_is 0 (first_of_five x.aggregate (j.aggregate (is_text_lem limit meaning l x s j m e)).below b c d f))
 
     pub final_integer : x.aggregate ≡ 1 → store_register limit (int_of x.p1) (never_null Integer) m ≡ register_arm meaning l m op_agg_final
     unfolding aggregate_at aggregates
@@ -290,4 +290,4 @@ module _ (limit : ℕ) (meaning : Meaning) (l : Listed) (x : Row) (s : Standard 
 
     pub final_stays : (x.aggregate ≡ 1 → ⊥) → (x.aggregate ≡ 2 → ⊥) → (x.aggregate ≡ 4 → ⊥) → register_arm meaning l m op_agg_final ≡ done m
     final_stays b c d =
-        final_is x.aggregate refl ∙ final_same meaning.cell_limit l m x.aggregate (j.aggregate (is-text limit meaning l x s j m e)).below b c d
+        final_is x.aggregate refl ∙ final_same meaning.cell_limit l m x.aggregate (j.aggregate (is_text_lem limit meaning l x s j m e)).below b c d

@@ -115,15 +115,15 @@ module _ (r q : Register) (e : r ≡ q) where
 
 -- ---- absent, or not
 
-pub is-absent : (r : Register) → true ≡ is_absent r → r ≡ register.Absent
-is-absent (register.Bad n) e = absurd (true≢false e)
-is-absent register.Absent e = refl
-is-absent (register.Single k n) e = absurd (true≢false e)
-is-absent (register.Record at) e = absurd (true≢false e)
-is-absent (register.Int w) e = absurd (true≢false e)
+pub is_absent_lem : (r : Register) → true ≡ is_absent r → r ≡ register.Absent
+is_absent_lem (register.Bad n) e = absurd (true≢false e)
+is_absent_lem register.Absent e = refl
+is_absent_lem (register.Single k n) e = absurd (true≢false e)
+is_absent_lem (register.Record at) e = absurd (true≢false e)
+is_absent_lem (register.Int w) e = absurd (true≢false e)
 
 none-value : (bound : ℕ) (cs : List Cell) (a : IntMap) (r : Register) (v : Option RegDataType) → true ≡ is_absent r → TellsRegister bound cs a r (done v) → v ≡ none
-none-value bound cs a r v e t = read-value (subst (λ x. TellsRegister bound cs a x (done v)) (is-absent r e) t)
+none-value bound cs a r v e t = read-value (subst (λ x. TellsRegister bound cs a x (done v)) (is_absent_lem r e) t)
 
 abbrev pub IsSome : Option RegDataType → Type 0
 IsSome none = ⊥
@@ -191,19 +191,13 @@ is_bad (register.Single k n) = false
 is_bad (register.Record at) = false
 is_bad (register.Int w) = false
 
-one_of : (n : ℕ) → n ≡ 0 → (n ≡ 1) ⊎ ((n ≡ 2) ⊎ ((n ≡ 3) ⊎ (n ≡ 4))) → ⊥
-one_of n z (inl e) = omega arith
-one_of n z (inr (inl e)) = omega arith
-one_of n z (inr (inr (inl e))) = omega arith
-one_of n z (inr (inr (inr e))) = omega arith
-
--- as `if let` says it: with `tag` for the place of a variant, it is that of another than the first
-pub not_bad : (tag : Register → ℕ) → ((n : ℕ) → tag (register.Bad n) ≡ 0) → (r : Register) → (tag r ≡ 1) ⊎ ((tag r ≡ 2) ⊎ ((tag r ≡ 3) ⊎ (tag r ≡ 4))) → is_bad r ≡ false
-not_bad tag z (register.Bad n) h = absurd (one_of (tag (register.Bad n)) (z n) h)
-not_bad tag z register.Absent h = refl
-not_bad tag z (register.Single k n) h = refl
-not_bad tag z (register.Record at) h = refl
-not_bad tag z (register.Int w) h = refl
+-- what `if let` has not taken is no refusal
+pub not_bad : (r : Register) → ((n : ℕ) → r ≡ register.Bad n → ⊥) → is_bad r ≡ false
+not_bad (register.Bad n) h = absurd (h n refl)
+not_bad register.Absent h = refl
+not_bad (register.Single k n) h = refl
+not_bad (register.Record at) h = refl
+not_bad (register.Int w) h = refl
 
 pub record IsRead (bound : ℕ) (cs : List Cell) (a : IntMap) (r : Register) (t : Tried (Option RegDataType)) : Type 0 where
   pub value : Option RegDataType

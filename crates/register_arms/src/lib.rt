@@ -1,6 +1,8 @@
 // The arms of `explain` that write registers, each on the state's map in the area.
 // Translated from sqlx-sqlite 0.9.0, src/connection/explain.rs: OP_INTEGER, the constants, OP_VARIABLE, OP_FUNCTION, the operations on
 // two operands, OP_AGG_STEP, OP_AGG_FINAL, OP_NULL, OP_CAST and OP_HALT_IF_NULL, with `map_to_datatype` and `map_to_nullable`.
+#![tactic(auto)]
+
 ghost use Rattle.std.specs.Prelude.{◌≡◌, ◌+◌, ◌%◌, ◌<◌, get_or};
 ghost use Rattle.std.proofs.Math.Option.{none, some};
 ghost use Rattle.model.specs.Functions.{by_p2, is_nullable, sum_datatype};

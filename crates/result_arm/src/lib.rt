@@ -1,5 +1,7 @@
 // The arm of `explain` for ResultRow, OP_RESULT_ROW, as far as it is judged: which registers make the row. Translated from sqlx-sqlite 0.9.0,
 // src/connection/explain.rs.
+#![tactic(auto)]
+
 ghost use Rattle.std.specs.Prelude.{◌≡◌, ◌-◌};
 ghost use Rattle.rows.specs.Judged.{IsRow};
 ghost use Rattle.result_arm.specs.Results.{JudgesRow};
@@ -11,7 +13,7 @@ use rows::Row;
 pub const WIDEST: u64 = 2000;
 
 // A result row, judged: 01's number, or its first register and how many there are.
-#[derive(Drop)]
+#[derive(Clone, Copy)]
 pub enum Columns {
     Refused(u64),
     Registers(u64, u64),

@@ -1,5 +1,7 @@
 // The arm of Rewind, Last, Sort and SorterSort, which branch where a cursor may be empty. Translated from sqlx-sqlite 0.9.0,
 // src/connection/explain.rs.
+#![tactic(auto)]
+
 ghost use Rattle.std.specs.Prelude.{◌≤◌};
 ghost use Rattle.model.specs.Operation.{op_rewind};
 ghost use Rattle.area.specs.Cells.{cells};

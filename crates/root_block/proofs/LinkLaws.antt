@@ -1,7 +1,7 @@
 -- The second pass: what a link changes and what it leaves, and that the records linked so far are the chains. Assumes nothing.
 use mathlib.Core.Path.{◌≡◌, refl, sym, ap, ap₂, subst, ◌∙◌}
 use mathlib.Core.Bool.{Bool, true, false}
-use mathlib.Core.List.{List, [], ◌∷◌, ◌++◌, append_assoc, append_nil}
+use mathlib.Core.List.{List, [], ◌∷◌, ◌++◌, append_assoc, append-nil}
 use Prim.Native.Nat.{ℕ, zero, suc, ◌+◌, ◌-◌, ◌%◌, ◌<◌, ◌≤◌}
 use native.Mathlib.Omega.{arith}
 use native.Mathlib.Nat.{mod-lt}
@@ -239,7 +239,7 @@ module _ (t xs ys : List ℕ) (n : ℕ) (h : Indexable t xs) (s : Stand t xs ys 
             (let all = s.says records e in
             let start : Chained (length (cells ys)) (cells ys) n [] = record { long = refl; chains = λ b m. s.none b } in
             let c = chained_all (length (cells ys)) (cells ys) n records [] all.1 (omega (arith, stand_inside.within)) all.0 start in
-            let d : Chained (length (cells zs)) (cells zs) 0 records = subst (λ m. Chained m (cells zs) 0 records) (sym l.same) (subst (λ k. Chained (length (cells ys)) k 0 records) (sym l.cells) (subst (Chained (length (cells ys)) (linked_all (cells ys) n) 0) (append_nil records) c)) in
+            let d : Chained (length (cells zs)) (cells zs) 0 records = subst (λ m. Chained m (cells zs) 0 records) (sym l.same) (subst (λ k. Chained (length (cells ys)) k 0 records) (sym l.cells) (subst (Chained (length (cells ys)) (linked_all (cells ys) n) 0) (append-nil records) c)) in
             record {
               some = omega (arith, l.same, cells-kept xs ys s.bytes, h.some);
               small = omega (arith, l.same, cells-kept xs ys s.bytes, h.small);

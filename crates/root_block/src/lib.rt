@@ -1,5 +1,7 @@
 // The columns of the catalogue's tables: `root_block_columns` of sqlx-sqlite 0.9.0, src/connection/explain.rs. The Rust gathers them in a map by
 // database and page; here the records become cells of a buffer that the caller lends, linked by their pages.
+#![tactic(auto)]
+
 ghost use Rattle.std.specs.Prelude.{◌≡◌, not, ◌+◌, ◌%◌, ◌<◌, ◌≤◌, length, get_or};
 ghost use Rattle.std.proofs.Math.Option.{some};
 ghost use Rattle.area.specs.Cells.{blank, cells, Inside, CellsNow};

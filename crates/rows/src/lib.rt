@@ -1,4 +1,6 @@
 // The listing's rows in the area, a cell each: the walk reads a row from its cell, and never looks at the listing again.
+#![tactic(auto)]
+
 ghost use Rattle.std.specs.Prelude.{◌≡◌, ◌+◌, get_or, set};
 ghost use Rattle.area.specs.Cells.{blank, cells, Inside, CellsNow};
 ghost use Rattle.rows.specs.Rows.{Operand, Fits, cell_of, row_in};
@@ -9,7 +11,7 @@ use opcode::P4;
 
 // A row whose operation and P4 were judged. The operation is its arm's number; `text` is 1 where P4 is UTF-8, else 0; `function` and
 // `aggregate` say what it is the name of. An operand p stands as p + 2^63.
-#[derive(Drop)]
+#[derive(Clone, Copy)]
 pub struct Row {
     pub op: u64,
     pub text: u64,

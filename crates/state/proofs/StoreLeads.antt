@@ -60,18 +60,18 @@ leads_as {limit} {ds} r e l =
 
 -- ---- values of one cell
 
-pub nullable-code : (n : ℕ) → n < 3 → nullable_code (get_or nullables n none) ≡ n
-nullable-code zero h = refl
-nullable-code (suc zero) h = refl
-nullable-code (suc (suc zero)) h = refl
-nullable-code (suc (suc (suc n))) h = absurd (omega arith)
+pub nullable_code_lem : (n : ℕ) → n < 3 → nullable_code (get_or nullables n none) ≡ n
+nullable_code_lem zero h = refl
+nullable_code_lem (suc zero) h = refl
+nullable_code_lem (suc (suc zero)) h = refl
+nullable_code_lem (suc (suc (suc n))) h = absurd (omega arith)
 
 module _ (limit : ℕ) (cs ds : List Cell) (a : IntMap) (i : ℕ) (r : Stored) where
   pub single_leads : (d : DataType) (n : ℕ) (c : Cell) → n < 3 → c ≡ single (datatype_code d) n 0 → Stores cs ds limit a 0 i 0 (c ∷ []) r → Leads limit cs ds a r (store_register limit (int_of i) (Column (Single d (get_or nullables n none))))
   unfolding run_register run_column register_depth column_depth SortedColumn
   single_leads d n c small e st =
       store_leads limit cs ds a i 0 (Column (Single d (get_or nullables n none))) (c ∷ [])
-      (ap (λ x. x ∷ []) (e ∙ ap (λ k. single (datatype_code d) k 0) (sym (nullable-code n small)))) tt (λ bound le. tt) r st
+      (ap (λ x. x ∷ []) (e ∙ ap (λ k. single (datatype_code d) k 0) (sym (nullable_code_lem n small)))) tt (λ bound le. tt) r st
 
   pub int_leads : (w : ℕ) → Operand w → Stores cs ds limit a 0 i 0 (cell 3 w ∷ []) r → Leads limit cs ds a r (store_register limit (int_of i) (Int (int_of w)))
   unfolding run_register register_depth SortedColumn

@@ -1,4 +1,6 @@
 // Accesses to the state in the area by value: a register read, and values of one cell stored.
+#![tactic(auto)]
+
 ghost use Rattle.std.specs.Prelude.{◌≡◌, true, false, ◌+◌, ◌<◌, ◌≤◌, length, get_or};
 ghost use Rattle.std.proofs.Math.Option.{none};
 ghost use Rattle.model.specs.State.{Column, Single, Int, datatype_code};
@@ -23,21 +25,21 @@ use type_info::DataType;
 
 // A state: the map of its registers, cursors and tables, and the next row, where 2^63 stands for row 0. The map first: the machine reads it
 // back as it was written.
-#[derive(Drop)]
+#[derive(Clone, Copy)]
 pub struct MemoryState {
     pub map: IntMap,
     pub row: u64,
 }
 
 // A way that a row offers.
-#[derive(Drop)]
+#[derive(Clone, Copy)]
 pub enum Way {
     Nowhere,
     To(MemoryState),
 }
 
 // What handling a row gives: a refusal, or a branch and the state that goes on.
-#[derive(Drop)]
+#[derive(Clone, Copy)]
 pub enum Step {
     Refused(u64),
     Ways(Way, Way),
@@ -663,7 +665,7 @@ pub fn store_int(map: IntMap, area: &mut [u8], i: u64, value: u64, limit: usize)
 }
 
 // What a register holds. A plain column is told by its codes, a record by the place of its run, a known number by its word.
-#[derive(Drop)]
+#[derive(Clone, Copy)]
 pub enum Register {
     Bad(u64),
     Absent,

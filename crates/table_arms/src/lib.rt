@@ -1,4 +1,6 @@
 // The arms of `explain` that change what a cursor stands for: NullRow, Insert, IdxInsert and SorterInsert. Translated from sqlx-sqlite 0.9.0, src/connection/explain.rs.
+#![tactic(auto)]
+
 ghost use Rattle.std.specs.Prelude.{◌≡◌, length, ℕ, ◌+◌, ◌≤◌};
 ghost use Rattle.model.specs.Operation.{op_null_row, op_insert};
 ghost use Rattle.area.specs.Cells.{cells, Inside};

@@ -1,7 +1,7 @@
 -- Items in a row, read at offsets until the text ends, and how many there are. Assumes nothing.
 use mathlib.Core.Path.{◌≡◌, refl, sym, ap, ◌∙◌}
 use mathlib.Core.Option.{Option, none, some}
-use mathlib.Core.List.{List, [], ◌∷◌, ◌++◌, append_nil, append_assoc}
+use mathlib.Core.List.{List, [], ◌∷◌, ◌++◌, append-nil, append_assoc}
 use Prim.Native.Nat.{ℕ, zero, suc, ◌+◌, ◌-◌, ◌≤◌, ◌<◌}
 use native.Mathlib.Omega.{arith}
 use native.Mathlib.Numerals.{add-one}
@@ -51,7 +51,7 @@ module _ {A : Type 0} (item : ℕ → Reader A) where
 
   module _ {t : List ℕ} {at k : ℕ} {before : List A} (h : ItemsRead t at k before) where
     pub items_end : length t ≤ at → read_items item t ≡ some before
-    items_end l = sym h.all ∙ ap (λ s. items_up_to item (length t - k) k s then λ more. some (before ++ more)) (drop_of_length-le t l) ∙ ap (λ o. o then λ more. some (before ++ more)) (no_more (length t - k) k) ∙ ap some (append_nil before)
+    items_end l = sym h.all ∙ ap (λ s. items_up_to item (length t - k) k s then λ more. some (before ++ more)) (drop_of_length-le t l) ∙ ap (λ o. o then λ more. some (before ++ more)) (no_more (length t - k) k) ∙ ap some (append-nil before)
 
     opened : at < length t → {o : Option (A × ℕ)} → ReadsAt (item k) t at o → ((rest_at t o then λ x. items_up_to item (length t - k - 1) (suc k) x.1 then λ more. some (x.0 ∷ more)) then λ more. some (before ++ more)) ≡ read_items item t
     opened l r = ap (λ o. (o then λ x. items_up_to item (length t - k - 1) (suc k) x.1 then λ more. some (x.0 ∷ more)) then λ more. some (before ++ more)) r.is ∙ sym (ap (λ o. o then λ more. some (before ++ more)) (one_more (length t - k) k (drop at t) (omega (arith, h.each)) (omega (arith, length-drop at t)))) ∙ h.all

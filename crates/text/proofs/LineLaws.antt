@@ -2,7 +2,7 @@
 use mathlib.Core.Path.{◌≡◌, refl, sym, ap, ◌∙◌, subst}
 use mathlib.Core.Bool.{Bool, true, false, and-eq-true_iff, false≢true}
 use mathlib.Core.Option.{Option, none, some}
-use mathlib.Core.List.{List, [], ◌∷◌, ◌++◌, append_nil, append_assoc}
+use mathlib.Core.List.{List, [], ◌∷◌, ◌++◌, append-nil, append_assoc}
 use Prim.Native.Nat.{ℕ, suc, ◌+◌, ◌-◌, ◌≤◌, ◌<◌}
 use native.Mathlib.Omega.{arith}
 use native.Mathlib.Numerals.{add-one}
@@ -81,7 +81,7 @@ module _ (t : List ℕ) (from i : ℕ) where
   unfolding line_from
   line_ends h e =
       let here : take_line (drop i t) ≡ some ([], drop (i + 1) t) = rw (drop-cons t i 0 h, add-one i) (first_lf (get_or t i 0) (drop (suc i) t) e) in
-      ap (λ p. some (p, drop (i + 1) t)) (sym (append_nil (part t from i))) ∙ ap (λ o. o then λ l. some (part t from i ++ l.0, l.1)) (sym here)
+      ap (λ p. some (p, drop (i + 1) t)) (sym (append-nil (part t from i))) ∙ ap (λ o. o then λ l. some (part t from i ++ l.0, l.1)) (sym here)
 
   longer : from ≤ i → i < length t → part t from (i + 1) ≡ part t from i ++ (get_or t i 0 ∷ [])
   longer f h =

@@ -1,4 +1,6 @@
 // Fields of the call's texts, read from a slice at an offset: a key, a value and LF (model's Fields and Numbers).
+#![tactic(auto)]
+
 ghost use Rattle.std.specs.Prelude.{◌≡◌, [], ◌∷◌, ◌≤◌, length, drop};
 ghost use Rattle.type_info.specs.Ascii.{starts_with};
 ghost use Rattle.model.specs.Fields.{take_value, take_field};
@@ -7,35 +9,35 @@ ghost use Rattle.text.specs.ReadAt.{ReadsAt, number_of, number_at, LineAt, PartA
 ghost use Rattle.text.specs.Digits.{digits_up_to};
 
 // What a number's text says.
-#[derive(Drop)]
+#[derive(Clone, Copy)]
 pub enum Number {
     Is(u64),
     Bad,
 }
 
 // Where a line ends.
-#[derive(Drop)]
+#[derive(Clone, Copy)]
 pub enum Line {
     Ends(usize),
     Open,
 }
 
 // Where a field's value stands; its LF stands at `to`.
-#[derive(Drop)]
+#[derive(Clone, Copy)]
 pub enum Value {
     Is { from: usize, to: usize },
     Absent,
 }
 
 // A field's number and the offset behind the field.
-#[derive(Drop)]
+#[derive(Clone, Copy)]
 pub enum Field {
     Is { value: u64, next: usize },
     Bad,
 }
 
 // How many items a text has, or the refusal.
-#[derive(Drop)]
+#[derive(Clone, Copy)]
 pub enum Counted {
     Refused(u64),
     Count(usize),

@@ -11,7 +11,7 @@ use lib.ListN.{length, get_or, drop, drop_of_length-le}
 use lib.Seq.{drop-cons}
 use Rattle.type_info.specs.Utf8.{Range, ◌‥◌, utf8_char, begun, after_byte, is_empty, reads, is_utf8, Checked}
 use Rattle.type_info.specs.ByteClass.{ClassOf, expectations, expectation, or_none, expected, StateAfter}
-use Rattle.type_info.proofs.Grammar.{in_range, sound, complete, reads_on, reads_stops}
+use Rattle.type_info.proofs.Grammar.{in_range_lem, sound, complete, reads_on, reads_stops}
 use Rattle.type_info.proofs.Tables.{passes, passes_at}
 
 -- every state but 8 expects something
@@ -65,7 +65,7 @@ module _ (s : List ℕ) (i q c r : ℕ) (inside : i < length s) (class : ClassOf
 pub ascii_taken : (s : List ℕ) (i : ℕ) → i < length s → get_or s i 0 ≤ 127 → is_utf8 (drop (i + 1) s) ≡ is_utf8 (drop i s)
 unfolding is_utf8 after_byte begun utf8_char
 ascii_taken s i inside low =
-    sym (byte_read [] s i inside ∙ reads_on [] (get_or s i 0) (drop (i + 1) s) [] (rw (in_range (0x00 ‥ 0x7F) (get_or s i 0) (omega arith) low)))
+    sym (byte_read [] s i inside ∙ reads_on [] (get_or s i 0) (drop (i + 1) s) [] (rw (in_range_lem (0x00 ‥ 0x7F) (get_or s i 0) (omega arith) low)))
 
 pub checked : (s : List ℕ) (r : Bool) → r ≡ is_utf8 s → Checked s r
 checked s r e = record { is = e; sound = λ h. sound s (sym e ∙ h); complete = λ u. e ∙ complete u }

@@ -8,7 +8,7 @@ use Prim.Native.Nat.{ℕ, zero, suc, ◌+◌, ◌-◌, ◌*◌, ◌/◌, ◌%◌
 use native.Mathlib.Omega.{arith}
 use borrow.Author.Tests.{eqb-true, eqb-false, ltb-true, leb-true}
 use lib.Dec.{eqb, leb, ltb}
-use Rattle.type_info.specs.Utf8.{Range, ◌‥◌, utf8_char, in_range_lem, begun, after_byte}
+use Rattle.type_info.specs.Utf8.{Range, ◌‥◌, utf8_char, in_range, begun, after_byte}
 use Rattle.type_info.specs.ByteClass.{classes, in_any, in_class, ClassOf, expectations, expectation, expected, StateAfter}
 use Rattle.type_info.proofs.Grammar.{range_in}
 
@@ -34,11 +34,11 @@ ranges_pass f (r ∷ rs) = passes f r.first (suc r.last - r.first) && ranges_pas
 pub ranges_at : (f : ℕ → Bool) (rs : List Range) → ranges_pass f rs ≡ true → (b : ℕ) → in_any rs b ≡ true → f b ≡ true
 unfolding ranges_pass in_any
 ranges_at f [] e b h = let z : ◌≡◌ {A = ℕ} 0 1 = cc in absurd (omega arith)
-ranges_at f (r ∷ rs) e b h = go (in_range_lem r b) refl ((and-eq-true_iff (passes f r.first (suc r.last - r.first)) (ranges_pass f rs)).0 e) h (ranges_at f rs)
+ranges_at f (r ∷ rs) e b h = go (in_range r b) refl ((and-eq-true_iff (passes f r.first (suc r.last - r.first)) (ranges_pass f rs)).0 e) h (ranges_at f rs)
   where
     go :
         (x : Bool) →
-        in_range_lem r b ≡ x →
+        in_range r b ≡ x →
         (passes f r.first (suc r.last - r.first) ≡ true) × (ranges_pass f rs ≡ true) →
         (x || in_any rs b) ≡ true →
         (ranges_pass f rs ≡ true → (c : ℕ) → in_any rs c ≡ true → f c ≡ true) →
@@ -86,12 +86,12 @@ pub record StateTable (table : List ℕ) : Type 0 where
 
 -- an entry of the table of classes, as a test
 unfoldable pub class_right : List ℕ → ℕ → Bool
-unfolding classes in_any in_class in_range_lem
+unfolding classes in_any in_class in_range
 class_right table b = ltb (get_or table b 0) 12 && in_class (get_or table b 0) b
 
-class-right : (table : List ℕ) → passes (class_right table) 0 256 ≡ true → ClassTable table
+class_right_lem : (table : List ℕ) → passes (class_right table) 0 256 ≡ true → ClassTable table
 unfolding class_right
-class-right table e = record { at = entry }
+class_right_lem table e = record { at = entry }
   where
     entry : (b : ℕ) → b < 256 → ClassOf b (get_or table b 0)
     entry b h =
@@ -100,14 +100,14 @@ class-right table e = record { at = entry }
 
 -- an entry of the table of states, as a test
 unfoldable pub state_right : List ℕ → ℕ → Bool
-unfolding classes in_range_lem expectation expectations expected after_byte begun utf8_char same_expected same_ranges ranges_pass passes
+unfolding classes in_range expectation expectations expected after_byte begun utf8_char same_expected same_ranges ranges_pass passes
 state_right table k =
     leb (get_or table k 0) 8
     && ranges_pass (λ b. same_expected (expectation (get_or table k 0)) (after_byte (expected (k / 12)) b)) (get_or classes (k % 12) [])
 
-state-right : (table : List ℕ) → passes (state_right table) 0 96 ≡ true → StateTable table
+state_right_lem : (table : List ℕ) → passes (state_right table) 0 96 ≡ true → StateTable table
 unfolding state_right in_class
-state-right table e = record { at = λ q c hq hc. entry q c hq hc }
+state_right_lem table e = record { at = λ q c hq hc. entry q c hq hc }
   where
     right : ℕ → ℕ → ℕ → Bool
     right r i b = same_expected (expectation r) (after_byte (expected i) b)
@@ -150,17 +150,17 @@ first_of [] = 0
 first_of (r ∷ rs) = r.first
 
 unfoldable pub class_table : List ℕ
-unfolding classes in_any in_range_lem class_from tabulate
+unfolding classes in_any in_range class_from tabulate
 class_table = tabulate (class_from classes 0) 0 256
 
 unfoldable pub state_table : List ℕ
-unfolding classes in_range_lem expectation expectations expected after_byte begun utf8_char same_expected same_ranges first_of state_from tabulate
+unfolding classes in_range expectation expectations expected after_byte begun utf8_char same_expected same_ranges first_of state_from tabulate
 state_table = tabulate (λ k. state_from expectations 0 (after_byte (expected (k / 12)) (first_of (get_or classes (k % 12) [])))) 0 96
 
 pub classes_right : ClassTable class_table
 unfolding class_table passes class_right
-classes_right = class-right class_table refl
+classes_right = class_right_lem class_table refl
 
 pub states_right : StateTable state_table
 unfolding state_table passes state_right
-states_right = state-right state_table refl
+states_right = state_right_lem state_table refl

@@ -2,7 +2,7 @@
 -- 01, "Leaves": a table of 256 byte classes stands behind the check. What the check says is in specs/Utf8.antt alone. Assumes nothing.
 use Rattle.std.specs.Prelude.{◌≡◌, Bool, true, false, ◌||◌, List, [], ◌∷◌, ℕ, ◌≤◌, ◌<◌, get_or}
 use Rattle.std.proofs.Math.Option.{Option, none, some}
-use Rattle.type_info.specs.Utf8.{Range, ◌‥◌, tail, in_range_lem, after_byte}
+use Rattle.type_info.specs.Utf8.{Range, ◌‥◌, tail, in_range, after_byte}
 
 -- the bytes of each class, by its number
 unfoldable pub classes : List (List Range)
@@ -23,7 +23,7 @@ classes =
 
 unfoldable pub in_any : List Range → ℕ → Bool
 in_any [] b = false
-in_any (r ∷ rs) b = in_range_lem r b || in_any rs b
+in_any (r ∷ rs) b = in_range r b || in_any rs b
 
 unfoldable pub in_class : ℕ → ℕ → Bool
 in_class c b = in_any (get_or classes c []) b

@@ -52,15 +52,15 @@ pub data OneOf : List (List Range) → List ℕ → Type 0 where
   later : {a : List Range} {more : List (List Range)} {s : List ℕ} → OneOf more s → OneOf (a ∷ more) s
 
 -- a concatenation of characters
-pub data Utf8_octets : List ℕ → Type 0 where
-  empty : Utf8_octets []
-  char : {s : List ℕ} (c rest : List ℕ) → OneOf utf8_char c → Utf8_octets rest → s ≡ c ++ rest → Utf8_octets s
+pub data Utf8Octets : List ℕ → Type 0 where
+  empty : Utf8Octets []
+  char : {s : List ℕ} (c rest : List ℕ) → OneOf utf8_char c → Utf8Octets rest → s ≡ c ++ rest → Utf8Octets s
 
 -- the same as a test: `expected` are the ranges still to be read of the character at hand
 
 -- whether a byte lies in a range
-unfoldable pub in_range_lem : Range → ℕ → Bool
-in_range_lem r b = within r.first r.last b
+unfoldable pub in_range : Range → ℕ → Bool
+in_range r b = within r.first r.last b
 
 abbrev pub some_if : Bool → List Range → Option (List Range) → Option (List Range)
 some_if true rs other = some rs
@@ -70,11 +70,11 @@ some_if false rs other = other
 unfoldable pub begun : List (List Range) → ℕ → Option (List Range)
 begun [] b = none
 begun ([] ∷ more) b = begun more b
-begun ((r ∷ rs) ∷ more) b = some_if (in_range_lem r b) rs (begun more b)
+begun ((r ∷ rs) ∷ more) b = some_if (in_range r b) rs (begun more b)
 
 unfoldable pub after_byte : List Range → ℕ → Option (List Range)
 after_byte [] b = begun utf8_char b
-after_byte (r ∷ rs) b = some_if (in_range_lem r b) rs none
+after_byte (r ∷ rs) b = some_if (in_range r b) rs none
 
 abbrev pub is_empty : List Range → Bool
 is_empty [] = true
@@ -95,5 +95,5 @@ pub record Passed (s : List ℕ) (n : ℕ) : Type 0 where
 -- what the check says: the test's value, and the grammar both ways
 pub record Checked (s : List ℕ) (r : Bool) : Type 0 where
   pub is : r ≡ is_utf8 s
-  pub sound : r ≡ true → Utf8_octets s
-  pub complete : Utf8_octets s → r ≡ true
+  pub sound : r ≡ true → Utf8Octets s
+  pub complete : Utf8Octets s → r ≡ true

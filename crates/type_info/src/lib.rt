@@ -1,5 +1,7 @@
 // The kinds of SQLite's values, the kind and the affinity of a declared type.
 // Translated from sqlx-sqlite 0.9.0, src/type_info.rs; affinity after SQLite's datatype page, section 3.1.
+#![tactic(auto)]
+
 ghost use Rattle.std.specs.Prelude.{◌≡◌, ◌≤◌, length, drop};
 ghost use Rattle.type_info.specs.Ascii.{lowercase, lower_byte, equals, starts_with, contains};
 ghost use Rattle.type_info.specs.Kind.{kind_of};
@@ -11,7 +13,7 @@ ghost use Rattle.type_info.specs.Names.{name_of, affinity_name, spelled};
 pub mod utf8;
 
 // The variants of the Rust, in its order.
-#[derive(Drop)]
+#[derive(Clone, Copy)]
 pub enum DataType {
     Null,
     Integer,
@@ -27,7 +29,7 @@ pub enum DataType {
 }
 
 // The five affinities of the datatype page.
-#[derive(Drop)]
+#[derive(Clone, Copy)]
 pub enum Affinity {
     Text,
     Numeric,
@@ -37,11 +39,11 @@ pub enum Affinity {
 }
 
 // A name of at most eight letters in eight bytes, zeros behind it, and its length.
-#[derive(Drop)]
+#[derive(Clone, Copy)]
 pub struct Name(pub [u8; 8], pub usize);
 
 // What the declared-type call answers.
-#[derive(Drop)]
+#[derive(Clone, Copy)]
 pub enum DeclaredType {
     Refused(u32),
     Is(DataType, Affinity),

@@ -1,5 +1,7 @@
 // Replays vectors on declared types and UTF-8: a line of the input is `t ` and a declared type, or `u ` and bytes in hexadecimal.
 // The input and what must come out are made by tests/leaf_vectors.py.
+#![tactic(auto)]
+
 ghost use Rattle.std.specs.Prelude.{◌≤◌, ◌<◌, length};
 
 use libc::STDOUT_FILENO;

@@ -16,6 +16,8 @@
 //
 // Compared are the number, the length, the answer, that the buffer behind it (on a refusal the whole buffer) was not written, and
 // that the area is zero. Printed are the disagreements, how many cases each file has, and how often the entry gave each number.
+#![tactic(auto)]
+
 ghost use Rattle.std.specs.Prelude.{◌≡◌, ◌+◌, ◌≤◌, length};
 
 use libc::STDOUT_FILENO;
@@ -41,35 +43,35 @@ const ANSWER: u8 = 4;
 const COLUMN: u8 = 8;
 
 // A listing so far: its rows and its bytes.
-#[derive(Drop)]
+#[derive(Clone, Copy)]
 struct Rows {
     count: u64,
     end: usize,
 }
 
 // A part of the text that is replayed.
-#[derive(Drop)]
+#[derive(Clone, Copy)]
 struct Span {
     from: usize,
     to: usize,
 }
 
 // Fields so far: where the next byte goes, and the label of the next field.
-#[derive(Drop)]
+#[derive(Clone, Copy)]
 struct Fields {
     end: usize,
     label: u8,
 }
 
 // What a call gave.
-#[derive(Drop)]
+#[derive(Clone, Copy)]
 struct Outcome {
     number: u64,
     agrees: bool,
 }
 
 // What the lines so far have built, and what was counted.
-#[derive(Drop)]
+#[derive(Clone, Copy)]
 struct Progress {
     listing: Rows,
     kept: Rows,

@@ -34,13 +34,13 @@ use Rattle.walk.specs.declared.Walk.{Walk}
 use Rattle.walk.specs.declared.Added.TheVariants as added
 
 -- the units that a state takes
-units-for : (rows : List Listed) (n : ℕ) (m : Defined) → length rows ≡ n → units_for n m ≡ units rows m
+units_for_lem : (rows : List Listed) (n : ℕ) (m : Defined) → length rows ≡ n → units_for n m ≡ units rows m
 unfolding units
-units-for rows n m e = ap (λ k. 2 + cells_of m + (k + 15) / 16) (sym e)
+units_for_lem rows n m e = ap (λ k. 2 + cells_of m + (k + 15) / 16) (sym e)
 
 judge_for : (rows : List Listed) (n : ℕ) (m : Defined) (remembered : List Defined) (space : ℕ) → length rows ≡ n → judge eq_state (units rows) m remembered space ≡ judge eq_state (units_for n) m remembered space
 unfolding judge
-judge_for rows n m remembered space e = ap (λ k. verdict (known eq_state m remembered) (leb k space)) (sym (units-for rows n m e))
+judge_for rows n m remembered space e = ap (λ k. verdict (known eq_state m remembered) (leb k space)) (sym (units_for_lem rows n m e))
 
 -- a branch by its verdict
 module _ (units_of : Defined → ℕ) (past : List ℕ) (m : Defined) (more : List Defined) (ls : List (Lineage Defined)) (remembered : List Defined) (space : ℕ) where
@@ -156,7 +156,7 @@ module _ (p : Program) (xs ys : List ℕ) (w : Walk) (s : MemoryState) where
           }
         where
           left : space - units g.rows m ≡ length (cells ys) - b.top
-          left = omega (arith, h.left, k.top, long, units-for g.rows p.size m h.size)
+          left = omega (arith, h.left, k.top, long, units_for_lem g.rows p.size m h.size)
 
   pub adds_done : (r : Pushed) (b : BranchList) (v : Walk) → Pushes p.limit p.size (counts_from p) xs ys w.branches s r → r ≡ pushed.Done b → v ≡ with_branches w b → AddsBranch p xs ys w s (added.Done v)
   adds_done r b v pushes e f = subst (λ u. AddsBranch p xs ys w s (added.Done u)) (sym f) (adds_done_as r b pushes e)

@@ -141,8 +141,8 @@ ways_nowhere p xs ys w u branch stays repeat r lt e f on =
     })
 
 -- the branch of a way
-branch-of : (p : Program) (g : Given) (past : List ℕ) (ls : List (Lineage Defined)) (remembered : List Defined) (space : ℕ) (ms : Option Defined) (m : Defined) → ms ≡ some m → the_offer p g past (branch_of ms) ls remembered space ≡ the_offer p g past (m ∷ []) ls remembered space
-branch-of p g past ls remembered space ms m e = ap (λ o. the_offer p g past (branch_of o) ls remembered space) e
+branch_of_lem : (p : Program) (g : Given) (past : List ℕ) (ls : List (Lineage Defined)) (remembered : List Defined) (space : ℕ) (ms : Option Defined) (m : Defined) → ms ≡ some m → the_offer p g past (branch_of ms) ls remembered space ≡ the_offer p g past (m ∷ []) ls remembered space
+branch_of_lem p g past ls remembered space ms m e = ap (λ o. the_offer p g past (branch_of o) ls remembered space) e
 
 -- what waits in front of the remembered states
 in_front : {p : Program} {g : Given} {blocks xs cols : List ℕ} {w : Walk} {ls : List (Lineage Defined)} {remembered : List Defined} {space : ℕ} {counted : List ResultRow} → HoldsList p g blocks xs cols w ls remembered space counted → first_from p ≤ w.branches.first
@@ -172,7 +172,7 @@ ways-full p xs ys w branch stays repeat s a e f adds =
           record {
             notes = n;
             is = follow_full p g past ls n o _ offers.answer
-                (branch-of p g past ls n.remembered n.space offers.the_branch held.state held.is ∙
+                (branch_of_lem p g past ls n.remembered n.space offers.the_branch held.state held.is ∙
                 as_full.says g blocks cols ls n.remembered n.space n.counted past held.state h.list held.held counted []);
           };
       bytes = adds.bytes;
@@ -198,7 +198,7 @@ ways-done p xs ys zs w v u branch stays repeat s a r small less lt e f adds note
           record {
             front = go_on (row_of g.rows) (onward offers.the_state past) of.waiting (note_ways (record { branches = branch_of offers.the_branch; stays = offers.the_state; result = none; repeat = repeat }) of.known of.left n);
             is = follow_offered p g past ls n o _ offers.answer of.waiting of.known of.left
-                (branch-of p g past ls n.remembered n.space offers.the_branch held.state held.is ∙ of.same [] ∙ offers_none p g past of.waiting of.known of.left);
+                (branch_of_lem p g past ls n.remembered n.space offers.the_branch held.state held.is ∙ of.same [] ∙ offers_none p g past of.waiting of.known of.left);
             holds = on.says g blocks cols of.waiting _ past offers.the_state
                 (noted h ys v u repeat of.waiting of.known of.left (branch_of offers.the_branch) offers.the_state same lt noted-u of.holds)
                 (subst (λ k. TellsWay p.limit k (cells ys) stays offers.the_state) (bound_of_lem same.charged) (way_below p xs ys w.branches.first adds.below (in_front h.list) (bound_of w) stays offers.the_state lies offers.goes_on))

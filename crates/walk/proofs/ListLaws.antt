@@ -113,9 +113,9 @@ pub record Within (p : Program) (w : ℕ) : Type 0 where
   pub above : offset ≤ w
   pub below : w - offset < p.size
 
-pub in-listing : (p : Program) (w : ℕ) → in_listing w p ≡ true → Within p w
+pub in_listing_lem : (p : Program) (w : ℕ) → in_listing w p ≡ true → Within p w
 unfolding in_listing
-in-listing p w e =
+in_listing_lem p w e =
     let (a, b) = (and-eq-true_iff (leb offset w) (ltb (w - offset) p.size)).0 e in
     record { above = leb-true offset w a; below = ltb-true (w - offset) p.size b }
 

@@ -27,7 +27,7 @@ use Rattle.walk.specs.declared.Program.{Program}
 use Rattle.walk.specs.declared.Walk.{Walk}
 use Rattle.walk.specs.declared.Taken.TheVariants as taken
 use Rattle.branches.proofs.BlockLaws.{blocks_span}
-use Rattle.walk.proofs.ListLaws.{in-listing, outside, stands}
+use Rattle.walk.proofs.ListLaws.{in_listing_lem, outside, stands}
 
 -- with these branches left, the front is still the one of the whole
 pub record Reached (p : Program) (g : Given) (blocks xs cols : List ℕ) (w : Walk) (b : BranchList) (ls : List (Lineage Defined)) (n : Notes Defined ResultRow) : Type 0 where
@@ -53,9 +53,9 @@ module _ (g : Given) where
   unfolding take_up
   passed l ls n e = rw (e, take_up)
 
-  taken-up : (l : Lineage Defined) (ls : List (Lineage Defined)) (n : Notes Defined ResultRow) (row : ℕ) → row_of g.rows l.mem ≡ some row → take_up (row_of g.rows) (l ∷ ls) n ≡ on_row row l ls (note_taken l.mem n)
+  taken_up_lem : (l : Lineage Defined) (ls : List (Lineage Defined)) (n : Notes Defined ResultRow) (row : ℕ) → row_of g.rows l.mem ≡ some row → take_up (row_of g.rows) (l ∷ ls) n ≡ on_row row l ls (note_taken l.mem n)
   unfolding take_up
-  taken-up l ls n row e = rw (e, take_up)
+  taken_up_lem l ls n row e = rw (e, take_up)
 
 -- a lineage that was taken is noted, and the area holds the walk without it
 module _ {p : Program} {g : Given} {blocks xs cols : List ℕ} {w : Walk} {ls : List (Lineage Defined)} {n : Notes Defined ResultRow} (h : HoldsWalk p g blocks xs cols w ls n) (c : BranchList) (at : ℕ) (t : Taken p.limit (bound_of w) p.size xs h.list.all h.list.wait w.branches c at) where
@@ -183,7 +183,7 @@ module _ {p : Program} {xs : List ℕ} {w : Walk} {b : BranchList} (r : Reaching
             says = λ g blocks cols ls n h.
                 let a = r.says g blocks cols ls n h in
                 let t = one a.holds in
-                let i = in-listing p (row_at (cells xs) at) in-it in
+                let i = in_listing_lem p (row_at (cells xs) at) in-it in
                 record {
                   waiting = lineages t.rest;
                   notes = note_taken t.taken.mem a.notes;
@@ -194,7 +194,7 @@ module _ {p : Program} {xs : List ℕ} {w : Walk} {b : BranchList} (r : Reaching
                   above = i.above;
                   within = i.below;
                   is = a.same ∙ ap (λ l. take_up (row_of g.rows) l a.notes) (waits_as a.holds c at t) ∙
-                      taken-up g (lineage_of a.holds c at t) (lineages t.rest) a.notes (row_at (cells xs) at - offset)
+                      taken_up_lem g (lineage_of a.holds c at t) (lineages t.rest) a.notes (row_at (cells xs) at - offset)
                       (stands g.rows t.taken.mem (row_at (cells xs) at) (its_row a.holds c at t) i.above (omega (arith, i.below, a.holds.list.size)));
                 };
             less = omega (arith, r.few, (one (now walking).holds).last);

@@ -16,7 +16,7 @@ use Rattle.model.specs.Results.{ResultRow}
 use Rattle.model.specs.Operation.{operation_of}
 use Rattle.model.specs.Access.{next}
 use Rattle.model.specs.Offer.{Offer, row_at}
-use Rattle.model.specs.Explain.{arm, at_row_lem, ways, row_of}
+use Rattle.model.specs.Explain.{arm, at_row, ways, row_of}
 use Rattle.area.specs.Cells.{blank, cells, Inside}
 use Rattle.area.specs.Counts.{count as count_at, home, Raised}
 use Rattle.area.specs.declared.Cell.{Cell}
@@ -71,7 +71,7 @@ module _ (p : Program) (g : Given) (row : ℕ) (l : Lineage Defined) (ls : List 
 -- the row's arm
 arm_at : (p : Program) (g : Given) (again : Bool) (m : Defined) (x : Listed) → row_at g.rows m.program_i ≡ some x → ways (meaning_of p.limit g.records) g.rows again m ≡ arm (meaning_of p.limit g.records) g.rows again m x (operation_of x.op)
 unfolding ways
-arm_at p g again m x e = ap (at_row_lem (meaning_of p.limit g.records) g.rows again m) e
+arm_at p g again m x e = ap (at_row (meaning_of p.limit g.records) g.rows again m) e
 
 -- ---- what is charged
 

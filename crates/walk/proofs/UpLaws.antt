@@ -29,7 +29,7 @@ use Rattle.walk.specs.declared.Taken.{Taken}
 use Rattle.walk.specs.declared.Taken.TheVariants as taken
 use Rattle.walk.specs.declared.Front.{Front}
 use Rattle.walk.specs.declared.Front.TheVariants as front
-use Rattle.walk.proofs.ListLaws.{list_kept, in-listing, outside, stands}
+use Rattle.walk.proofs.ListLaws.{list_kept, in_listing_lem, outside, stands}
 
 module _ (p : Program) (xs : List ℕ) (w : Walk) (r : Taken) (takes : Takes p xs w r) where
   pub none_left : (v : Walk) → r ≡ taken.Nothing v → TakesUp p xs xs w (front.NoneLeft v)
@@ -132,7 +132,7 @@ module _ (p : Program) (xs : List ℕ) (w : Walk) (stays : Way) where
         subst (λ t. GoesOn p xs xs w t (front.OnRow w s)) (sym e)
         (record {
           says = λ g blocks cols ls n past ms h is lies counted.
-              let i = in-listing p s.row in-it in
+              let i = in_listing_lem p s.row in-it in
               record {
                 row = s.row - offset;
                 lineage = record { mem = is.state; past = past };

@@ -1,4 +1,6 @@
 // The walk over a listing: `explain` of sqlx-sqlite 0.9.0, src/connection/explain.rs.
+#![tactic(auto)]
+
 ghost use Rattle.std.specs.Prelude.{◌≡◌, ◌+◌, ◌<◌};
 ghost use Rattle.area.specs.Cells.{cells};
 ghost use Rattle.jump_arms.specs.Arms.{Ready};
@@ -14,14 +16,14 @@ use rows::Row;
 use state::{MemoryState, Way};
 
 // The listing's rows, so many, behind the rooms of two states of at most `limit` cells.
-#[derive(Drop)]
+#[derive(Clone, Copy)]
 pub struct Program {
     pub limit: usize,
     pub size: usize,
 }
 
 // A walk between rows: the units left, the four counts, the width of the widest result row, and the branches.
-#[derive(Drop)]
+#[derive(Clone, Copy)]
 pub struct Walk {
     pub gas: u64,
     pub counts: Counters,
@@ -30,21 +32,21 @@ pub struct Walk {
 }
 
 // Where a walk stands: no lineage is left, or the current one is on a row of the listing.
-#[derive(Drop)]
+#[derive(Clone, Copy)]
 pub enum Front {
     NoneLeft(Walk),
     OnRow(Walk, MemoryState),
 }
 
 // What waits: nothing on a row, or the state at this place, which waits no more.
-#[derive(Drop)]
+#[derive(Clone, Copy)]
 pub enum Taken {
     Nothing(Walk),
     At(Walk, usize),
 }
 
 // What becomes of a branch: no space for it, or the walk goes on.
-#[derive(Drop)]
+#[derive(Clone, Copy)]
 pub enum Added {
     Full,
     Done(Walk),
@@ -52,7 +54,7 @@ pub enum Added {
 
 // What a row gives: a refusal, the state that goes on where the row's charge is all that changes in the walk, or where the walk stands then.
 // Most rows give the second, and the walk is not passed on for it.
-#[derive(Drop)]
+#[derive(Clone, Copy)]
 pub enum Turn {
     Over(u64),
     Stays(MemoryState),
@@ -60,7 +62,7 @@ pub enum Turn {
 }
 
 // Where a run is when its budget is used up or it ends.
-#[derive(Drop)]
+#[derive(Clone, Copy)]
 pub enum Progress {
     Paused(Walk, MemoryState),
     Refused(u64),

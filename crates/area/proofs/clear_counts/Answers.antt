@@ -1,0 +1,22 @@
+-- `area::clear_counts`: before its turn i the first i counts are 0. The measure is what is left of n. Assumes nothing.
+use mathlib.Core.Path.{◌≡◌, subst}
+use Prim.Native.Nat.{ℕ, ◌≤◌, ◌-◌}
+use native.Mathlib.Omega.{arith}
+use borrow.Author.Rules.{rules}
+use Rattle.area.specs.Counts.{CountsCleared}
+use Rattle.area.proofs.CountLaws.{cleared_none, cleared_next}
+use Rattle.area.proofs.clear_counts.Goals as goal
+
+pub loop-i-init : goal.loop-i-init
+loop-i-init c = (omega arith, cleared_none _ _)
+
+pub bounds-area-p : goal.bounds-area-p
+bounds-area-p c = omega (arith, c.loop-i.invariant.1.bytes)
+
+pub loop-i-preserved : goal.loop-i-preserved
+loop-i-preserved c = (omega arith, cleared_next _ _ _ _ (omega arith) c.loop-i.invariant.1)
+
+pub returns : goal.returns
+returns c =
+    let e : c.loop-i.i ≡ c.args.n = omega arith in
+    subst (λ k. CountsCleared c.args.area.now c.loop-i.area c.args.from k) e c.loop-i.invariant.1

@@ -1,0 +1,19 @@
+-- `area::move_down`: before its turn i the first i cells are moved, and since `to` is not above `from` the one to read is as it was.
+-- The measure is how many are left. Assumes nothing.
+use mathlib.Core.Path.{◌≡◌}
+use Prim.Native.Nat.{◌-◌, ◌≤◌}
+use native.Mathlib.Omega.{arith}
+use borrow.Author.Rules.{rules}
+use Rattle.area.specs.Cells.{cells, CellsNow}
+use Rattle.area.specs.Moves.{moved}
+use Rattle.area.proofs.MoveLaws.{turn-first, turn_down}
+use Rattle.area.proofs.move_down.Goals as goal
+
+pub loop-i-init : goal.loop-i-init
+loop-i-init c = (omega arith, turn-first _ _ _ _ (omega arith))
+
+pub loop-i-preserved : goal.loop-i-preserved
+loop-i-preserved c = (omega arith, turn_down _ _ _ _ _ _ _ c.requires.0 c.loop-i.invariant.1 c.cell_at-c.ensures c.put_cell.ensures)
+
+pub returns : goal.returns
+returns c = let e : c.args.n ≡ c.loop-i.i = omega arith in rw e c.loop-i.invariant.1

@@ -1,0 +1,18 @@
+-- `area::move_up`: with i left, the cells after the first i are moved, and since `from` is not above `to` the one to read is as it was.
+-- The measure is i. Assumes nothing.
+use Prim.Native.Nat.{◌+◌, ◌-◌, ◌≤◌}
+use native.Mathlib.Omega.{arith}
+use borrow.Author.Rules.{rules}
+use Rattle.area.specs.Cells.{cells, CellsNow}
+use Rattle.area.specs.Moves.{moved}
+use Rattle.area.proofs.MoveLaws.{turn-first, turn_up, turn_last}
+use Rattle.area.proofs.move_up.Goals as goal
+
+pub loop-i-init : goal.loop-i-init
+loop-i-init c = (omega arith, turn-first _ _ _ _ (omega arith))
+
+pub loop-i-preserved : goal.loop-i-preserved
+loop-i-preserved c = (omega arith, turn_up _ _ _ _ _ _ _ _ c.requires.0 c.loop-i-test.true c.loop-i.invariant.0 c.loop-i.invariant.1 c.cell_at-c.ensures c.put_cell.ensures)
+
+pub returns : goal.returns
+returns c = turn_last _ _ _ _ _ _ c.loop-i-test.false c.loop-i.invariant.1

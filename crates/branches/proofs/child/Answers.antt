@@ -1,0 +1,7 @@
+-- `branches::child` shifts the link down and takes a third of a word. Assumes nothing.
+use Rattle.std.proofs.Common.{rules}
+use Rattle.branches.proofs.HeaderLaws.{child-read}
+use Rattle.branches.proofs.child.Goals as goal
+
+pub returns : goal.returns
+returns c = child-read _ _ _ _ _ c.cell_at-c.ensures c.shift.ensures

@@ -1,0 +1,13 @@
+-- `branches::mix`: the sum wraps as the definition's does, and the step of the multiplication fits a word. Assumes nothing.
+use Rattle.std.proofs.Common.{◌+◌, ◌*◌, ◌/◌, ◌%◌, ap, rules}
+use Rattle.branches.specs.Header.{half}
+use Rattle.branches.specs.Hash.{mix}
+use Rattle.branches.proofs.HashLaws.{stir_fits}
+use Rattle.branches.proofs.mix.Goals as goal
+
+pub overflow_add-result : goal.overflow_add-result
+overflow_add-result c = record { fits = stir_fits _ _ c.wrapping_add_u64-s.ensures.value }
+
+pub returns : goal.returns
+unfolding mix
+returns c = ap (λ x. x % half * 4294967291 + x / half) c.wrapping_add_u64-s.ensures.value

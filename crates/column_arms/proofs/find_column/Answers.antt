@@ -1,0 +1,44 @@
+-- `column_arms::find_column` searches the columns, and looks whether the one that it finds nests within its levels. Assumes nothing.
+use mathlib.Core.Path.{◌∙◌}
+use native.Mathlib.Omega.{arith}
+use borrow.Author.Rules.{rules}
+use borrow.Author.Tests.{not-true, not-false}
+use Rattle.intmap.proofs.RunLaws.{first-inside}
+use Rattle.column_arms.proofs.ColumnLaws.{head_below, column_direct, direct_place, run-within, columns_behind, found_column, column_none, column_alone, column_record, too_deep}
+use Rattle.column_arms.proofs.find_column.Goals as goal
+
+pub cell_at-head-requires : goal.cell_at-head-requires
+cell_at-head-requires c = first-inside _ _ _ c.requires.0
+
+pub is_direct-requires : goal.is_direct-requires
+is_direct-requires c = (c.requires.2, c.requires.3, head_below _ c.args.map _ c.requires.4)
+
+pub overflow_add-result-then-is_direct : goal.overflow_add-result-then-is_direct
+overflow_add-result-then-is_direct c = let near = c.is_direct.ensures c.if-is_direct.true in let h = direct_place _ _ _ _ _ near.flat near.below in omega (arith, h, c.requires.2.inside, c.requires.2.small)
+
+pub returns-then-is_direct : goal.returns-then-is_direct
+returns-then-is_direct c = column_direct _ _ _ _ c.requires.0 c.requires.1 c.requires.4 _ c.cell_at-head.ensures (c.is_direct.ensures c.if-is_direct.true)
+
+pub find_from-found-requires : goal.find_from-found-requires
+find_from-found-requires c = columns_behind _ _ c.requires.0 c.requires.1 _ c.cell_at-head.ensures
+
+pub returns-then-not-there : goal.returns-then-not-there
+returns-then-not-there c = column_none _ _ c.requires.0 c.requires.1 _ c.cell_at-head.ensures _ _ c.find_from-found.ensures c.if-not-there.true
+
+pub cell_at-c-requires : goal.cell_at-c-requires
+cell_at-c-requires c = first-inside _ _ _ (found_column _ _ c.requires.0 c.requires.1 _ c.cell_at-head.ensures _ _ c.find_from-found.ensures c.if-not-there.false)
+
+pub returns-then-tag_of-ne-RECORD : goal.returns-then-tag_of-ne-RECORD
+returns-then-tag_of-ne-RECORD c = column_alone _ _ c.requires.0 c.requires.1 _ c.cell_at-head.ensures _ _ c.find_from-found.ensures c.if-not-there.false _ c.cell_at-c.ensures (λ e. c.if-tag_of-ne-RECORD.true (c.tag_of.ensures ∙ e))
+
+pub count-n-requires : goal.count-n-requires
+count-n-requires c = found_column _ _ c.requires.0 c.requires.1 _ c.cell_at-head.ensures _ _ c.find_from-found.ensures c.if-not-there.false
+
+pub is_whole-requires : goal.is_whole-requires
+is_whole-requires c = run-within _ _ _ (found_column _ _ c.requires.0 c.requires.1 _ c.cell_at-head.ensures _ _ c.find_from-found.ensures c.if-not-there.false) _ c.count-n.ensures
+
+pub returns-then-is_whole : goal.returns-then-is_whole
+returns-then-is_whole c = column_record _ _ c.requires.0 c.requires.1 _ c.cell_at-head.ensures _ _ c.find_from-found.ensures c.if-not-there.false _ c.count-n.ensures _ c.is_whole.ensures c.if-is_whole.true
+
+pub returns : goal.returns
+returns c = too_deep _ _ c.requires.0 c.requires.1 _ c.cell_at-head.ensures _ _ c.find_from-found.ensures c.if-not-there.false _ c.count-n.ensures _ c.is_whole.ensures c.if-is_whole.false

@@ -1,0 +1,16 @@
+-- `copy_arms::carry_cells` carries a register a turn. The invariant: what was carried so far is what as many turns of the definition give, and a
+-- search for the next registers leads to the next cells, if they are there. The measure is how many are left. Assumes nothing.
+use borrow.Author.Tests.{not-false}
+use mathlib.Core.Path.{◌≡◌, refl, ◌∙◌}
+use Prim.Native.Nat.{◌-◌, ◌≤◌}
+use native.Mathlib.Omega.{arith}
+use lib.ListN.{length}
+use Rattle.area.specs.Cells.{cells}
+use Rattle.copy_arms.proofs.TurnLaws.{Carrying, carrying_first, carrying_on, carrying_end}
+use Rattle.copy_arms.proofs.carry_cells.Given as goal
+
+abbrev pub invariant-loop-done : goal.invariant-loop-done
+invariant-loop-done l = (length l.area ≡ length l.initial.area) × (l.done ≤ l.n) × Carrying (cells l.initial.area) (cells l.area) l.map l.moves l.p l.q l.k l.l l.done
+
+abbrev pub decreases-loop-done : goal.decreases-loop-done
+decreases-loop-done l = l.n - l.done

@@ -1,0 +1,8 @@
+-- `copy_arms::copy` copies P3 + 1 registers. Assumes nothing.
+use Rattle.state.proofs.StoreLeads.{leads_as}
+use Rattle.copy_arms.proofs.CopyLaws.{arm_copy}
+use borrow.Author.Rules.{rules}
+use Rattle.copy_arms.proofs.copy.Goals as goal
+
+pub returns : goal.returns
+returns c = record { leads = λ meaning l s j. leads_as _ (arm_copy _ meaning l _ s j _ c.turns.ensures) c.carry_many.ensures }

@@ -1,0 +1,16 @@
+-- `coroutine_arms::yield_target` answers where a Yield row goes. Assumes nothing.
+use Rattle.coroutine_arms.proofs.YieldLaws.{target_below, target_past, target_yield, target_other}
+use borrow.Author.Rules.{rules}
+use Rattle.coroutine_arms.proofs.yield_target.Goals as goal
+
+pub returns-then-w-lt-ZERO : goal.returns-then-w-lt-ZERO
+returns-then-w-lt-ZERO c = target_below _ _ _ _ c.if-w-lt-ZERO.true
+
+pub returns-then-n-k : goal.returns-then-n-k
+returns-then-n-k c = target_past _ _ _ _ c.if-w-lt-ZERO.false c.if-n-k.true
+
+pub returns-then-x : goal.returns-then-x
+returns-then-x c = target_yield _ _ _ _ c.if-w-lt-ZERO.false _ c.if-n-k.false c.row_at-x.ensures c.if-x.true
+
+pub returns : goal.returns
+returns c = target_other _ _ _ _ c.if-w-lt-ZERO.false _ c.if-n-k.false c.row_at-x.ensures c.if-x.false

@@ -1,0 +1,16 @@
+-- `cursor_arms::run_behind` copies the run, and changes its head. Assumes nothing.
+use Rattle.cursor_arms.proofs.BehindLaws.{behind_inside, run_behind}
+use native.Mathlib.Omega.{arith}
+use borrow.Author.Rules.{rules}
+use Rattle.cursor_arms.proofs.run_behind.Goals as goal
+
+pub cell_at-requires : goal.cell_at-requires
+cell_at-requires c = let pre = c.requires in omega (arith, behind_inside pre.0 pre.1 pre.2 c.copy_run-n.ensures)
+
+pub put_cell-requires : goal.put_cell-requires
+put_cell-requires c = let pre = c.requires in omega (arith, behind_inside pre.0 pre.1 pre.2 c.copy_run-n.ensures)
+
+pub returns : goal.returns
+returns c =
+    let pre = c.requires in
+    run_behind pre.0 pre.1 pre.2 c.copy_run-n.ensures _ _ _ _ c.cell_at.ensures c.with_nullable-c.ensures c.put_cell.ensures.cells

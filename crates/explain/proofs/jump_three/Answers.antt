@@ -1,0 +1,8 @@
+-- `explain::jump_three` has the same map in four states. Assumes nothing.
+use mathlib.Core.Path.{sym}
+use Rattle.explain.proofs.HandlingLaws.{three_handles}
+use borrow.Author.Rules.{rules}
+use Rattle.explain.proofs.jump_three.Goals as goal
+
+pub returns : goal.returns
+returns c = λ from n blocks again. three_handles c.requires.0.current (sym c.requires.1)

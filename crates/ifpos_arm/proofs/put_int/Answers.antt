@@ -1,0 +1,7 @@
+-- `ifpos_arm::put_int` stores one cell. Assumes nothing.
+use Rattle.ifpos_arm.proofs.IfPosLaws.{puts_int}
+use borrow.Author.Rules.{rules}
+use Rattle.ifpos_arm.proofs.put_int.Goals as goal
+
+pub returns : goal.returns
+returns c = puts_int _ _ _ _ _ _ _ c.store_cell.ensures

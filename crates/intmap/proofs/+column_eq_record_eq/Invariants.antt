@@ -1,0 +1,25 @@
+-- `column_eq` and `record_eq` call each other. The invariant of the latter's loop: the columns left are the same exactly where all are, and both
+-- ends lie within. The measure is twice the depth, and one more for `record_eq`; the loop's is the number of columns left. Assumes nothing.
+use mathlib.Core.Path.{◌≡◌, sym, ◌∙◌}
+use Prim.Native.Nat.{◌+◌, ℕ, ◌<◌}
+use native.Mathlib.Nat.{add-zero, zero-add}
+use native.Mathlib.Omega.{arith}
+use borrow.Author.Tests.{not-true, not-false}
+use Rattle.area.specs.Cells.{cells}
+use Rattle.intmap.specs.Runs.{size, sizes, eq_columns}
+use Rattle.intmap.proofs.RunLaws.{size_record, size-pos, sizes_room, sizes-turn, same_size, same-cell, eq_heads, eq_loads, eq_none, eq_single, eq_record, eqs_end, eqs_stop, eqs_turn}
+use Rattle.intmap.proofs.+column_eq_record_eq.Given as goal
+
+abbrev pub decreases-column_eq : goal.decreases-column_eq
+decreases-column_eq l = l.depth + l.depth
+
+abbrev pub decreases-record_eq : goal.decreases-record_eq
+decreases-record_eq l = l.depth + l.depth + 1
+
+abbrev pub invariant-record_eq-loop-left : goal.invariant-record_eq-loop-left
+invariant-record_eq-loop-left l = (eq_columns (cells l.area) l.depth l.left (l.a + l.k) (l.b + l.k) ≡ eq_columns (cells l.area) l.depth l.n l.a l.b)
+    × (l.k + sizes (size (cells l.area) l.depth) l.left (l.a + l.k) ≡ sizes (size (cells l.area) l.depth) l.n l.a)
+    × (l.k + sizes (size (cells l.area) l.depth) l.left (l.b + l.k) ≡ sizes (size (cells l.area) l.depth) l.n l.b)
+
+abbrev pub decreases-record_eq-loop-left : goal.decreases-record_eq-loop-left
+decreases-record_eq-loop-left l = l.left

@@ -1,0 +1,61 @@
+-- `count` goes over a record's columns, and calls itself for those that are records. The invariant: the cells counted and those of the columns left are
+-- the whole column's. The cycle's measure is the depth, the loop's the number of columns left. Assumes nothing.
+use mathlib.Core.Path.{◌≡◌}
+use mathlib.Core.Logic.{inl, inr}
+use Prim.Native.Nat.{◌+◌, ◌-◌, ℕ, ◌<◌}
+use native.Mathlib.Omega.{arith}
+use Rattle.area.specs.Cells.{cells}
+use Rattle.intmap.specs.Runs.{size, sizes}
+use Rattle.intmap.proofs.RunLaws.{size_none, size-single, size_record, size-pos, sizes_room, sizes_then, sizes_end}
+use Rattle.intmap.proofs.+count.Goals as goal
+use Rattle.intmap.proofs.+count.Goals.{then-x-eq-RECORD, else-x-eq-RECORD}
+
+pub returns-then-depth-eq0 : goal.returns-then-depth-eq0
+returns-then-depth-eq0 t c = size_none _ _ _ c.if-depth-eq0.true
+
+pub cell_at-c-requires : goal.cell_at-c-requires
+cell_at-c-requires t c = omega (arith, size-pos (cells c.args.area.now) c.args.depth c.args.at, c.requires.fits)
+
+pub returns-then-tag-ne-RECORD : goal.returns-then-tag-ne-RECORD
+returns-then-tag-ne-RECORD t c = size-single _ _ _ _ c.cell_at-c.ensures c.if-tag-ne-RECORD.true
+
+pub loop-left-init : goal.loop-left-init
+loop-left-init t c = size_record _ _ _ _ c.cell_at-c.ensures (omega arith) c.if-tag-ne-RECORD.false
+
+pub overflow_add-at : goal.overflow_add-at
+overflow_add-at t c = let l = c.loop-left in omega (arith, c.requires.fits, c.requires.small, sizes_room (size (cells c.args.area.now) (c.args.depth - 1)) _ _ _ _ c.loop-left-test.true l.invariant)
+
+pub cell_at-x-requires : goal.cell_at-x-requires
+cell_at-x-requires t c =
+    let l = c.loop-left in
+    omega (arith, c.requires.fits, c.requires.small, size-pos (cells c.args.area.now) (c.args.depth - 1) (c.args.at + l.k), sizes_room (size (cells c.args.area.now) (c.args.depth - 1)) _ _ _ _ c.loop-left-test.true l.invariant)
+
+pub overflow_add-at-then-x-eq-RECORD : goal.overflow_add-at-then-x-eq-RECORD
+overflow_add-at-then-x-eq-RECORD t c = let l = c.loop-left in omega (arith, c.requires.fits, c.requires.small, sizes_room (size (cells c.args.area.now) (c.args.depth - 1)) _ _ _ _ c.loop-left-test.true l.invariant)
+
+pub count-k-requires : goal.count-k-requires
+count-k-requires t c =
+    let l = c.loop-left in
+    let r = sizes_room (size (cells c.args.area.now) (c.args.depth - 1)) _ _ _ _ c.loop-left-test.true l.invariant in
+    (omega arith, record { fits = omega (arith, c.requires.fits); small = c.requires.small })
+
+pub overflow_add-k : goal.overflow_add-k
+overflow_add-k t c = let l = c.loop-left in omega (arith, c.requires.fits, c.requires.small, c.count-k.ensures, sizes_room (size (cells c.args.area.now) (c.args.depth - 1)) _ _ _ _ c.loop-left-test.true l.invariant)
+
+pub overflow_add-k-else-x-eq-RECORD : goal.overflow_add-k-else-x-eq-RECORD
+overflow_add-k-else-x-eq-RECORD t c =
+    let l = c.loop-left in
+    omega (arith, c.requires.fits, c.requires.small, size-pos (cells c.args.area.now) (c.args.depth - 1) (c.args.at + l.k), sizes_room (size (cells c.args.area.now) (c.args.depth - 1)) _ _ _ _ c.loop-left-test.true l.invariant)
+
+pub loop-left-preserved : goal.loop-left-preserved
+loop-left-preserved t c =
+    let l = c.loop-left in
+    let more = c.loop-left-test.true in
+    let f = size (cells c.args.area.now) (c.args.depth - 1) in
+    elim c.if-x-eq-RECORD.branch [
+      | then-x-eq-RECORD w ↦ sizes_then f l.left c.args.at l.k w.count-k.result _ c.if-x-eq-RECORD.k w.k-is more w.count-k.ensures l.invariant
+      | else-x-eq-RECORD w ↦ sizes_then f l.left c.args.at l.k 1 _ c.if-x-eq-RECORD.k w.k-is more (size-single _ _ _ _ c.cell_at-x.ensures w.if-x-eq-RECORD.false) l.invariant
+    ]
+
+pub returns : goal.returns
+returns t c = sizes_end _ _ _ _ _ c.loop-left-test.false c.loop-left.invariant

@@ -1,0 +1,19 @@
+-- `count` goes over a record's columns, and calls itself for those that are records. The invariant: the cells counted and those of the columns left are
+-- the whole column's. The cycle's measure is the depth, the loop's the number of columns left. Assumes nothing.
+use mathlib.Core.Path.{◌≡◌}
+use mathlib.Core.Logic.{inl, inr}
+use Prim.Native.Nat.{◌+◌, ◌-◌, ℕ, ◌<◌}
+use native.Mathlib.Omega.{arith}
+use Rattle.area.specs.Cells.{cells}
+use Rattle.intmap.specs.Runs.{size, sizes}
+use Rattle.intmap.proofs.RunLaws.{size_none, size-single, size_record, size-pos, sizes_room, sizes_then, sizes_end}
+use Rattle.intmap.proofs.+count.Given as goal
+
+abbrev pub decreases-count : goal.decreases-count
+decreases-count l = l.depth
+
+abbrev pub invariant-loop-left : goal.invariant-loop-left
+invariant-loop-left l = l.k + sizes (size (cells l.area) (l.depth - 1)) l.left (l.at + l.k) ≡ size (cells l.area) l.depth l.at
+
+abbrev pub decreases-loop-left : goal.decreases-loop-left
+decreases-loop-left l = l.left

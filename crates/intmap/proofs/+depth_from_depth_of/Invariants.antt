@@ -1,0 +1,27 @@
+-- `depth_of` goes over a record's columns, and calls `depth_from` for each, which calls it for a record. The invariant: what was found and the columns
+-- left make the whole, the cells counted and those left are the column's, and what was found is below the depth. The measure is twice the
+-- depth, and one more for `depth_from`; the loop's is the number of columns left. Assumes nothing.
+use mathlib.Core.Path.{◌≡◌}
+use Prim.Native.Nat.{◌+◌, ◌-◌, ℕ, ◌<◌, ◌≤◌, max}
+use native.Mathlib.Omega.{arith}
+use borrow.Author.Rules.{rules}
+use Rattle.area.specs.Cells.{cells}
+use Rattle.intmap.specs.Runs.{size, sizes}
+use Rattle.intmap.specs.Depth.{nestings}
+use Rattle.intmap.proofs.RunLaws.{size_record, size-pos, sizes_room, sizes-turn}
+use Rattle.intmap.proofs.DepthLaws.{nesting-none, nesting-single, nesting_record, nesting_most, nestings_end, nestings-turn}
+use Rattle.intmap.proofs.+depth_from_depth_of.Given as goal
+
+abbrev pub decreases-depth_of : goal.decreases-depth_of
+decreases-depth_of l = l.depth + l.depth
+
+abbrev pub decreases-depth_from : goal.decreases-depth_from
+decreases-depth_from l = l.depth + l.depth + 1
+
+abbrev pub invariant-depth_of-loop-left : goal.invariant-depth_of-loop-left
+invariant-depth_of-loop-left l = (max l.best (nestings (cells l.area) (l.depth - 1) l.left (l.at + l.k)) ≡ nestings (cells l.area) (l.depth - 1) l.initial.left (l.at + 1))
+    × (l.k + sizes (size (cells l.area) (l.depth - 1)) l.left (l.at + l.k) ≡ size (cells l.area) l.depth l.at)
+    × (l.best ≤ l.depth - 1)
+
+abbrev pub decreases-depth_of-loop-left : goal.decreases-depth_of-loop-left
+decreases-depth_of-loop-left l = l.left

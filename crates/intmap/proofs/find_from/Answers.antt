@@ -1,0 +1,52 @@
+-- `find_from` goes over the columns until one has a key that is not below. The invariant: the rest of the search gives what the whole gives,
+-- and what is left lies within the area. The measure is the number of columns left. Assumes nothing.
+use mathlib.Core.Path.{◌≡◌, refl, ◌∙◌}
+use Prim.Native.Nat.{◌+◌, ◌<◌, ◌≤◌}
+use native.Mathlib.Omega.{arith}
+use lib.ListN.{length}
+use Rattle.area.specs.Cells.{cells}
+use Rattle.intmap.specs.Runs.{size, sizes}
+use Rattle.intmap.specs.Find.{seek}
+use Rattle.intmap.proofs.RunLaws.{size-pos, sizes_step, sizes_on}
+use Rattle.intmap.proofs.FindLaws.{seek_end, seek_here, seek_on}
+use Rattle.intmap.proofs.find_from.Goals as goal
+
+pub loop-rest-init : goal.loop-rest-init
+loop-rest-init c = (refl, c.requires.fits)
+
+pub cell_at-c-requires : goal.cell_at-c-requires
+cell_at-c-requires c =
+    let a = c.args in
+    let cs = cells a.area.now in
+    let l = c.loop-rest in
+    let more : 0 < l.rest = omega (arith, c.loop-rest-test.true) in
+    omega (arith, sizes_step (size cs a.depth) l.rest l.p more, size-pos cs a.depth l.p)
+
+pub returns-then-key-k : goal.returns-then-key-k
+returns-then-key-k c =
+    let l = c.loop-rest in
+    let more : 0 < l.rest = omega (arith, c.loop-rest-test.true) in
+    seek_here _ _ _ _ _ _ more c.cell_at-c.ensures c.if-key-k.true ∙ l.invariant.0
+
+pub count_from-p-requires : goal.count_from-p-requires
+count_from-p-requires c =
+    let l = c.loop-rest in
+    let more : 0 < l.rest = omega (arith, c.loop-rest-test.true) in
+    (record { fits = omega (arith, sizes_step (size (cells c.args.area.now) c.args.depth) l.rest l.p more, l.invariant.1); small = c.requires.small }, c.cell_at-c.ensures)
+
+pub overflow_add-p : goal.overflow_add-p
+overflow_add-p c =
+    let l = c.loop-rest in
+    let more : 0 < l.rest = omega (arith, c.loop-rest-test.true) in
+    omega (arith, sizes_on (size (cells c.args.area.now) c.args.depth) l.rest l.p c.count_from-p.result _ more c.count_from-p.ensures l.invariant.1, c.requires.small)
+
+pub loop-rest-preserved : goal.loop-rest-preserved
+loop-rest-preserved c =
+    let l = c.loop-rest in
+    let more : 0 < l.rest = omega (arith, c.loop-rest-test.true) in (
+      seek_on _ _ _ _ _ _ _ more c.cell_at-c.ensures c.if-key-k.false c.count_from-p.ensures ∙ l.invariant.0,
+      sizes_on _ _ _ _ _ more c.count_from-p.ensures l.invariant.1,
+    )
+
+pub returns : goal.returns
+returns c = seek_end _ _ _ _ _ (omega (arith, c.loop-rest-test.false)) ∙ c.loop-rest.invariant.0

@@ -1,0 +1,44 @@
+-- `opcode::seek` goes from entry to entry. The invariant: the entries that are left give what all of them give. Assumes nothing.
+use mathlib.Core.Path.{◌≡◌, refl, sym, ◌∙◌}
+use Prim.Native.Nat.{◌-◌, ◌≤◌}
+use native.Mathlib.Omega.{arith}
+use lib.ListN.{length, drop}
+use borrow.Author.Rules.{rules}
+use Rattle.opcode.specs.Lookup.{sought}
+use Rattle.opcode.proofs.LookupLaws.{entry_broken, entry_found, entry_passed, no_entry}
+use Rattle.opcode.proofs.seek.Goals as goal
+
+pub loop-at-init : goal.loop-at-init
+loop-at-init c = (omega arith, refl)
+
+pub returns-then-table-at : goal.returns-then-table-at
+returns-then-table-at c =
+    let given = c.args.given.now in
+    let table = c.args.table.now in
+    let at = c.loop-at.at in
+    let size = c.wide-size.result in
+    entry_broken given table at size (omega arith) c.wide-size.ensures c.if-table-at.true ∙ c.loop-at.invariant.1
+
+pub returns-then-starts_with : goal.returns-then-starts_with
+returns-then-starts_with c =
+    let given = c.args.given.now in
+    let table = c.args.table.now in
+    let at = c.loop-at.at in
+    let size = c.wide-size.result in
+    entry_found given table at size (omega arith) c.wide-size.ensures (omega arith) (sym c.starts_with.ensures ∙ c.if-starts_with.true) ∙
+    c.loop-at.invariant.1
+
+pub loop-at-preserved : goal.loop-at-preserved
+loop-at-preserved c =
+    let given = c.args.given.now in
+    let table = c.args.table.now in
+    let at = c.loop-at.at in
+    let size = c.wide-size.result in (
+      omega arith,
+      entry_passed given table at size (omega arith) c.wide-size.ensures (omega arith) (sym c.starts_with.ensures ∙ c.if-starts_with.false) ∙
+          c.loop-at.invariant.1,
+    )
+
+pub returns : goal.returns
+returns c =
+    no_entry c.args.given.now c.args.table.now c.loop-at.at (omega arith) ∙ c.loop-at.invariant.1

@@ -1,0 +1,17 @@
+-- `open_arms::open_ephemeral` judges the count and the cells, and opens the table that it wrote. Assumes nothing.
+use mathlib.Core.Path.{refl}
+use Rattle.open_arms.proofs.OpenLaws.{arm_negative, arm_many, put_current, put_above, put_table, arm_opened}
+use borrow.Author.Rules.{rules}
+use Rattle.open_arms.proofs.open_ephemeral.Goals as goal
+
+pub returns-then-x-lt-ZERO : goal.returns-then-x-lt-ZERO
+returns-then-x-lt-ZERO c = arm_negative _ _ _ _ _ c.if-x-lt-ZERO.true
+
+pub returns-then-limit-n : goal.returns-then-limit-n
+returns-then-limit-n c = arm_many _ _ _ _ _ c.if-x-lt-ZERO.false _ refl c.if-limit-n.true
+
+pub open_table-requires : goal.open_table-requires
+open_table-requires c = (put_current _ _ _ 0 c.args.x c.if-x-lt-ZERO.false _ refl _ c.put_table.ensures c.requires.0 c.if-limit-n.false c.requires.2, c.requires.1, put_above _ _ _ 0 c.args.x c.if-x-lt-ZERO.false _ refl _ c.put_table.ensures c.requires.0 c.if-limit-n.false c.requires.2, put_table _ _ _ 0 c.args.x c.if-x-lt-ZERO.false _ refl _ c.put_table.ensures c.requires.0 c.if-limit-n.false c.requires.2)
+
+pub returns : goal.returns
+returns c = arm_opened _ _ _ _ _ c.if-x-lt-ZERO.false _ refl _ c.put_table.ensures c.requires.0 c.if-limit-n.false c.requires.2 _ _ c.open_table.ensures

@@ -1,0 +1,23 @@
+-- `register_arms::agg_step` refuses what is not UTF-8, and stores what the aggregate gives. Assumes nothing.
+use Rattle.state.proofs.StoreLeads.{leads_as}
+use Rattle.register_arms.proofs.RegisterLaws.{refuses_leads, step_refused, step_integer, step_real, step_sum, step_other, step_operand}
+use borrow.Author.Rules.{rules}
+use Rattle.register_arms.proofs.agg_step.Goals as goal
+
+pub returns-then-x-ne1 : goal.returns-then-x-ne1
+returns-then-x-ne1 c = record { leads = λ meaning l s j. refuses_leads _ _ _ _ 10 (λ bound m h. step_refused _ meaning l _ s j m c.if-x-ne1.true) }
+
+pub returns-then-x-eq1 : goal.returns-then-x-eq1
+returns-then-x-eq1 c = record { leads = λ meaning l s j. leads_as _ (λ m. step_integer _ meaning l _ s j m c.if-x-ne1.false c.if-x-eq1.true) c.store_single.ensures }
+
+pub returns-then-x-eq2 : goal.returns-then-x-eq2
+returns-then-x-eq2 c = record { leads = λ meaning l s j. leads_as _ (λ m. step_real _ meaning l _ s j m c.if-x-ne1.false c.if-x-eq2.true) c.store_single-then-x-eq2.ensures }
+
+pub returns-then-x-eq3 : goal.returns-then-x-eq3
+returns-then-x-eq3 c = record { leads = λ meaning l s j. leads_as _ (λ m. step_sum _ meaning l _ s j m c.if-x-ne1.false c.if-x-eq3.true) c.sum.ensures }
+
+pub returns-then-x-eq4 : goal.returns-then-x-eq4
+returns-then-x-eq4 c = record { leads = λ meaning l s j. leads_as _ (λ m. step_other _ meaning l _ s j m c.if-x-ne1.false c.if-x-eq4.true) c.other_row.ensures }
+
+pub returns : goal.returns
+returns c = record { leads = λ meaning l s j. leads_as _ (λ m. step_operand _ meaning l _ s j m c.if-x-ne1.false c.if-x-eq1.false c.if-x-eq2.false c.if-x-eq3.false c.if-x-eq4.false) c.copy_register.ensures }

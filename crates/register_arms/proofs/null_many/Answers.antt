@@ -1,0 +1,35 @@
+-- `register_arms::null_many`: behind the first registers, what is still to come of the definition's loop is the whole. The measure is how many are
+-- left. Assumes nothing.
+use mathlib.Core.Path.{◌≡◌, refl}
+use lib.ListN.{length}
+use native.Mathlib.Omega.{arith}
+use Rattle.state.proofs.LeadsLaws.{led_current}
+use Rattle.register_arms.proofs.NullLaws.{Rest, null-begins, null_ends, null_refused, null_again}
+use Rattle.register_arms.proofs.RunLaws.{run_then}
+use borrow.Author.Rules.{rules}
+use Rattle.area.specs.Cells.{cells}
+use Rattle.register_arms.proofs.null_many.Goals as goal
+
+pub overflow_add-i : goal.overflow_add-i
+overflow_add-i c = omega (arith, c.null_run-first.ensures.few, c.requires.1)
+
+pub overflow_sub-left : goal.overflow_sub-left
+overflow_sub-left c = omega (arith, c.null_run-first.ensures.few)
+
+pub loop-left-init : goal.loop-left-init
+loop-left-init c = (refl, null-begins _ _ _ _ _ (led_current c.requires.0 _ c.null_run-first.ensures.leads))
+
+pub store_single-s-requires : goal.store_single-s-requires
+store_single-s-requires c = (c.loop-left.invariant.1.current, omega arith)
+
+pub returns-in-Refused : goal.returns-in-Refused
+returns-in-Refused c = run_then _ c.requires.0 c.null_run-first.ensures (null_refused _ _ _ _ _ _ _ _ _ c.loop-left.invariant.1 _ _ c.loop-left-test.true c.store_single-s.ensures _ c.in-Refused.is)
+
+pub overflow_add-i-in-loop-left : goal.overflow_add-i-in-loop-left
+overflow_add-i-in-loop-left c = omega (arith, c.loop-left.invariant.1.total, c.loop-left-test.true, c.null_run-first.ensures.few, c.requires.1)
+
+pub loop-left-preserved : goal.loop-left-preserved
+loop-left-preserved c = (search rules, null_again _ _ _ _ _ _ _ _ _ c.loop-left.invariant.1 _ _ c.loop-left-test.true c.store_single-s.ensures _ c.in-Done.is)
+
+pub returns : goal.returns
+returns c = run_then _ c.requires.0 c.null_run-first.ensures (null_ends _ _ _ _ _ _ _ _ _ c.loop-left.invariant.1 (λ h. omega (arith, h, c.loop-left-test.false)))

@@ -1,0 +1,46 @@
+-- `register_arms::null_run` makes a register null a turn. The invariant: what was done so far is what as many turns of the definition give. The
+-- measure is how many are left. Assumes nothing.
+use mathlib.Core.Path.{◌≡◌, refl, ap}
+use Prim.Native.Nat.{◌-◌}
+use lib.ListN.{length}
+use native.Mathlib.Omega.{arith}
+use borrow.Author.Rules.{rules}
+use borrow.Author.Tests.{not-true, not-false}
+use Rattle.area.specs.Cells.{cells}
+use Rattle.intmap.specs.Pack.{tag_of}
+use Rattle.state.proofs.LeadsLaws.{current_held}
+use Rattle.register_arms.proofs.RunLaws.{Nulling, run_none, nulling_first, nulling_stop, nulling_on}
+use Rattle.register_arms.proofs.null_run.Goals as goal
+
+pub get-x-requires : goal.get-x-requires
+get-x-requires c = (current_held c.requires.0, omega arith)
+
+pub returns-in_default : goal.returns-in_default
+returns-in_default c = run_none _ _ _ _ _ c.requires.0
+
+pub loop-done-init : goal.loop-done-init
+loop-done-init c = (refl, nulling_first _ _ _ _ _ _ c.requires.0 _ c.get-x.ensures c.in-At.is)
+
+pub overflow_add-p : goal.overflow_add-p
+overflow_add-p c = omega (arith, c.loop-done.invariant.1.most, c.loop-done.invariant.1.current.room.most, c.loop-done.invariant.1.current.room.room, c.loop-done.invariant.1.current.room.small)
+
+pub overflow_add-from : goal.overflow_add-from
+overflow_add-from c = omega (arith, c.loop-done-test.true, c.requires.1)
+
+pub overwrite-requires : goal.overwrite-requires
+overwrite-requires c = (current_held c.loop-done.invariant.1.current, c.loop-done.invariant.1.low, omega (arith, ap (λ x. tag_of x) c.single-c.ensures))
+
+pub returns-then-not-overwrite : goal.returns-then-not-overwrite
+returns-then-not-overwrite c = nulling_stop c.loop-done.invariant.1 c.overwrite.ensures c.if-not-overwrite.true
+
+pub overflow_add-done : goal.overflow_add-done
+overflow_add-done c = omega (arith, c.loop-done-test.true, c.requires.1)
+
+pub loop-done-smaller : goal.loop-done-smaller
+loop-done-smaller c = omega (arith, c.loop-done-test.true)
+
+pub loop-done-preserved : goal.loop-done-preserved
+loop-done-preserved c = (search rules, nulling_on c.loop-done.invariant.1 c.overwrite.ensures c.requires.0 c.loop-done-test.true c.single-c.ensures c.if-not-overwrite.false)
+
+pub returns : goal.returns
+returns c = c.loop-done.invariant.1.run

@@ -1,0 +1,22 @@
+-- `register_arms::sum` reads the operand, and stores its sum. Assumes nothing.
+use mathlib.Core.Path.{refl, sym, ◌∙◌}
+use Rattle.state.proofs.LeadsLaws.{current_held}
+use Rattle.register_arms.proofs.ValueLaws.{not_bad}
+use Rattle.register_arms.proofs.RegisterLaws.{refuses_leads, same_leads, leads_where, copy_refused, copy_nothing, sum_stored}
+use borrow.Author.Rules.{rules}
+use Rattle.register_arms.proofs.sum.Goals as goal
+
+pub read_register-v-requires : goal.read_register-v-requires
+read_register-v-requires c = current_held c.requires
+
+pub returns-in-Bad : goal.returns-in-Bad
+returns-in-Bad c = refuses_leads _ _ _ _ _ (λ bound m h. copy_refused _ _ _ _ _ c.read_register-v.result c.read_register-v.ensures bound m h _ _ c.in-Bad.is)
+
+pub returns-then-is_absent : goal.returns-then-is_absent
+returns-then-is_absent c = same_leads _ _ _ _ c.requires (λ bound m h. copy_nothing _ _ _ _ _ c.read_register-v.result c.read_register-v.ensures bound m h _ (sym c.if-is_absent.true ∙ c.is_absent.ensures))
+
+pub store_single-requires : goal.store_single-requires
+store_single-requires c = (c.requires, c.map_to_nullable.ensures.below)
+
+pub returns : goal.returns
+returns c = leads_where _ (λ bound m h. sum_stored _ _ _ _ _ c.read_register-v.result c.read_register-v.ensures bound m h (not_bad c.read_register-v.result c.in_default.not-Bad) (sym c.if-is_absent.false ∙ c.is_absent.ensures) c.map_to_datatype.result c.map_to_datatype.ensures _ c.map_to_nullable.result c.sum_datatype-d.ensures c.map_to_nullable.ensures) c.store_single.ensures

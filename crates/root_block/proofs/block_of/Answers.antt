@@ -1,0 +1,7 @@
+-- `root_block::block_of` puts the page and the database under the column's head. Assumes nothing.
+use Rattle.root_block.proofs.ColumnLaws.{block_made}
+use borrow.Author.Rules.{rules}
+use Rattle.root_block.proofs.block_of.Goals as goal
+
+pub returns : goal.returns
+returns c = block_made c.args.catalogue.now c.args.r _ c.column_of-c.ensures c.requires.1 c.requires.2 c.requires.3

@@ -1,0 +1,27 @@
+-- `root_block::link_records` links a record a turn. The invariant: the records still to link, linked, give what all give at the entry. The measure
+-- is how many are left. Assumes nothing.
+use mathlib.Core.Path.{◌≡◌, refl, sym, ◌∙◌}
+use Prim.Native.Nat.{◌≤◌}
+use native.Mathlib.Omega.{arith}
+use borrow.Author.Rules.{rules}
+use Rattle.area.specs.Cells.{cells, CellsNow}
+use Rattle.root_block.specs.Build.{linked_all}
+use Rattle.root_block.proofs.LinkLaws.{linked_all-turn, linked_all_end}
+use Rattle.root_block.proofs.link_records.Goals as goal
+
+pub loop-i-init : goal.loop-i-init
+loop-i-init c = (omega arith, record { same = refl; bytes = refl; rest = λ j le. refl; cells = refl }, refl)
+
+pub loop-i-preserved : goal.loop-i-preserved
+loop-i-preserved c =
+    let l = c.loop-i.invariant in
+    let put = c.link_record.ensures in (
+      omega arith,
+      record { same = put.same ∙ l.1.same; bytes = put.bytes ∙ l.1.bytes; rest = λ j le. put.rest j (omega (arith, l.1.same)) ∙ l.1.rest j le; cells = refl },
+      linked_all-turn _ _ _ c.loop-i-test.true put.cells ∙ l.2,
+    )
+
+pub returns : goal.returns
+returns c =
+    let l = c.loop-i.invariant in
+    record { same = l.1.same; bytes = l.1.bytes; rest = l.1.rest; cells = sym (linked_all_end _ _ c.loop-i-test.false) ∙ l.2 }

@@ -1,0 +1,16 @@
+-- `root_block::link_records` links a record a turn. The invariant: the records still to link, linked, give what all give at the entry. The measure
+-- is how many are left. Assumes nothing.
+use mathlib.Core.Path.{◌≡◌, refl, sym, ◌∙◌}
+use Prim.Native.Nat.{◌≤◌}
+use native.Mathlib.Omega.{arith}
+use borrow.Author.Rules.{rules}
+use Rattle.area.specs.Cells.{cells, CellsNow}
+use Rattle.root_block.specs.Build.{linked_all}
+use Rattle.root_block.proofs.LinkLaws.{linked_all-turn, linked_all_end}
+use Rattle.root_block.proofs.link_records.Given as goal
+
+abbrev pub invariant-loop-i : goal.invariant-loop-i
+invariant-loop-i l = (l.i ≤ l.n) × CellsNow l.initial.blocks l.blocks (cells l.blocks) × (linked_all (cells l.blocks) l.i ≡ linked_all (cells l.initial.blocks) l.n)
+
+abbrev pub decreases-loop-i : goal.decreases-loop-i
+decreases-loop-i l = l.i

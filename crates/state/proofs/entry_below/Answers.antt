@@ -1,0 +1,41 @@
+-- `state::entry_below` tests the cell, the head that it tells, or goes down a cell a turn. The invariant: from p on none begins. The measure is how
+-- far it can go. Assumes nothing.
+use Prim.Native.Nat.{◌-◌, ◌≤◌}
+use native.Mathlib.Omega.{arith}
+use borrow.Author.Rules.{rules}
+use Rattle.area.specs.Cells.{cells}
+use Rattle.state.proofs.OwnLaws.{among_inside, NoneFrom, none_there, below_there, below_at, below_none, below_last, reached_to}
+use Rattle.state.proofs.entry_below.Goals as goal
+
+pub cell_at-c-requires : goal.cell_at-c-requires
+cell_at-c-requires c = let i = among_inside c.requires.0 in omega (arith, i.0, i.1)
+
+pub returns-then-begins : goal.returns-then-begins
+returns-then-begins c = below_there _ c.cell_at-c.ensures _ c.begins.ensures (λ q gt le. absurd (omega (arith, gt, le))) c.requires.2 (omega arith) c.if-begins.true
+
+pub head_before-head-requires : goal.head_before-head-requires
+head_before-head-requires c = let i = among_inside c.requires.0 in omega (arith, i.0, i.1)
+
+pub cell_at-requires : goal.cell_at-requires
+cell_at-requires c = let i = among_inside c.requires.0 in omega (arith, i.0, i.1, c.head_before-head.ensures.1)
+
+pub returns-then-head-low : goal.returns-then-head-low
+returns-then-head-low c = below_none _ c.requires.2 (omega (arith, c.if-head-low.true)) (reached_to c.requires.0 c.head_before-head.ensures.0 c.head_before-head.ensures.1 _ c.cell_at.ensures (c.reaches.ensures c.if-reaches.true)).1
+
+pub returns-then-reaches : goal.returns-then-reaches
+returns-then-reaches c = below_at (omega (arith, c.if-head-low.false)) c.head_before-head.ensures.1 (reached_to c.requires.0 c.head_before-head.ensures.0 c.head_before-head.ensures.1 _ c.cell_at.ensures (c.reaches.ensures c.if-reaches.true))
+
+pub loop-p-init : goal.loop-p-init
+loop-p-init c = (c.requires.2, omega arith, none_there _ c.cell_at-c.ensures _ c.begins.ensures (λ q gt le. absurd (omega (arith, gt, le))) c.if-begins.false)
+
+pub cell_at-requires-in-loop-p : goal.cell_at-requires-in-loop-p
+cell_at-requires-in-loop-p c = let i = among_inside c.requires.0 in omega (arith, i.0, i.1, c.loop-p.invariant.1)
+
+pub returns-then-begins-2 : goal.returns-then-begins-2
+returns-then-begins-2 c = below_there _ c.cell_at-in-loop-p.ensures _ c.begins-in-loop-p.ensures (λ q gt le. c.loop-p.invariant.2.none q (omega (arith, gt)) le) (omega (arith, c.loop-p-test.true)) (omega (arith, c.loop-p.invariant.1)) c.if-begins-2.true
+
+pub loop-p-preserved : goal.loop-p-preserved
+loop-p-preserved c = (omega (arith, c.loop-p-test.true), omega (arith, c.loop-p.invariant.1), none_there _ c.cell_at-in-loop-p.ensures _ c.begins-in-loop-p.ensures (λ q gt le. c.loop-p.invariant.2.none q (omega (arith, gt)) le) c.if-begins-2.false)
+
+pub returns : goal.returns
+returns c = below_last c.requires.2 (omega (arith, c.loop-p-test.false)) c.loop-p.invariant.2

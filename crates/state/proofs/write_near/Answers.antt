@@ -1,0 +1,25 @@
+-- `state::write_near` judges the index, and tests the cell at the distance. Assumes nothing.
+use mathlib.Core.Path.{subst}
+use native.Mathlib.Omega.{arith}
+use borrow.Author.Rules.{rules}
+use Rattle.intmap.specs.Get.{Within}
+use Rattle.state.proofs.OwnLaws.{among_inside, near_not, near_written}
+use Rattle.state.proofs.write_near.Goals as goal
+
+pub returns-in_default : goal.returns-in_default
+returns-in_default c = near_not
+
+pub class_key-key-requires : goal.class_key-key-requires
+class_key-key-requires c = (omega arith, subst Within c.in-At.is c.judge_index-x.ensures.small)
+
+pub near_first-p-requires : goal.near_first-p-requires
+near_first-p-requires c = (c.requires.0, let w = subst Within c.in-At.is c.judge_index-x.ensures.small in omega (arith, c.class_key-key.ensures, w))
+
+pub returns-then-end-p : goal.returns-then-end-p
+returns-then-end-p c = near_not
+
+pub put_plain-requires : goal.put_plain-requires
+put_plain-requires c = let w = subst Within c.in-At.is c.judge_index-x.ensures.small in let i = among_inside c.requires.0 in (omega (arith, i.0, i.1, c.if-end-p.false), omega (arith, c.class_key-key.ensures, w))
+
+pub returns : goal.returns
+returns c = near_written c.judge_index-x.ensures c.in-At.is c.class_key-key.ensures c.near_first-p.ensures c.if-end-p.false c.requires.1 c.put_plain.ensures

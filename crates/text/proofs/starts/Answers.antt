@@ -1,0 +1,24 @@
+-- `text::starts` goes from byte to byte of the key. The invariant: what is left of both says what the whole says. Assumes nothing.
+use Rattle.text.proofs.LineLaws.{key_long, key_end, key_other, key_on}
+use Rattle.type_info.specs.Ascii.{starts_with}
+use lib.ListN.{length, drop}
+use native.Mathlib.Nat.{add-zero}
+use native.Mathlib.Omega.{arith}
+use Prim.Native.Nat.{◌+◌, ◌-◌, ◌≤◌}
+use mathlib.Core.Path.{◌≡◌, ◌∙◌}
+use Rattle.text.proofs.starts.Goals as goal
+
+pub returns-then-t-at : goal.returns-then-t-at
+returns-then-t-at c = key_long c.args.t.now c.args.key.now c.args.at c.if-t-at.true
+
+pub loop-i-init : goal.loop-i-init
+loop-i-init c = (omega arith, omega arith, simp add-zero)
+
+pub returns-then-t-at-2 : goal.returns-then-t-at-2
+returns-then-t-at-2 c = key_other _ _ _ _ c.loop-i-test.true (omega arith) c.if-t-at-2.true ∙ c.loop-i.invariant.2
+
+pub loop-i-preserved : goal.loop-i-preserved
+loop-i-preserved c = (omega arith, omega arith, key_on _ _ _ _ c.loop-i-test.true (omega arith) c.if-t-at-2.false ∙ c.loop-i.invariant.2)
+
+pub returns : goal.returns
+returns c = key_end _ _ _ _ c.loop-i-test.false ∙ c.loop-i.invariant.2

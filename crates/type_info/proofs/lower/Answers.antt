@@ -1,0 +1,14 @@
+-- `type_info::lower` is the lower case of a byte: one law for each way out.
+-- Assumes nothing.
+use borrow.Author.Rules.{rules}
+use Rattle.type_info.proofs.Words.{lower_below, lower_above, lower_letter}
+use Rattle.type_info.proofs.lower.Goals as goal
+
+pub returns-then-b-lt65 : goal.returns-then-b-lt65
+returns-then-b-lt65 c = lower_below _ c.if-b-lt65.true
+
+pub returns-then-b-gt90 : goal.returns-then-b-gt90
+returns-then-b-gt90 c = lower_above _ c.if-b-lt65.false c.if-b-gt90.true
+
+pub returns : goal.returns
+returns c = lower_letter _ c.if-b-lt65.false c.if-b-gt90.false
