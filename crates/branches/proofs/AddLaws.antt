@@ -3,7 +3,7 @@
 use Rattle.std.proofs.Common.{◌≡◌, ℕ, ◌+◌, ◌-◌, ◌/◌, ◌%◌, ◌<◌, ◌≤◌, Bool, true, false, leb, ◌⊎◌, List, [], ◌∷◌, length, get_or, sym, refl, ap, ◌∙◌, subst, ap₂, inl, inr, arith, le-leb}
 use native.Mathlib.Decide.{ℕ_discrete}
 use borrow.Author.Tests.{lt-leb}
-use Rattle.model.specs.Walk.{◌∈◌, kept, verdict, known, judge}
+use Rattle.model.specs.Walk.{◌∈◌, verdict, known, judge}
 use Rattle.model.specs.State.{MemoryState as Defined}
 use Rattle.model.specs.Equality.{eq_state}
 use Rattle.area.specs.Cells.{blank, cells}
@@ -19,7 +19,7 @@ use Rattle.branches.specs.Header.{half, sizes_word, hash_at, sizes_at, child, us
 use Rattle.branches.specs.Hash.{hash_from, hash_of}
 use Rattle.branches.specs.Entries.{Kept, states, Counted, count_cells, IsKept, Blocks, Stands, next_bits, here, OnWay, Later, Links, Waiting, Remembers}
 use Rattle.branches.specs.Lists.{units_for, Pushes}
-use Rattle.branches.specs.Search.{Known, Ends, Searches}
+use Rattle.branches.specs.Search.{Ends, Searches}
 use Rattle.branches.specs.Changes.{Pushable, Savable, Saves, Linkable, Linked, Connects}
 use Rattle.branches.specs.declared.BranchList.{BranchList}
 use Rattle.branches.specs.declared.Pushed.TheVariants as pushed

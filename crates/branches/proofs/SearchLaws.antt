@@ -19,7 +19,7 @@ use Rattle.state.specs.declared.MemoryState.{MemoryState}
 use Rattle.branches.specs.Header.{row_at, child, state_at}
 use Rattle.branches.specs.Hash.{hash_from, hash_of}
 use Rattle.branches.specs.Entries.{Kept, states, IsKept, next_bits, here, OnPath, OnWay, Later, Remembers}
-use Rattle.branches.specs.Search.{HasMap, IsAt, Tests, Reaches, Known, Searches, SomeRemembering}
+use Rattle.branches.specs.Search.{HasMap, IsAt, Tests, Reaches, Searches, SomeRemembering}
 use Rattle.branches.specs.declared.BranchList.{BranchList}
 use Rattle.branches.specs.declared.Place.TheVariants as place
 use Rattle.branches.proofs.HashLaws.{hashes_equal}

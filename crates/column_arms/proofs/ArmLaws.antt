@@ -9,7 +9,7 @@ use Rattle.model.specs.Walk.{Tried, refused, done}
 use Rattle.model.specs.Row.{Row as Listed}
 use Rattle.model.specs.IntMap.{get}
 use Rattle.model.specs.State.{ColumnType, Record, Columns, end, entries, Column, MemoryState, default}
-use Rattle.model.specs.Cells.{cells, column_depth}
+use Rattle.model.specs.Cells.{column_depth}
 use Rattle.model.specs.Access.{◌>>=◌, read_cursor, store_register}
 use Rattle.model.specs.Cursor.{cursor_columns}
 use Rattle.model.specs.CursorArms.{column_of, cursor_arm}

@@ -1,9 +1,9 @@
 -- The ★ cases of specs/Stars.antt hold. Assumes nothing.
-use mathlib.Core.List.{List, [], ◌∷◌, ◌++◌, map}
+use mathlib.Core.List.{List, ◌++◌, map}
 use Rattle.type_info.specs.All.{All, all_nil, all_cons}
 use Rattle.type_info.proofs.Stars.{stars_hold as declared-hold}
 use Rattle.model.proofs.Stars.{stars_hold as listed-hold}
-use Rattle.column_kinds.specs.Stars.{Star, listing, declared, stars, Holds}
+use Rattle.column_kinds.specs.Stars.{listing, declared, stars, Holds}
 
 -- of each element's image, and of two lists in a row
 all_map : {A B : Type 0} {P : A → Type 0} {Q : B → Type 0} (f : A → B) → ((a : A) → P a → Q (f a)) → {xs : List A} → All P xs → All Q (map f xs)

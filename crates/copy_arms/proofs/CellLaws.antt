@@ -4,7 +4,7 @@ use mathlib.Core.Path.{◌≡◌, refl, sym, ap, subst, ◌∙◌}
 use mathlib.Core.Bool.{Bool, true, false}
 use mathlib.Core.Option.{some}
 use mathlib.Core.List.{List, [], ◌∷◌}
-use Prim.Native.Nat.{ℕ, ◌+◌, ◌-◌, ◌<◌, ◌≤◌}
+use Prim.Native.Nat.{ℕ, ◌+◌, ◌<◌, ◌≤◌}
 use native.Mathlib.Omega.{arith}
 use native.Mathlib.Decide.{ℕ_discrete}
 use lib.IntN.{pos}
@@ -28,7 +28,6 @@ use Rattle.intmap.specs.Pack.{tag_of, with_key, class_key}
 use Rattle.intmap.specs.Runs.{size}
 use Rattle.intmap.specs.Signed.{offset, int_of}
 use Rattle.intmap.specs.declared.IntMap.{IntMap}
-use Rattle.intmap.specs.declared.Stored.TheVariants as stored
 use Rattle.intmap.specs.Alike.{Alike}
 use Rattle.intmap.proofs.FindLaws.{seek_from}
 use Rattle.intmap.proofs.Overwritten.{alike, alike_then, alike_room, alike_map}

@@ -11,7 +11,7 @@ use lib.ListN.{length, get_or}
 use borrow.Author.Tests.{eq-eqb, ne_eqb, eqb-true, eqb-false}
 use Rattle.model.specs.Walk.{Tried, refused, done}
 use Rattle.model.specs.IntMap.{get}
-use Rattle.model.specs.State.{Single, Record, RegDataType, Column, Int, CursorDataType as Cursor, Normal, Pseudo, TableDataType, MemoryState}
+use Rattle.model.specs.State.{Single, Record, RegDataType, Column, Int, CursorDataType as Cursor, TableDataType, MemoryState}
 use Rattle.model.specs.Cells.{column_depth, register_depth}
 use Rattle.model.specs.Access.{◌>>=◌, index, read_register, read_cursor}
 use Rattle.model.specs.Cursor.{record_of, table_columns, cursor_columns, table_is_empty, cursor_is_empty}

@@ -10,7 +10,7 @@ use Rattle.model.specs.State.{ColumnType, Single, Record, Columns, end, entry, C
 use Rattle.model.specs.Good.{Good}
 use Rattle.model.proofs.Same.{code-injective}
 use Rattle.area.specs.declared.Cell.{Cell}
-use Rattle.intmap.specs.Pack.{head, class_key}
+use Rattle.intmap.specs.Pack.{class_key}
 use Rattle.intmap.specs.Entries.{key_run, Runs}
 use Rattle.intmap.specs.Signed.{offset}
 use Rattle.encoding.specs.Encode.{nullable_code, count, run_column, run_columns, run_register, run_cursor, run_table, run_map, runs_of}

@@ -16,7 +16,7 @@ use Rattle.area.proofs.MoveLaws.{moved_none, moved_below, moved_above, moved_in,
 use Rattle.intmap.specs.Pack.{tag_of, with_key}
 use Rattle.intmap.specs.Pick.{pick}
 use Rattle.intmap.specs.Runs.{size, sizes, IsColumn, Agree}
-use Rattle.intmap.specs.Find.{place as found, seek}
+use Rattle.intmap.specs.Find.{seek}
 use Rattle.intmap.specs.Entries.{Runs, span, entries, key_run, total}
 use Rattle.intmap.specs.Swap.{swap, lookup}
 use Rattle.intmap.specs.Map.{levels, runs_at, IsMap, HasRoom, Frame}

@@ -11,7 +11,7 @@ use Rattle.type_info.specs.declared.DataType.{DataType}
 use Rattle.type_info.specs.declared.DataType.TheVariants.{Null}
 use Rattle.model.specs.Walk.{Tried, refused, done}
 use Rattle.model.specs.Row.{Row as Listed}
-use Rattle.model.specs.State.{RegDataType, Column, Single, Int, MemoryState as Defined, to_not_null, is_false, is_null_type, datatype_code}
+use Rattle.model.specs.State.{RegDataType, Column, Single, MemoryState as Defined, to_not_null, is_false, is_null_type, datatype_code}
 use Rattle.model.specs.Operation.{JumpOperation, op_is_null, op_not_null}
 use Rattle.model.specs.Offer.{Offer, offers, goes_on, ends, branch_if, stay_if}
 use Rattle.model.specs.Access.{◌>>=◌, index, go_to, next, with_registers, read_register, store_register, update_register}

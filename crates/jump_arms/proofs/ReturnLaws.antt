@@ -14,7 +14,7 @@ use Rattle.model.specs.State.{RegDataType, MemoryState as Defined}
 use Rattle.model.specs.Equality.{eq_int}
 use Rattle.model.specs.Operation.{op_return}
 use Rattle.model.specs.Offer.{goes_on}
-use Rattle.model.specs.Access.{◌>>=◌, index, go_to, next, read_register, remove_register}
+use Rattle.model.specs.Access.{◌>>=◌, index, go_to, read_register, remove_register}
 use Rattle.model.specs.JumpArms.{known_int, return_else, return_arm, jump_arm}
 use Rattle.model.proofs.Tried.{Kept, value, ◌>>◌, anything}
 use Rattle.area.specs.declared.Cell.{Cell}

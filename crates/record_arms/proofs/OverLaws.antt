@@ -10,10 +10,9 @@ use native.Mathlib.Decide.{ℕ_discrete}
 use lib.Dec.{eqb, leb, ltb}
 use lib.ListN.{length, get_or, set, length-set}
 use lib.Seq.{get_or-set_same, get_or-set_other}
-use borrow.Author.Tests.{ltb-true, ltb-false, leb-true, leb-false, eqb-true, eqb-false}
+use borrow.Author.Tests.{ltb-true, ltb-false, leb-true, leb-false, eqb-false}
 use Rattle.model.specs.Walk.{Tried}
 use Rattle.model.specs.State.{Record, RegDataType, Column, MemoryState, from_dense_record}
-use Rattle.model.specs.Access.{store_register}
 use Rattle.model.specs.Cells.{register_depth}
 use Rattle.area.specs.Cells.{blank, cell}
 use Rattle.area.specs.declared.Cell.{Cell}
@@ -49,11 +48,10 @@ use Rattle.intmap.proofs.RunLaws.{size-single}
 use Rattle.intmap.proofs.StoreLaws.{found_in}
 use Rattle.intmap.proofs.Swapped.{seek_some}
 use Rattle.encoding.specs.Changes.{column_run}
-use Rattle.encoding.specs.Encode.{run_register}
 use Rattle.encoding.specs.Heads.{as_column}
 use Rattle.encoding.proofs.HeldAfter.{held_register}
 use Rattle.encoding.proofs.Places.{held_place}
-use Rattle.state.specs.Leads.{Held, Current, HoldsMap, Leads}
+use Rattle.state.specs.Leads.{Held, Current, Leads}
 use Rattle.state.specs.Own.{entry_slot}
 use Rattle.state.proofs.OwnLaws.{entry_led}
 use Rattle.state.proofs.StoreLeads.{wider}

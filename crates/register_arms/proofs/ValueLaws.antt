@@ -1,6 +1,5 @@
 -- The kind and the nullable of what a register holds, by value. Assumes nothing.
 use mathlib.Core.Path.{◌≡◌, refl, sym, ap, subst, ◌∙◌}
-use mathlib.Core.Logic.{◌⊎◌, inl, inr}
 use mathlib.Core.Bool.{Bool, true, false, true≢false}
 use mathlib.Core.Option.{Option, none, some}
 use mathlib.Core.List.{List}
@@ -10,7 +9,7 @@ use lib.ListN.{get_or}
 use Rattle.type_info.specs.declared.DataType.{DataType}
 use Rattle.type_info.specs.declared.DataType.TheVariants.{Null, Integer, Float, Text, Blob, Numeric, Bool as Boolean, Int4, Date, Time, Datetime}
 use Rattle.model.specs.Walk.{Tried, refused, done}
-use Rattle.model.specs.State.{Single, RegDataType, Column, Int, map_to_datatype, datatype_code, first_datatype, first_if, is_zero, either_nullable}
+use Rattle.model.specs.State.{Single, RegDataType, Column, map_to_datatype, datatype_code, first_datatype, first_if, is_zero, either_nullable}
 use Rattle.model.specs.RegisterArms.{operands}
 use Rattle.area.specs.declared.Cell.{Cell}
 use Rattle.intmap.specs.declared.IntMap.{IntMap}

@@ -10,7 +10,7 @@ use borrow.Author.Tests.{le-leb}
 use Rattle.model.specs.Walk.{Tried, refused, done}
 use Rattle.model.specs.Row.{Row as Listed}
 use Rattle.model.specs.IntMap.{get}
-use Rattle.model.specs.State.{Single, Record, Columns, RegDataType, Column, Int, Normal, Pseudo, TableDataType, MemoryState, datatype_code, is_zero}
+use Rattle.model.specs.State.{Single, Record, Columns, RegDataType, Column, Int, Normal, TableDataType, MemoryState, datatype_code, is_zero}
 use Rattle.model.specs.Cells.{column_depth, columns_depth, register_depth}
 use Rattle.model.specs.Access.{◌>>=◌, read_register, read_cursor, store_table, judge_depth, depth_if}
 use Rattle.model.specs.Cursor.{update_cursor_table, set_empty}

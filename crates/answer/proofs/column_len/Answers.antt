@@ -1,7 +1,6 @@
 -- `answer::column_len` adds up the lengths of the three lines. Assumes nothing.
 use native.Mathlib.Omega.{arith}
 use Rattle.answer.proofs.ColumnLaws.{column_lines_lem, column_sized}
-use borrow.Author.Rules.{rules}
 use Rattle.answer.proofs.column_len.Goals as goal
 
 pub digits-requires : goal.digits-requires

@@ -1,10 +1,5 @@
--- `answer::columns_len` adds a column a turn. The invariant: what is counted and what is still to come are the whole. The measure is how many
--- columns are left. Assumes nothing.
-use mathlib.Core.Path.{◌≡◌}
-use Prim.Native.Nat.{◌+◌, ◌-◌, ◌*◌, ◌≤◌}
+-- What is left of `columns_len`, by the invariant of Invariants.antt. Assumes nothing.
 use native.Mathlib.Omega.{arith}
-use lib.ListN.{length, drop}
-use Rattle.answer.specs.Text.{columns_text}
 use Rattle.answer.proofs.ColumnLaws.{columns_longer, columns_empty}
 use Rattle.answer.proofs.columns_len.Goals as goal
 

@@ -2,10 +2,8 @@
 -- columns are left. Assumes nothing.
 use mathlib.Core.Path.{◌≡◌}
 use Prim.Native.Nat.{◌+◌, ◌-◌, ◌*◌, ◌≤◌}
-use native.Mathlib.Omega.{arith}
 use lib.ListN.{length, drop}
 use Rattle.answer.specs.Text.{columns_text}
-use Rattle.answer.proofs.ColumnLaws.{columns_longer, columns_empty}
 use Rattle.answer.proofs.columns_len.Given as goal
 
 abbrev pub invariant-loop-i : goal.invariant-loop-i

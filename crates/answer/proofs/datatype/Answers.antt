@@ -4,4 +4,4 @@ use borrow.Author.Rules.{rules}
 use Rattle.answer.proofs.datatype.Goals as goal
 
 pub returns-in_default : goal.returns-in_default
-returns-in_default c = let h = c.in_default.in_default-own.rest in no_datatype _ h.0.0.0.0.0.0.0.0.0.1 h.0.0.0.0.0.0.0.0.1 h.0.0.0.0.0.0.0.1 h.0.0.0.0.0.0.1 h.0.0.0.0.0.1 h.0.0.0.0.1 h.0.0.0.1 h.0.0.1 h.0.1 h.1
+returns-in_default c = search (rules, no_datatype)

@@ -1,10 +1,5 @@
--- `answer::digits` takes a digit off a turn. The invariant: the digits taken off and those left are the number's. The measure is what is left.
--- Assumes nothing.
-use mathlib.Core.Path.{◌≡◌, refl}
-use Prim.Native.Nat.{◌+◌}
+-- What is left of `digits`, by the invariant of Invariants.antt. Assumes nothing.
 use native.Mathlib.Omega.{arith}
-use lib.ListN.{length}
-use Rattle.model.specs.Numbers.{print_natural}
 use Rattle.answer.proofs.DigitLaws.{length_low, length_high, length_ten}
 use Rattle.answer.proofs.digits.Goals as goal
 

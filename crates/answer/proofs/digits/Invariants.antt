@@ -1,11 +1,9 @@
 -- `answer::digits` takes a digit off a turn. The invariant: the digits taken off and those left are the number's. The measure is what is left.
 -- Assumes nothing.
-use mathlib.Core.Path.{◌≡◌, refl}
+use mathlib.Core.Path.{◌≡◌}
 use Prim.Native.Nat.{◌+◌}
-use native.Mathlib.Omega.{arith}
 use lib.ListN.{length}
 use Rattle.model.specs.Numbers.{print_natural}
-use Rattle.answer.proofs.DigitLaws.{length_low, length_high, length_ten}
 use Rattle.answer.proofs.digits.Given as goal
 
 abbrev pub invariant-loop-m : goal.invariant-loop-m

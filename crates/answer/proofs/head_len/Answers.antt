@@ -1,6 +1,5 @@
 -- `answer::head_len` adds up the digits, the keys and the LFs. Assumes nothing.
 use Rattle.answer.proofs.AnswerLaws.{head_sized}
-use borrow.Author.Rules.{rules}
 use Rattle.answer.proofs.head_len.Goals as goal
 
 pub returns : goal.returns

@@ -1,4 +1,5 @@
 -- `answer::nullable_name` spells what each code says, and what is no code says nothing. Assumes nothing.
+use borrow.Author.Rules.{rules}
 use Rattle.type_info.specs.Ascii.{ascii}
 use Rattle.answer.proofs.ColumnLaws.{nullable_no, nullable_yes, nullable_unknown}
 use Rattle.answer.proofs.nullable_name.Goals as goal
@@ -13,4 +14,4 @@ returns-in-2 c = nullable_yes _ c.in-2.is
 
 pub returns-in_default : goal.returns-in_default
 unfolding ascii
-returns-in_default c = nullable_unknown _ c.in_default.in_default-own.rest.0.1 c.in_default.in_default-own.rest.1
+returns-in_default c = nullable_unknown _ (search rules) (search rules)

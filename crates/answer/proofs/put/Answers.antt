@@ -1,9 +1,8 @@
--- `answer::put` copies a byte a turn. The invariant: the first i bytes are written. The measure is how many are left. Assumes nothing.
-use mathlib.Core.Path.{◌≡◌, refl}
-use Prim.Native.Nat.{◌-◌, ◌≤◌}
+-- What is left of `put`, by the invariant of Invariants.antt. Assumes nothing.
+use mathlib.Core.Path.{refl}
 use native.Mathlib.Omega.{arith}
-use lib.ListN.{length, length-set}
-use Rattle.answer.proofs.PatchLaws.{pasted, put_none, put_turn, put_done}
+use lib.ListN.{length-set}
+use Rattle.answer.proofs.PatchLaws.{put_none, put_turn, put_done}
 use Rattle.answer.proofs.put.Goals as goal
 
 pub loop-i-init : goal.loop-i-init

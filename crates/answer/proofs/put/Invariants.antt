@@ -1,9 +1,8 @@
 -- `answer::put` copies a byte a turn. The invariant: the first i bytes are written. The measure is how many are left. Assumes nothing.
-use mathlib.Core.Path.{◌≡◌, refl}
+use mathlib.Core.Path.{◌≡◌}
 use Prim.Native.Nat.{◌-◌, ◌≤◌}
-use native.Mathlib.Omega.{arith}
-use lib.ListN.{length, length-set}
-use Rattle.answer.proofs.PatchLaws.{pasted, put_none, put_turn, put_done}
+use lib.ListN.{length}
+use Rattle.answer.proofs.PatchLaws.{pasted}
 use Rattle.answer.proofs.put.Given as goal
 
 abbrev pub invariant-loop-i : goal.invariant-loop-i

@@ -2,7 +2,6 @@
 use Rattle.type_info.specs.Ascii.{ascii}
 use Rattle.answer.proofs.FieldLaws.{flat_first, flat_rest, flat_put, flat_last}
 use Rattle.answer.proofs.ColumnLaws.{column_lines, column_lines_lem, column_room, column_put}
-use borrow.Author.Rules.{rules}
 use Rattle.answer.proofs.put_column.Goals as goal
 
 pub put_count-p-requires : goal.put_count-p-requires

@@ -1,10 +1,7 @@
--- `answer::put_columns` writes a column a turn. The invariant: what is written and what is still to come are the whole. The measure is how many
--- columns are left. Assumes nothing.
+-- What is left of `put_columns`, by the invariant of Invariants.antt. Assumes nothing.
 use mathlib.Core.Path.{refl}
-use Prim.Native.Nat.{◌-◌}
 use native.Mathlib.Omega.{arith}
-use lib.ListN.{length}
-use Rattle.answer.proofs.ColumnLaws.{Columns, columns_room, columns_put, columns_done}
+use Rattle.answer.proofs.ColumnLaws.{columns_room, columns_put, columns_done}
 use Rattle.answer.proofs.put_columns.Goals as goal
 
 pub loop-i-init : goal.loop-i-init

@@ -1,10 +1,8 @@
 -- `answer::put_columns` writes a column a turn. The invariant: what is written and what is still to come are the whole. The measure is how many
 -- columns are left. Assumes nothing.
-use mathlib.Core.Path.{refl}
 use Prim.Native.Nat.{◌-◌}
-use native.Mathlib.Omega.{arith}
 use lib.ListN.{length}
-use Rattle.answer.proofs.ColumnLaws.{Columns, columns_room, columns_put, columns_done}
+use Rattle.answer.proofs.ColumnLaws.{Columns}
 use Rattle.answer.proofs.put_columns.Given as goal
 
 abbrev pub invariant-loop-i : goal.invariant-loop-i

@@ -1,6 +1,5 @@
 -- `answer::put_count` writes the key, the number and LF. Assumes nothing.
 use Rattle.answer.proofs.FieldLaws.{field_key, field_value, field_end, field_put}
-use borrow.Author.Rules.{rules}
 use Rattle.answer.proofs.put_count.Goals as goal
 
 pub put-value-requires : goal.put-value-requires

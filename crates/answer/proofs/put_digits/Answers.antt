@@ -1,9 +1,8 @@
--- `answer::put_digits` writes a digit a turn, the last first. The invariant: those that are written and those still to come are the number's. The
--- measure is the number that is still to come. Assumes nothing.
-use mathlib.Core.Path.{◌≡◌, refl}
+-- What is left of `put_digits`, by the invariant of Invariants.antt. Assumes nothing.
+use mathlib.Core.Path.{refl}
 use native.Mathlib.Omega.{arith}
-use lib.ListN.{length, length-set}
-use Rattle.answer.proofs.DigitLaws.{Digits, digits_start, digits_turn, digits_done, length_some}
+use lib.ListN.{length-set}
+use Rattle.answer.proofs.DigitLaws.{digits_start, digits_turn, digits_done, length_some}
 use Rattle.answer.proofs.put_digits.Goals as goal
 
 pub loop-m-init : goal.loop-m-init

@@ -1,9 +1,8 @@
 -- `answer::put_digits` writes a digit a turn, the last first. The invariant: those that are written and those still to come are the number's. The
 -- measure is the number that is still to come. Assumes nothing.
-use mathlib.Core.Path.{◌≡◌, refl}
-use native.Mathlib.Omega.{arith}
-use lib.ListN.{length, length-set}
-use Rattle.answer.proofs.DigitLaws.{Digits, digits_start, digits_turn, digits_done, length_some}
+use mathlib.Core.Path.{◌≡◌}
+use lib.ListN.{length}
+use Rattle.answer.proofs.DigitLaws.{Digits}
 use Rattle.answer.proofs.put_digits.Given as goal
 
 abbrev pub invariant-loop-m : goal.invariant-loop-m

@@ -3,7 +3,6 @@ use native.Mathlib.Omega.{arith}
 use Rattle.type_info.specs.Ascii.{ascii}
 use Rattle.answer.specs.Text.{head_text}
 use Rattle.answer.proofs.FieldLaws.{flat_first, flat_rest, flat_put, flat_last}
-use borrow.Author.Rules.{rules}
 use Rattle.answer.proofs.put_head.Goals as goal
 
 pub put_count-a-requires : goal.put_count-a-requires

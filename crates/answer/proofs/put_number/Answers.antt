@@ -1,7 +1,6 @@
 -- `answer::put_number` writes the digits where they end. Assumes nothing.
 use native.Mathlib.Omega.{arith}
 use Rattle.answer.proofs.FieldLaws.{number_room, number_put}
-use borrow.Author.Rules.{rules}
 use Rattle.answer.proofs.put_number.Goals as goal
 
 pub digits-requires : goal.digits-requires

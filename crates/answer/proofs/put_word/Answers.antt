@@ -1,6 +1,5 @@
 -- `answer::put_word` writes the key, the name and LF. Assumes nothing.
 use Rattle.answer.proofs.FieldLaws.{field_key, field_value, field_end, field_put}
-use borrow.Author.Rules.{rules}
 use Rattle.answer.proofs.put_word.Goals as goal
 
 pub put-value-requires : goal.put-value-requires

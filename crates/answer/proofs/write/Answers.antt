@@ -1,6 +1,5 @@
 -- `answer::write` finds the length, refuses what is longer than the buffer, and writes the rest. Assumes nothing.
 use Rattle.answer.proofs.AnswerLaws.{write_long, head_fits, columns_fit, write_fits}
-use borrow.Author.Rules.{rules}
 use Rattle.answer.proofs.write.Goals as goal
 
 pub returns-then-answer-h : goal.returns-then-answer-h

@@ -2,7 +2,6 @@
 use mathlib.Core.Path.{sym}
 use lib.Seq.{length-take-le}
 use Rattle.answer.proofs.AnswerLaws.{writes, part_small}
-use borrow.Author.Rules.{rules}
 use Rattle.answer.proofs.write_answer.Goals as goal
 
 pub slice_bounds-write-end : goal.slice_bounds-write-end

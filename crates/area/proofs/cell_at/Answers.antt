@@ -1,7 +1,6 @@
 -- `area::cell_at` reads both words of the cell. Assumes nothing.
 use mathlib.Core.Path.{sym, ap₂, ◌∙◌}
 use native.Mathlib.Omega.{arith}
-use borrow.Author.Rules.{rules}
 use Rattle.area.specs.Cells.{cell}
 use Rattle.area.proofs.CellLaws.{cell-head, cell_payload, cells_at}
 use Rattle.area.proofs.cell_at.Goals as goal

@@ -1,7 +1,7 @@
--- `area::clear`: before its turn i the first i bytes are 0. The measure is what is left of the length. Assumes nothing.
+-- What is left of `clear`, by the invariant of Invariants.antt. Assumes nothing.
 use mathlib.Core.Path.{◌≡◌, refl, ◌∙◌, ap}
 use mathlib.Core.List.{List, ◌++◌, append-nil}
-use Prim.Native.Nat.{ℕ, ◌≤◌, ◌-◌}
+use Prim.Native.Nat.{ℕ}
 use native.Mathlib.Omega.{arith}
 use lib.Seq.{drop-length}
 use lib.ListN.{length, length-set, set, replicate, drop}

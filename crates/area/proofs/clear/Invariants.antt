@@ -1,12 +1,8 @@
 -- `area::clear`: before its turn i the first i bytes are 0. The measure is what is left of the length. Assumes nothing.
-use mathlib.Core.Path.{◌≡◌, refl, ◌∙◌, ap}
-use mathlib.Core.List.{List, ◌++◌, append-nil}
-use Prim.Native.Nat.{ℕ, ◌≤◌, ◌-◌}
-use native.Mathlib.Omega.{arith}
-use lib.Seq.{drop-length}
-use lib.ListN.{length, length-set, set, replicate, drop}
-use borrow.Author.Rules.{rules}
-use borrow.Author.Fill.{fill_more}
+use mathlib.Core.Path.{◌≡◌}
+use mathlib.Core.List.{◌++◌}
+use Prim.Native.Nat.{◌≤◌, ◌-◌}
+use lib.ListN.{length, replicate, drop}
 use Rattle.area.proofs.clear.Given as goal
 
 abbrev pub invariant-loop-i : goal.invariant-loop-i

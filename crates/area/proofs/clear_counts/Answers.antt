@@ -1,8 +1,6 @@
--- `area::clear_counts`: before its turn i the first i counts are 0. The measure is what is left of n. Assumes nothing.
+-- What is left of `clear_counts`, by the invariant of Invariants.antt. Assumes nothing.
 use mathlib.Core.Path.{◌≡◌, subst}
-use Prim.Native.Nat.{ℕ, ◌≤◌, ◌-◌}
 use native.Mathlib.Omega.{arith}
-use borrow.Author.Rules.{rules}
 use Rattle.area.specs.Counts.{CountsCleared}
 use Rattle.area.proofs.CountLaws.{cleared_none, cleared_next}
 use Rattle.area.proofs.clear_counts.Goals as goal

@@ -1,6 +1,5 @@
 -- `area::count_at` reads the byte of the count. Assumes nothing.
 use mathlib.Core.Path.{refl}
-use borrow.Author.Rules.{rules}
 use Rattle.area.specs.Counts.{count}
 use Rattle.area.proofs.CountLaws.{count_fits}
 use Rattle.area.proofs.count_at.Goals as goal

@@ -1,5 +1,4 @@
 -- `area::move_cells` moves nothing onto itself, and else from the end that is overwritten last. Assumes nothing.
-use borrow.Author.Rules.{rules}
 use Rattle.area.proofs.MoveLaws.{moved_nowhere}
 use Rattle.area.proofs.move_cells.Goals as goal
 

@@ -1,11 +1,6 @@
--- `area::move_down`: before its turn i the first i cells are moved, and since `to` is not above `from` the one to read is as it was.
--- The measure is how many are left. Assumes nothing.
+-- What is left of `move_down`, by the invariant of Invariants.antt. Assumes nothing.
 use mathlib.Core.Path.{◌≡◌}
-use Prim.Native.Nat.{◌-◌, ◌≤◌}
 use native.Mathlib.Omega.{arith}
-use borrow.Author.Rules.{rules}
-use Rattle.area.specs.Cells.{cells, CellsNow}
-use Rattle.area.specs.Moves.{moved}
 use Rattle.area.proofs.MoveLaws.{turn-first, turn_down}
 use Rattle.area.proofs.move_down.Goals as goal
 

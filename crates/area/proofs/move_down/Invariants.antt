@@ -1,12 +1,8 @@
 -- `area::move_down`: before its turn i the first i cells are moved, and since `to` is not above `from` the one to read is as it was.
 -- The measure is how many are left. Assumes nothing.
-use mathlib.Core.Path.{◌≡◌}
 use Prim.Native.Nat.{◌-◌, ◌≤◌}
-use native.Mathlib.Omega.{arith}
-use borrow.Author.Rules.{rules}
 use Rattle.area.specs.Cells.{cells, CellsNow}
 use Rattle.area.specs.Moves.{moved}
-use Rattle.area.proofs.MoveLaws.{turn-first, turn_down}
 use Rattle.area.proofs.move_down.Given as goal
 
 abbrev pub invariant-loop-i : goal.invariant-loop-i

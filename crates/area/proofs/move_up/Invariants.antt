@@ -1,11 +1,8 @@
 -- `area::move_up`: with i left, the cells after the first i are moved, and since `from` is not above `to` the one to read is as it was.
 -- The measure is i. Assumes nothing.
 use Prim.Native.Nat.{◌+◌, ◌-◌, ◌≤◌}
-use native.Mathlib.Omega.{arith}
-use borrow.Author.Rules.{rules}
 use Rattle.area.specs.Cells.{cells, CellsNow}
 use Rattle.area.specs.Moves.{moved}
-use Rattle.area.proofs.MoveLaws.{turn-first, turn_up, turn_last}
 use Rattle.area.proofs.move_up.Given as goal
 
 abbrev pub invariant-loop-i : goal.invariant-loop-i

@@ -1,5 +1,4 @@
 -- `area::put_cell` writes both words of the cell. Assumes nothing.
-use borrow.Author.Rules.{rules}
 use Rattle.area.proofs.CellLaws.{cell-head, cell_payload, inside-kept, cell-put}
 use Rattle.area.proofs.put_cell.Goals as goal
 

@@ -1,11 +1,7 @@
--- `area::put_from` writes byte by byte. The invariant: the bytes still to come, written to what is there now, give what all eight give at the
--- entry. The measure is how many are left. Assumes nothing.
-use mathlib.Core.Path.{◌≡◌, refl, sym, ◌∙◌}
-use Prim.Native.Nat.{◌+◌}
+-- What is left of `put_from`, by the invariant of Invariants.antt. Assumes nothing.
+use mathlib.Core.Path.{refl, sym, ◌∙◌}
 use native.Mathlib.Omega.{arith}
-use lib.ListN.{length, length-set}
-use borrow.Author.Rules.{rules}
-use Rattle.area.specs.Words.{with_bytes}
+use lib.ListN.{length-set}
 use Rattle.area.proofs.WordLaws.{with_bytes-turn, with_bytes-none}
 use Rattle.area.proofs.put_from.Goals as goal
 

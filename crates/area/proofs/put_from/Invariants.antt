@@ -1,12 +1,9 @@
 -- `area::put_from` writes byte by byte. The invariant: the bytes still to come, written to what is there now, give what all eight give at the
 -- entry. The measure is how many are left. Assumes nothing.
-use mathlib.Core.Path.{◌≡◌, refl, sym, ◌∙◌}
+use mathlib.Core.Path.{◌≡◌}
 use Prim.Native.Nat.{◌+◌}
-use native.Mathlib.Omega.{arith}
-use lib.ListN.{length, length-set}
-use borrow.Author.Rules.{rules}
+use lib.ListN.{length}
 use Rattle.area.specs.Words.{with_bytes}
-use Rattle.area.proofs.WordLaws.{with_bytes-turn, with_bytes-none}
 use Rattle.area.proofs.put_from.Given as goal
 
 abbrev pub invariant-loop-left : goal.invariant-loop-left

@@ -1,6 +1,5 @@
 -- `area::put_word` writes the eight bytes of the word. Assumes nothing.
 use native.Mathlib.Omega.{arith}
-use borrow.Author.Rules.{rules}
 use Rattle.area.proofs.WordLaws.{word_fits, words-set}
 use Rattle.area.proofs.put_word.Goals as goal
 

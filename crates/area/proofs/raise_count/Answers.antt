@@ -1,6 +1,5 @@
 -- `area::raise_count` stores the byte of the count, one more. Assumes nothing.
 use native.Mathlib.Omega.{arith}
-use borrow.Author.Rules.{rules}
 use Rattle.area.specs.Counts.{count}
 use Rattle.area.proofs.CountLaws.{count_fits, raised}
 use Rattle.area.proofs.raise_count.Goals as goal

@@ -1,5 +1,4 @@
 -- `branches::child` shifts the link down and takes a third of a word. Assumes nothing.
-use Rattle.std.proofs.Common.{rules}
 use Rattle.branches.proofs.HeaderLaws.{child-read}
 use Rattle.branches.proofs.child.Goals as goal
 

@@ -1,5 +1,5 @@
 -- `branches::fold`: both sums wrap as the definition's do, and the product of two halves fits a word. Assumes nothing.
-use Rattle.std.proofs.Common.{ap, ◌∙◌, rules}
+use Rattle.std.proofs.Common.{ap, ◌∙◌}
 use Rattle.branches.specs.Hash.{bend, fold}
 use Rattle.branches.proofs.HashLaws.{product_fits}
 use Rattle.branches.proofs.fold.Goals as goal

@@ -1,10 +1,9 @@
 -- `branches::hash` takes in a cell a turn. The invariant: the rest of the cells, taken into the hash so far, gives what the whole gives. The
 -- measure is how many cells are left. Assumes nothing.
-use Rattle.std.proofs.Common.{◌≡◌, ◌+◌, ◌≤◌, length, refl, ◌∙◌, arith, rules}
+use Rattle.std.proofs.Common.{◌≡◌, ◌+◌, ◌≤◌, length}
 use Rattle.area.specs.Cells.{cells}
 use Rattle.intmap.specs.Entries.{span}
-use Rattle.branches.specs.Hash.{mix, mix_cells}
-use Rattle.branches.proofs.HashLaws.{mixed_end, mixed_turn, hash_whole}
+use Rattle.branches.specs.Hash.{mix_cells}
 use Rattle.branches.proofs.hash.Given as goal
 
 abbrev pub invariant-loop-left : goal.invariant-loop-left

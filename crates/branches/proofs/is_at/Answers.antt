@@ -1,5 +1,5 @@
 -- `branches::is_at` compares the hash, the row and the entries. Assumes nothing.
-use Rattle.std.proofs.Common.{sym, subst, rules}
+use Rattle.std.proofs.Common.{sym, subst}
 use Rattle.area.specs.Cells.{cells}
 use Rattle.intmap.specs.Map.{IsMap}
 use Rattle.state.specs.declared.MemoryState.{MemoryState}

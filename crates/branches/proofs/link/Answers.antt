@@ -1,5 +1,5 @@
 -- `branches::link` adds the place to the third of the links' word that is 0. Assumes nothing.
-use Rattle.std.proofs.Common.{arith, rules}
+use Rattle.std.proofs.Common.{arith}
 use Rattle.branches.proofs.SaveLaws.{link_fits, linked, linked-none}
 use Rattle.branches.proofs.link.Goals as goal
 

@@ -31,4 +31,4 @@ move_cells-requires c =
 
 pub returns : goal.returns
 returns c =
-    loaded_as _ _ _ _ _ _ _ _ _ _ c.requires c.state_at-s.ensures c.copy_to-there.auto.area c.copy_to-there.ensures c.move_cells.ensures c.slice_known-1.given c.type_inv.area
+    loaded_as _ _ _ _ _ _ _ _ _ _ c.requires c.state_at-s.ensures c.copy_to-there.auto.area c.copy_to-there.ensures c.move_cells.ensures (search rules) c.type_inv.area

@@ -1,5 +1,5 @@
 -- `branches::mix`: the sum wraps as the definition's does, and the step of the multiplication fits a word. Assumes nothing.
-use Rattle.std.proofs.Common.{◌+◌, ◌*◌, ◌/◌, ◌%◌, ap, rules}
+use Rattle.std.proofs.Common.{◌+◌, ◌*◌, ◌/◌, ◌%◌, ap}
 use Rattle.branches.specs.Header.{half}
 use Rattle.branches.specs.Hash.{mix}
 use Rattle.branches.proofs.HashLaws.{stir_fits}

@@ -1,5 +1,5 @@
 -- `branches::next_bits` compares the hash at the place with the state's. Assumes nothing.
-use Rattle.std.proofs.Common.{◌∙◌, rules}
+use Rattle.std.proofs.Common.{◌∙◌}
 use Rattle.branches.proofs.PathLaws.{next_rehashed, next_digits}
 use Rattle.branches.proofs.next_bits.Goals as goal
 

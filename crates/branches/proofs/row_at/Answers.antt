@@ -1,5 +1,5 @@
 -- `branches::row_at` reads the first header cell. Assumes nothing.
-use Rattle.std.proofs.Common.{ap, rules}
+use Rattle.std.proofs.Common.{ap}
 use Rattle.area.specs.declared.Cell.{Cell}
 use Rattle.branches.proofs.row_at.Goals as goal
 

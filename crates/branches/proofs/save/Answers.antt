@@ -10,4 +10,4 @@ pub overflow_add-len-2 : goal.overflow_add-len-2
 overflow_add-len-2 c = omega (arith, map_few _ _ c.requires.map, c.requires.few, c.requires.later)
 
 pub returns : goal.returns
-returns c = saved _ _ _ _ _ _ _ _ _ _ _ _ c.requires c.copy_to.auto.area c.copy_to.ensures c.move_cells.ensures c.put_cell.ensures c.put_cell-2.ensures c.slice_known-1.given c.type_inv.area
+returns c = saved _ _ _ _ _ _ _ _ _ _ _ _ c.requires c.copy_to.auto.area c.copy_to.ensures c.move_cells.ensures c.put_cell.ensures c.put_cell-2.ensures (search rules) c.type_inv.area

@@ -1,5 +1,5 @@
 -- `branches::state_at` reads both header cells. Assumes nothing.
-use Rattle.std.proofs.Common.{◌+◌, ◌/◌, ◌%◌, ap, rules}
+use Rattle.std.proofs.Common.{◌+◌, ◌/◌, ◌%◌, ap}
 use Rattle.area.specs.declared.Cell.{Cell}
 use Rattle.branches.proofs.state_at.Goals as goal
 

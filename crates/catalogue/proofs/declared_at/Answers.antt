@@ -1,11 +1,9 @@
 -- `catalogue::declared_at`: the test on the value where it stands. Assumes nothing.
 use mathlib.Core.Path.{sym, ◌∙◌}
 use native.Mathlib.Omega.{arith}
-use borrow.Author.Tests.{not-true, not-false}
 use Rattle.type_info.specs.Ascii.{ascii}
 use Rattle.model.specs.CatalogueText.{is_declared, read_declared}
 use Rattle.text.proofs.ReadLaws.{part_ends, no_part, part_bad, part_good}
-use borrow.Author.Rules.{rules}
 use Rattle.catalogue.proofs.declared_at.Goals as goal
 
 pub returns-in_default : goal.returns-in_default

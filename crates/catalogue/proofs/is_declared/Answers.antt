@@ -1,7 +1,6 @@
 -- `catalogue::is_declared`: the length, then the bytes. Assumes nothing.
 use Rattle.catalogue.proofs.FlagLaws.{declared_long, declared_short}
 use mathlib.Core.Path.{◌∙◌}
-use borrow.Author.Rules.{rules}
 use Rattle.catalogue.proofs.is_declared.Goals as goal
 
 pub returns-then-t-gt64 : goal.returns-then-t-gt64

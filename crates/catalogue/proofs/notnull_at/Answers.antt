@@ -40,4 +40,4 @@ returns-in-49 c = value_read _ c.value_at.ensures read_flag (some true) c.in-Is.
 
 pub returns-in_default-t : goal.returns-in_default-t
 unfolding ascii
-returns-in_default-t c = value_read _ c.value_at.ensures read_flag none c.in-Is.is (flag_other _ _ _ (omega (arith, part_ends c.value_at.ensures c.in-Is.is)) c.if-to-from-ne1.false c.in_default-t.in_default-t-own.rest.0.1 c.in_default-t.in_default-t-own.rest.1)
+returns-in_default-t c = value_read _ c.value_at.ensures read_flag none c.in-Is.is (flag_other _ _ _ (omega (arith, part_ends c.value_at.ensures c.in-Is.is)) c.if-to-from-ne1.false (search rules) (search rules))

@@ -6,7 +6,6 @@ use Rattle.model.specs.CatalogueText.{take_record}
 use Rattle.text.specs.ReadAt.{number_at, value_at}
 use Rattle.text.proofs.ReadLaws.{read_ends, read_none, read_next, read_last, part_ends}
 use Rattle.catalogue.specs.Records.{flag_at}
-use borrow.Author.Rules.{rules}
 use Rattle.catalogue.proofs.read_record.Goals as goal
 
 pub returns-in_default : goal.returns-in_default

@@ -1,7 +1,6 @@
 -- `column_arms::column` reads the cursor and stores one of its columns, or the default. Assumes nothing.
 use Rattle.column_arms.proofs.ArmLaws.{head_above, head_tag, head_below, column_goes, column_default, arm_bad, arm_absent, arm_there}
 use Rattle.state.proofs.LeadsLaws.{current_held}
-use borrow.Author.Rules.{rules}
 use Rattle.column_arms.proofs.column.Goals as goal
 
 pub read_cursor-p-requires : goal.read_cursor-p-requires

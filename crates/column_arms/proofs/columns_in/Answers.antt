@@ -1,7 +1,6 @@
 -- `column_arms::columns_in` goes by the tag. Assumes nothing.
 use mathlib.Core.Path.{sym, ◌∙◌}
 use Rattle.column_arms.proofs.ColumnLaws.{in_record, in_other}
-use borrow.Author.Rules.{rules}
 use Rattle.column_arms.proofs.columns_in.Goals as goal
 
 pub returns-then-tag_of-eq-RECORD : goal.returns-then-tag_of-eq-RECORD

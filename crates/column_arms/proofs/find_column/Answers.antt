@@ -1,8 +1,6 @@
 -- `column_arms::find_column` searches the columns, and looks whether the one that it finds nests within its levels. Assumes nothing.
 use mathlib.Core.Path.{◌∙◌}
 use native.Mathlib.Omega.{arith}
-use borrow.Author.Rules.{rules}
-use borrow.Author.Tests.{not-true, not-false}
 use Rattle.intmap.proofs.RunLaws.{first-inside}
 use Rattle.column_arms.proofs.ColumnLaws.{head_below, column_direct, direct_place, run-within, columns_behind, found_column, column_none, column_alone, column_record, too_deep}
 use Rattle.column_arms.proofs.find_column.Goals as goal

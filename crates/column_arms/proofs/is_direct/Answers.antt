@@ -2,9 +2,7 @@
 use native.Mathlib.Omega.{arith}
 use mathlib.Core.Path.{sym, ◌∙◌}
 use mathlib.Core.Bool.{true≢false}
-use borrow.Author.Tests.{not-true, not-false}
 use Rattle.column_arms.proofs.ColumnLaws.{direct_place, direct_at}
-use borrow.Author.Rules.{rules}
 use Rattle.column_arms.proofs.is_direct.Goals as goal
 
 pub returns-then-n-key : goal.returns-then-n-key

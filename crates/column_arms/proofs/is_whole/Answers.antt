@@ -1,15 +1,7 @@
--- `column_arms::is_whole` takes each cell's columns from the room that there is. The invariant: the rest fits the room that is left if, and only if,
--- the whole fits; the cells left lie within; and there is room. The measure is the number of cells left. Assumes nothing.
-use mathlib.Core.Path.{◌≡◌, ◌∙◌}
-use Prim.Native.Nat.{◌+◌, ◌<◌, ◌≤◌}
+-- What is left of `is_whole`, by the invariant of Invariants.antt. Assumes nothing.
+use mathlib.Core.Path.{◌∙◌}
 use native.Mathlib.Omega.{arith}
-use lib.Dec.{ltb}
-use lib.ListN.{length}
-use Rattle.area.specs.Cells.{cells}
-use Rattle.intmap.specs.Entries.{span}
-use Rattle.column_arms.specs.Columns.{counted}
 use Rattle.column_arms.proofs.ColumnLaws.{whole_end, whole_stop, whole_turn}
-use borrow.Author.Rules.{rules}
 use Rattle.column_arms.proofs.is_whole.Goals as goal
 
 pub returns-then-room-k : goal.returns-then-room-k

@@ -3,7 +3,6 @@ use Rattle.column_arms.proofs.ArmLaws.{head_above, head_tag, head_below, head_pl
 use mathlib.Core.Path.{sym, ap}
 use Rattle.area.specs.declared.Cell.{Cell}
 use Rattle.state.proofs.LeadsLaws.{current_held}
-use borrow.Author.Rules.{rules}
 use Rattle.column_arms.proofs.row_data.Goals as goal
 
 pub read_cursor-p-requires : goal.read_cursor-p-requires

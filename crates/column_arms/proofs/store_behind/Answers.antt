@@ -1,7 +1,6 @@
 -- `column_arms::store_behind` stores a cell alone, or moves the run behind the map, writes its head, and stores it. Assumes nothing.
 use mathlib.Core.Path.{◌∙◌}
 use native.Mathlib.Omega.{arith}
-use borrow.Author.Rules.{rules}
 use Rattle.column_arms.proofs.RunLaws.{behind_inside, run_room, run_above, stores_run, stores-alone}
 use Rattle.state.proofs.LeadsLaws.{current_held}
 use Rattle.column_arms.proofs.store_behind.Goals as goal

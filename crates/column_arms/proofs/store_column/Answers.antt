@@ -4,8 +4,6 @@ use Rattle.column_arms.proofs.ArmLaws.{still_storable, still_stored, column_inde
 use Rattle.area.specs.declared.Cell.{Cell}
 use Rattle.intmap.specs.Pack.{tag_of}
 use mathlib.Core.Path.{ap}
-use native.Mathlib.Omega.{arith}
-use borrow.Author.Rules.{rules}
 use Rattle.column_arms.proofs.store_column.Goals as goal
 
 pub cell_at-c-requires : goal.cell_at-c-requires

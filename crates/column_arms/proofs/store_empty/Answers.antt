@@ -1,7 +1,6 @@
 -- `column_arms::store_empty` judges the index and the cells, writes the record behind the map, and stores it. Assumes nothing.
 use Rattle.column_arms.proofs.RunLaws.{empty_bad, empty_full, empty_room, empty_above, empty_stored}
 use native.Mathlib.Omega.{arith}
-use borrow.Author.Rules.{rules}
 use Rattle.column_arms.proofs.store_empty.Goals as goal
 
 pub returns-in-Bad : goal.returns-in-Bad

@@ -1,5 +1,4 @@
 -- `column_arms::store_from` puts a record over another, or stores from behind the map. Assumes nothing.
-use borrow.Author.Rules.{rules}
 use Rattle.state.proofs.LeadsLaws.{current_held}
 use Rattle.state.proofs.OverLaws.{is-head}
 use Rattle.column_arms.proofs.RunLaws.{stores-over}

@@ -2,7 +2,6 @@
 use mathlib.Core.Path.{refl, sym, ◌∙◌}
 use mathlib.Core.Bool.{true≢false}
 use native.Mathlib.Omega.{arith}
-use borrow.Author.Rules.{rules}
 use Rattle.column_arms.proofs.store_over.Goals as goal
 
 pub returns-then-tag_of-eq-RECORD : goal.returns-then-tag_of-eq-RECORD

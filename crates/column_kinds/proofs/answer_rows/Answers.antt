@@ -1,7 +1,6 @@
 -- `column_kinds::answer_rows`: the counts cleared, the blocks, the walk, the answer. Assumes nothing.
 use mathlib.Core.Path.{refl}
 use Rattle.column_kinds.proofs.CallLaws.{has_counts, is_prepared, can_write, answers_walk}
-use borrow.Author.Rules.{rules}
 use Rattle.column_kinds.proofs.answer_rows.Goals as goal
 
 pub clear_counts-requires : goal.clear_counts-requires

@@ -2,7 +2,6 @@
 use mathlib.Core.Path.{refl}
 use native.Mathlib.Omega.{arith}
 use Rattle.column_kinds.proofs.CallLaws.{indexable}
-use borrow.Author.Rules.{rules}
 use Rattle.column_kinds.proofs.answer_with.Goals as goal
 
 pub answer_rows-requires : goal.answer_rows-requires

@@ -1,6 +1,5 @@
 -- `column_kinds::call`: the refusals in their order. Assumes nothing.
 use Rattle.column_kinds.proofs.CallLaws.{has_room, few_counted, may_walk, has_records, calls_then, calls_unlisted, calls_uncatalogued, calls_unserved}
-use borrow.Author.Rules.{rules}
 use Rattle.column_kinds.proofs.call.Goals as goal
 
 pub read_listing-rows-requires : goal.read_listing-rows-requires

@@ -1,7 +1,6 @@
 -- `column_kinds::column_kinds`: the call, and the area cleared. Assumes nothing.
 use native.Mathlib.Omega.{arith}
 use Rattle.column_kinds.proofs.CallLaws.{refusal_small, calls_refused, calls_answered}
-use borrow.Author.Rules.{rules}
 use Rattle.column_kinds.proofs.column_kinds.Goals as goal
 
 pub overflow_mul-result : goal.overflow_mul-result

@@ -2,7 +2,6 @@
 use native.Mathlib.Omega.{arith}
 use mathlib.Core.Path.{refl}
 use Rattle.column_kinds.proofs.CallLaws.{no_room, little_room, room_behind}
-use borrow.Author.Rules.{rules}
 use Rattle.column_kinds.proofs.row_room.Goals as goal
 
 pub returns-then-bytes-gt16777216 : goal.returns-then-bytes-gt16777216

@@ -1,7 +1,6 @@
 -- `column_kinds::walk_rows` begins on the first row, if there is one. Assumes nothing.
 use native.Mathlib.Omega.{arith}
 use Rattle.column_kinds.proofs.StartLaws.{may_run, walks_none, walks_run}
-use borrow.Author.Rules.{rules}
 use Rattle.column_kinds.proofs.walk_rows.Goals as goal
 
 pub returns-then-n-eq0 : goal.returns-then-n-eq0

@@ -1,6 +1,5 @@
 -- `column_kinds::write_walk`, by how the walk ended. Assumes nothing.
 use Rattle.column_kinds.proofs.CallLaws.{may_write, never_paused, writes_refused, writes_ended}
-use borrow.Author.Rules.{rules}
 use Rattle.column_kinds.proofs.write_walk.Goals as goal
 
 pub write_answer-requires : goal.write_answer-requires

@@ -3,7 +3,6 @@ use native.Mathlib.Omega.{arith}
 use mathlib.Core.Path.{subst}
 use Rattle.intmap.specs.Get.{Within}
 use Rattle.copy_arms.proofs.GapLaws.{gap-zero, gap_bad, gap_few, gap_all}
-use borrow.Author.Rules.{rules}
 use Rattle.copy_arms.proofs.absent.Goals as goal
 
 pub returns-then-n-eq0 : goal.returns-then-n-eq0

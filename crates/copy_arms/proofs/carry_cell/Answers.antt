@@ -1,6 +1,4 @@
 -- `copy_arms::carry_cell` overwrites the target's cell, and then the source's with null, if it moves. Assumes nothing.
-use borrow.Author.Tests.{not-true, not-false}
-use borrow.Author.Rules.{rules}
 use mathlib.Core.Path.{ap, ◌∙◌}
 use Rattle.intmap.specs.Pack.{with_key}
 use Rattle.copy_arms.proofs.CellLaws.{cell_copied, cell_moved}

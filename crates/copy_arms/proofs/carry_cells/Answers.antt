@@ -1,12 +1,7 @@
--- `copy_arms::carry_cells` carries a register a turn. The invariant: what was carried so far is what as many turns of the definition give, and a
--- search for the next registers leads to the next cells, if they are there. The measure is how many are left. Assumes nothing.
-use borrow.Author.Tests.{not-false}
-use mathlib.Core.Path.{◌≡◌, refl, ◌∙◌}
-use Prim.Native.Nat.{◌-◌, ◌≤◌}
+-- What is left of `carry_cells`, by the invariant of Invariants.antt. Assumes nothing.
+use mathlib.Core.Path.{refl, ◌∙◌}
 use native.Mathlib.Omega.{arith}
-use lib.ListN.{length}
-use Rattle.area.specs.Cells.{cells}
-use Rattle.copy_arms.proofs.TurnLaws.{Carrying, carrying_first, carrying_on, carrying_end}
+use Rattle.copy_arms.proofs.TurnLaws.{carrying_first, carrying_on, carrying_end}
 use Rattle.copy_arms.proofs.carry_cells.Goals as goal
 
 pub loop-done-init : goal.loop-done-init

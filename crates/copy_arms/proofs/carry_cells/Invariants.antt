@@ -1,12 +1,10 @@
 -- `copy_arms::carry_cells` carries a register a turn. The invariant: what was carried so far is what as many turns of the definition give, and a
 -- search for the next registers leads to the next cells, if they are there. The measure is how many are left. Assumes nothing.
-use borrow.Author.Tests.{not-false}
-use mathlib.Core.Path.{◌≡◌, refl, ◌∙◌}
+use mathlib.Core.Path.{◌≡◌}
 use Prim.Native.Nat.{◌-◌, ◌≤◌}
-use native.Mathlib.Omega.{arith}
 use lib.ListN.{length}
 use Rattle.area.specs.Cells.{cells}
-use Rattle.copy_arms.proofs.TurnLaws.{Carrying, carrying_first, carrying_on, carrying_end}
+use Rattle.copy_arms.proofs.TurnLaws.{Carrying}
 use Rattle.copy_arms.proofs.carry_cells.Given as goal
 
 abbrev pub invariant-loop-done : goal.invariant-loop-done

@@ -1,15 +1,7 @@
--- `copy_arms::carry_many` carries what it can where it stands, then one register by a store, and passes over the absent ones behind it. The
--- invariant: what is still to come of the definition's loop, from the state now, is what the whole gives. The measure is how many are left.
--- Assumes nothing.
-use borrow.Author.Rules.{rules}
-use mathlib.Core.Path.{◌≡◌, refl, ◌∙◌}
-use Prim.Native.Nat.{◌+◌, ◌-◌, ◌≤◌}
+-- What is left of `carry_many`, by the invariant of Invariants.antt. Assumes nothing.
+use mathlib.Core.Path.{refl, ◌∙◌}
 use native.Mathlib.Omega.{arith}
-use lib.ListN.{length}
-use Rattle.area.specs.Cells.{cells}
-use Rattle.intmap.specs.Signed.{int_of}
-use Rattle.state.proofs.LeadsLaws.{Reached, led_map, current_held}
-use Rattle.copy_arms.specs.Copies.{carry_many}
+use Rattle.state.proofs.LeadsLaws.{led_map, current_held}
 use Rattle.copy_arms.proofs.TurnLaws.{turns_first, turns_run, turns_end, turns_stop, turns_on}
 use Rattle.copy_arms.proofs.carry_many.Goals as goal
 

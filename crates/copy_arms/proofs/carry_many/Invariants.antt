@@ -1,16 +1,13 @@
 -- `copy_arms::carry_many` carries what it can where it stands, then one register by a store, and passes over the absent ones behind it. The
 -- invariant: what is still to come of the definition's loop, from the state now, is what the whole gives. The measure is how many are left.
 -- Assumes nothing.
-use borrow.Author.Rules.{rules}
-use mathlib.Core.Path.{◌≡◌, refl, ◌∙◌}
+use mathlib.Core.Path.{◌≡◌}
 use Prim.Native.Nat.{◌+◌, ◌-◌, ◌≤◌}
-use native.Mathlib.Omega.{arith}
 use lib.ListN.{length}
 use Rattle.area.specs.Cells.{cells}
 use Rattle.intmap.specs.Signed.{int_of}
-use Rattle.state.proofs.LeadsLaws.{Reached, led_map, current_held}
+use Rattle.state.proofs.LeadsLaws.{Reached}
 use Rattle.copy_arms.specs.Copies.{carry_many}
-use Rattle.copy_arms.proofs.TurnLaws.{turns_first, turns_run, turns_end, turns_stop, turns_on}
 use Rattle.copy_arms.proofs.carry_many.Given as goal
 
 abbrev pub invariant-loop-done : goal.invariant-loop-done

@@ -1,9 +1,7 @@
 -- `copy_arms::carry_register` looks for the register, and stores its entry once more, and then null in its place, if it moves. Assumes nothing.
 use native.Mathlib.Omega.{arith}
-use borrow.Author.Tests.{not-true, not-false}
 use Rattle.state.proofs.LeadsLaws.{reached_last, current_held}
 use Rattle.copy_arms.proofs.CopyLaws.{found_place, carry_bad, carry_absent, carry_copies, carry_stop, carry_next}
-use borrow.Author.Rules.{rules}
 use Rattle.copy_arms.proofs.carry_register.Goals as goal
 
 pub get-x-requires : goal.get-x-requires

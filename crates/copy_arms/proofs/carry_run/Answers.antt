@@ -4,7 +4,6 @@ use native.Mathlib.Omega.{arith}
 use Rattle.intmap.specs.Get.{Within}
 use Rattle.copy_arms.proofs.PlaceLaws.{leading_entry}
 use Rattle.copy_arms.proofs.TurnLaws.{run_none, run_of}
-use borrow.Author.Rules.{rules}
 use Rattle.copy_arms.proofs.carry_run.Goals as goal
 
 pub returns-in_default : goal.returns-in_default

@@ -1,7 +1,6 @@
 -- `copy_arms::copy` copies P3 + 1 registers. Assumes nothing.
 use Rattle.state.proofs.StoreLeads.{leads_as}
 use Rattle.copy_arms.proofs.CopyLaws.{arm_copy}
-use borrow.Author.Rules.{rules}
 use Rattle.copy_arms.proofs.copy.Goals as goal
 
 pub returns : goal.returns

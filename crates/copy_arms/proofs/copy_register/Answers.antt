@@ -1,7 +1,6 @@
 -- `copy_arms::copy_register` carries one register that stays. Assumes nothing.
 use Rattle.state.proofs.StoreLeads.{leads_as}
 use Rattle.copy_arms.proofs.CopyLaws.{carry_copy-one}
-use borrow.Author.Rules.{rules}
 use Rattle.copy_arms.proofs.copy_register.Goals as goal
 
 pub returns : goal.returns

@@ -1,5 +1,4 @@
 -- `copy_arms::is_alone` tests the place, the register, the cell's key and its tag. Assumes nothing.
-use borrow.Author.Rules.{rules}
 use mathlib.Core.Bool.{false≢true}
 use mathlib.Core.Path.{◌∙◌}
 use Rattle.copy_arms.proofs.PlaceLaws.{alone_here}

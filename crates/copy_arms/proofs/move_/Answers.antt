@@ -1,7 +1,6 @@
 -- `copy_arms::move_` moves P3 registers. Assumes nothing.
 use Rattle.state.proofs.StoreLeads.{leads_as}
 use Rattle.copy_arms.proofs.CopyLaws.{arm_move}
-use borrow.Author.Rules.{rules}
 use Rattle.copy_arms.proofs.move_.Goals as goal
 
 pub returns : goal.returns

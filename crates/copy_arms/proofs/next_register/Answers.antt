@@ -1,7 +1,6 @@
 -- `copy_arms::next_register` is where a search for the register leads, if that is a register. Assumes nothing.
 use native.Mathlib.Omega.{arith}
 use Rattle.copy_arms.proofs.GapLaws.{next_end, next_within, next_other, next_above, next_here}
-use borrow.Author.Rules.{rules}
 use Rattle.copy_arms.proofs.next_register.Goals as goal
 
 pub returns-then-found-eq0 : goal.returns-then-found-eq0

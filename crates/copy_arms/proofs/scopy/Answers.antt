@@ -1,7 +1,6 @@
 -- `copy_arms::scopy` copies one register. Assumes nothing.
 use Rattle.state.proofs.StoreLeads.{leads_as}
 use Rattle.copy_arms.proofs.CopyLaws.{arm_copy_one}
-use borrow.Author.Rules.{rules}
 use Rattle.copy_arms.proofs.scopy.Goals as goal
 
 pub returns : goal.returns

@@ -1,7 +1,6 @@
 -- `copy_arms::store_behind` stores a cell alone, or moves the run behind the map and stores it from there. Assumes nothing.
 use mathlib.Core.Path.{refl, ◌∙◌}
 use native.Mathlib.Omega.{arith}
-use borrow.Author.Rules.{rules}
 use Rattle.state.proofs.LeadsLaws.{current_held}
 use Rattle.copy_arms.proofs.CopyLaws.{behind_room, behind_fits, stores_from, alone-inside, stores-alone}
 use Rattle.copy_arms.proofs.store_behind.Goals as goal

@@ -1,7 +1,6 @@
 -- `copy_arms::store_from` puts a record over another, or stores from behind the map. Assumes nothing.
 use mathlib.Core.Path.{ap}
 use native.Mathlib.Omega.{arith}
-use borrow.Author.Rules.{rules}
 use Rattle.area.specs.declared.Cell.{Cell}
 use Rattle.intmap.specs.Pack.{tag_of}
 use Rattle.state.proofs.LeadsLaws.{current_held}

@@ -4,7 +4,6 @@ use Rattle.jump_arms.specs.Arms.{Knows}
 use Rattle.state.proofs.LeadsLaws.{current_held}
 use Rattle.coroutine_arms.specs.Arms.{RowsArm}
 use Rattle.coroutine_arms.proofs.CoroutineLaws.{end_coroutine_arm_lem, number_bad, number_unknown, end_here, end_to}
-use borrow.Author.Rules.{rules}
 use Rattle.coroutine_arms.proofs.end_coroutine.Goals as goal
 
 pub known_int-v-requires : goal.known_int-v-requires

@@ -1,6 +1,5 @@
 -- `coroutine_arms::row_after_yield` asks where the row goes. Assumes nothing.
 use Rattle.coroutine_arms.proofs.YieldLaws.{follows_it, follows_next}
-use borrow.Author.Rules.{rules}
 use Rattle.coroutine_arms.proofs.row_after_yield.Goals as goal
 
 pub returns-in-NoYield : goal.returns-in-NoYield

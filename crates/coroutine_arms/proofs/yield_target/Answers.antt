@@ -1,6 +1,5 @@
 -- `coroutine_arms::yield_target` answers where a Yield row goes. Assumes nothing.
 use Rattle.coroutine_arms.proofs.YieldLaws.{target_below, target_past, target_yield, target_other}
-use borrow.Author.Rules.{rules}
 use Rattle.coroutine_arms.proofs.yield_target.Goals as goal
 
 pub returns-then-w-lt-ZERO : goal.returns-then-w-lt-ZERO

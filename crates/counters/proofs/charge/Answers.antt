@@ -1,6 +1,5 @@
 -- `counters::charge` changes one count. Assumes nothing.
 use mathlib.Core.Path.{◌∙◌}
-use borrow.Author.Rules.{rules}
 use Rattle.counters.proofs.SumLaws.{one_charged_lem}
 use Rattle.counters.proofs.charge.Goals as goal
 

@@ -1,6 +1,5 @@
 -- `counters::gas_stop` changes one count. Assumes nothing.
 use mathlib.Core.Path.{◌∙◌}
-use borrow.Author.Rules.{rules}
 use Rattle.counters.proofs.SumLaws.{one_gasstop_lem}
 use Rattle.counters.proofs.gas_stop.Goals as goal
 

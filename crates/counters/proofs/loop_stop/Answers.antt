@@ -1,6 +1,5 @@
 -- `counters::loop_stop` changes one count. Assumes nothing.
 use mathlib.Core.Path.{◌∙◌}
-use borrow.Author.Rules.{rules}
 use Rattle.counters.proofs.SumLaws.{one_loopstop_lem}
 use Rattle.counters.proofs.loop_stop.Goals as goal
 

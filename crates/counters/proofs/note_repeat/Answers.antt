@@ -1,6 +1,5 @@
 -- `counters::note_repeat` changes one count. Assumes nothing.
 use mathlib.Core.Path.{◌∙◌}
-use borrow.Author.Rules.{rules}
 use Rattle.counters.proofs.SumLaws.{one_repeat_lem}
 use Rattle.counters.proofs.note_repeat.Goals as goal
 

@@ -2,7 +2,6 @@
 use mathlib.Core.Path.{sym, ap, ◌∙◌}
 use Rattle.intmap.specs.Pack.{with_nullable}
 use Rattle.cursor_arms.proofs.TableLaws.{still_empty, maybe_empty}
-use borrow.Author.Rules.{rules}
 use Rattle.cursor_arms.proofs.after_delete.Goals as goal
 
 pub returns-then-nullable_of-eq-EMPTY : goal.returns-then-nullable_of-eq-EMPTY

@@ -1,7 +1,6 @@
 -- `cursor_arms::cursor_in` asks for the tag. Assumes nothing.
 use mathlib.Core.Path.{sym, ◌∙◌}
 use Rattle.cursor_arms.proofs.CursorLaws.{in_normal, in_pseudo}
-use borrow.Author.Rules.{rules}
 use Rattle.cursor_arms.proofs.cursor_in.Goals as goal
 
 pub returns-then-tag_of-eq-NORMAL : goal.returns-then-tag_of-eq-NORMAL

@@ -1,7 +1,6 @@
 -- `cursor_arms::delete` reads the cursor, and changes its table. Assumes nothing.
 use Rattle.state.proofs.LeadsLaws.{current_held}
 use Rattle.cursor_arms.proofs.DeleteLaws.{row_within, delete_bad, delete_absent, delete_pseudo, delete_normal}
-use borrow.Author.Rules.{rules}
 use Rattle.cursor_arms.proofs.delete.Goals as goal
 
 pub read_cursor-p-requires : goal.read_cursor-p-requires

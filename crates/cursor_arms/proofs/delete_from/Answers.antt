@@ -3,7 +3,6 @@ use mathlib.Core.Path.{ap}
 use native.Mathlib.Omega.{arith}
 use Rattle.state.proofs.OwnLaws.{case}
 use Rattle.cursor_arms.proofs.TableLaws.{table_none, table-within, table_there}
-use borrow.Author.Rules.{rules}
 use Rattle.cursor_arms.proofs.delete_from.Goals as goal
 
 pub cell_at-requires : goal.cell_at-requires

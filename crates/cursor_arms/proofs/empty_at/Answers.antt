@@ -2,7 +2,6 @@
 use Rattle.cursor_arms.proofs.StandsLaws.{slot_within, empty-there}
 use mathlib.Core.Path.{◌∙◌}
 use native.Mathlib.Omega.{arith}
-use borrow.Author.Rules.{rules}
 use Rattle.cursor_arms.proofs.empty_at.Goals as goal
 
 pub cell_at-requires : goal.cell_at-requires

@@ -3,7 +3,6 @@ use Rattle.cursor_arms.proofs.StandsLaws.{slot_within, head_there, head_not}
 use Rattle.cursor_arms.specs.StandsFor.{head_slot}
 use mathlib.Core.Path.{sym, ap, ◌∙◌}
 use native.Mathlib.Omega.{arith}
-use borrow.Author.Rules.{rules}
 use Rattle.cursor_arms.proofs.head_at.Goals as goal
 
 pub cell_at-requires : goal.cell_at-requires

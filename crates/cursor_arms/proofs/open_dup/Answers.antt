@@ -1,6 +1,5 @@
 -- `cursor_arms::open_dup` reads a cursor, and stores it if there is one. Assumes nothing.
 use native.Mathlib.Omega.{arith}
-use borrow.Author.Rules.{rules}
 use Rattle.cursor_arms.proofs.DupLaws.{dup_bad, dup_absent, dup_normal, dup_pseudo}
 use Rattle.state.proofs.LeadsLaws.{current_held}
 use Rattle.cursor_arms.proofs.open_dup.Goals as goal

@@ -1,6 +1,5 @@
 -- `cursor_arms::open_pseudo` stores the cursor that the definition stores. Assumes nothing.
 use Rattle.cursor_arms.proofs.CursorLeads.{pseudo_arm}
-use borrow.Author.Rules.{rules}
 use Rattle.cursor_arms.proofs.open_pseudo.Goals as goal
 
 pub returns : goal.returns

@@ -1,7 +1,6 @@
 -- `cursor_arms::read_cursor` looks for the cursor and reads its cell. Assumes nothing.
 use native.Mathlib.Omega.{arith}
 use Rattle.cursor_arms.proofs.CursorLaws.{read_bad, read_absent, read_within, read_at}
-use borrow.Author.Rules.{rules}
 use Rattle.cursor_arms.proofs.read_cursor.Goals as goal
 
 pub cell_at-requires : goal.cell_at-requires

@@ -1,7 +1,6 @@
 -- `cursor_arms::register_at` judges the index first. Assumes nothing.
 use Rattle.cursor_arms.proofs.StandsLaws.{judged_bad, judged_small, judged_at}
 use native.Mathlib.Omega.{arith}
-use borrow.Author.Rules.{rules}
 use Rattle.cursor_arms.proofs.register_at.Goals as goal
 
 pub entry_at-requires : goal.entry_at-requires

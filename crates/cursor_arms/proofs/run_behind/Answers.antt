@@ -1,7 +1,6 @@
 -- `cursor_arms::run_behind` copies the run, and changes its head. Assumes nothing.
 use Rattle.cursor_arms.proofs.BehindLaws.{behind_inside, run_behind}
 use native.Mathlib.Omega.{arith}
-use borrow.Author.Rules.{rules}
 use Rattle.cursor_arms.proofs.run_behind.Goals as goal
 
 pub cell_at-requires : goal.cell_at-requires

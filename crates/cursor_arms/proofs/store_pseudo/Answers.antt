@@ -3,7 +3,6 @@ use Rattle.cursor_arms.proofs.CursorLeads.{pseudo_leads}
 use native.Mathlib.Omega.{arith}
 use Rattle.state.proofs.LeadsLaws.{current_held}
 use Rattle.state.proofs.OwnLaws.{cell_leads}
-use borrow.Author.Rules.{rules}
 use Rattle.cursor_arms.proofs.store_pseudo.Goals as goal
 
 pub store_cell-requires : goal.store_cell-requires

@@ -1,7 +1,6 @@
 -- `explain::as_handling` by the step. Assumes nothing.
 use mathlib.Core.Path.{sym, ap}
 use Rattle.explain.specs.Numbers.{as_handling}
-use borrow.Author.Rules.{rules}
 use Rattle.explain.proofs.as_handling.Goals as goal
 
 pub returns-in-Refused : goal.returns-in-Refused

@@ -40,4 +40,4 @@ returns-in-40 c = λ from n. cursor_number c.requires.0.row c.requires.1 (ap ope
 
 pub returns-in_default : goal.returns-in_default
 unfolding operation_at arms NoneOf numbers_from
-returns-in_default c = λ from n. cursor_number c.requires.0.row c.requires.1 (number-left 33 8 c.requires.3 c.requires.4 c.in_default.in_default-own.rest) (c.null_row.ensures _ _ c.requires.0.current)
+returns-in_default c = λ from n. cursor_number c.requires.0.row c.requires.1 (number-left 33 8 c.requires.3 c.requires.4 (search rules)) (c.null_row.ensures _ _ c.requires.0.current)

@@ -2,7 +2,6 @@
 use mathlib.Core.Path.{ap, ◌∙◌}
 use mathlib.Core.Bool.{false}
 use Rattle.explain.specs.Numbers.{as_handling}
-use borrow.Author.Rules.{rules}
 use Rattle.explain.proofs.falls_through.Goals as goal
 
 pub returns : goal.returns

@@ -6,7 +6,6 @@ use Rattle.opcode.specs.Opcode.{arms, operation_at}
 use Rattle.explain.specs.Handles.{Handles}
 use Rattle.explain.proofs.NumberLaws.{none_number}
 use Rattle.explain.proofs.HandlingLaws.{number_handles, if_pos_handles, row_handles}
-use borrow.Author.Rules.{rules}
 use Rattle.explain.proofs.handle.Goals as goal
 
 pub number-op-requires : goal.number-op-requires

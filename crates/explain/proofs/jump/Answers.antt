@@ -56,4 +56,4 @@ returns-in-12 c = rows_number (ap operation_at c.in-12.is) c.yield_.ensures
 
 pub returns-in_default : goal.returns-in_default
 unfolding operation_at arms NoneOf numbers_from
-returns-in_default c = jump_number (number-left 1 13 c.requires.2 c.requires.3 (c.in_default.in_default-own.rest, c.requires.4)) c.halt.ensures
+returns-in_default c = jump_number (number-left 1 13 c.requires.2 c.requires.3 ((search rules), c.requires.4)) c.halt.ensures

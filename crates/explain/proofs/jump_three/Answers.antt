@@ -1,7 +1,6 @@
 -- `explain::jump_three` has the same map in four states. Assumes nothing.
 use mathlib.Core.Path.{sym}
 use Rattle.explain.proofs.HandlingLaws.{three_handles}
-use borrow.Author.Rules.{rules}
 use Rattle.explain.proofs.jump_three.Goals as goal
 
 pub returns : goal.returns

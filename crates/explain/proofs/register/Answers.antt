@@ -59,4 +59,4 @@ returns-in-27 c = λ from n blocks whole. register_number c.requires.0.row whole
 
 pub returns-in_default : goal.returns-in_default
 unfolding operation_at arms NoneOf numbers_from
-returns-in_default c = λ from n blocks whole. register_number c.requires.0.row whole (number-left 16 12 c.requires.1 c.if-op-gt-OP_ARITHMETIC.false c.in_default.in_default-own.rest) c.arithmetic.ensures
+returns-in_default c = λ from n blocks whole. register_number c.requires.0.row whole (number-left 16 12 c.requires.1 c.if-op-gt-OP_ARITHMETIC.false (search rules)) c.arithmetic.ensures

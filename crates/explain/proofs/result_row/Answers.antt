@@ -2,7 +2,6 @@
 use mathlib.Core.Path.{subst}
 use Rattle.result_arm.specs.Results.{JudgesRow}
 use Rattle.explain.proofs.HandlingLaws.{result_refused, result_handles}
-use borrow.Author.Rules.{rules}
 use Rattle.explain.proofs.result_row.Goals as goal
 
 pub returns-in-Refused : goal.returns-in-Refused

@@ -1,7 +1,6 @@
 -- `ifpos_arm::forget` stores a plain column, or nothing. Assumes nothing.
 use Rattle.ifpos_arm.proofs.IfPosLaws.{forgets, keeps}
 use native.Mathlib.Omega.{arith}
-use borrow.Author.Rules.{rules}
 use Rattle.ifpos_arm.proofs.forget.Goals as goal
 
 pub put_single-requires : goal.put_single-requires

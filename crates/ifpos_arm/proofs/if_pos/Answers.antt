@@ -4,7 +4,6 @@ use Rattle.jump_arms.specs.Arms.{Knows}
 use Rattle.state.proofs.LeadsLaws.{current_held}
 use Rattle.ifpos_arm.specs.Arm.{IfPosArm}
 use Rattle.ifpos_arm.proofs.IfPosLaws.{again_as, pos_bad, pos_unknown, pos_on, pos_branch}
-use borrow.Author.Rules.{rules}
 use Rattle.ifpos_arm.proofs.if_pos.Goals as goal
 
 pub known_int-v-requires : goal.known_int-v-requires

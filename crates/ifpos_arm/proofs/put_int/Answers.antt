@@ -1,6 +1,5 @@
 -- `ifpos_arm::put_int` stores one cell. Assumes nothing.
 use Rattle.ifpos_arm.proofs.IfPosLaws.{puts_int}
-use borrow.Author.Rules.{rules}
 use Rattle.ifpos_arm.proofs.put_int.Goals as goal
 
 pub returns : goal.returns

@@ -1,6 +1,5 @@
 -- `in_place::arithmetic` reads both operands and writes what they give. Assumes nothing.
 use Rattle.in_place.proofs.NearLaws.{arm-not, arithmetic_near}
-use borrow.Author.Rules.{rules}
 use Rattle.in_place.proofs.arithmetic.Goals as goal
 
 pub returns-then-end-p : goal.returns-then-end-p

@@ -2,7 +2,6 @@
 use mathlib.Core.Path.{subst}
 use Rattle.intmap.specs.Get.{Within}
 use Rattle.in_place.proofs.ColumnLaws.{cursor-not, column_near}
-use borrow.Author.Rules.{rules}
 use Rattle.in_place.proofs.column.Goals as goal
 
 pub returns-in_default : goal.returns-in_default

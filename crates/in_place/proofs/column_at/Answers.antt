@@ -1,10 +1,8 @@
 -- `in_place::column_at` tests that the column is at its distance, and writes it. Assumes nothing.
 use mathlib.Core.Path.{◌∙◌}
 use native.Mathlib.Omega.{arith}
-use borrow.Author.Tests.{not-false}
 use Rattle.state.proofs.OwnLaws.{among_inside}
 use Rattle.in_place.proofs.ColumnLaws.{column_not, flat_place, stored_near}
-use borrow.Author.Rules.{rules}
 use Rattle.in_place.proofs.column_at.Goals as goal
 
 pub returns-then-head-key : goal.returns-then-head-key

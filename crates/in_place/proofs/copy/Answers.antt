@@ -1,7 +1,6 @@
 -- `in_place::copy` reads one register and writes the other. Assumes nothing.
 use mathlib.Core.Path.{◌∙◌}
 use Rattle.in_place.proofs.NearLaws.{leads_not, near_copied}
-use borrow.Author.Rules.{rules}
 use Rattle.in_place.proofs.copy.Goals as goal
 
 pub returns-then-end-p : goal.returns-then-end-p

@@ -1,6 +1,5 @@
 -- `in_place::copy_one` copies one register. Assumes nothing.
 use Rattle.in_place.proofs.NearLaws.{arm-not, copies_one}
-use borrow.Author.Rules.{rules}
 use Rattle.in_place.proofs.copy_one.Goals as goal
 
 pub returns-then-k-ne-ZERO : goal.returns-then-k-ne-ZERO

@@ -1,6 +1,5 @@
 -- `in_place::halt_if_null` writes a plain column again, as never null; a record and a known number stay. Assumes nothing.
 use Rattle.in_place.proofs.NearLaws.{arm-not, halt_near, halt_at_record, halt_at_int}
-use borrow.Author.Rules.{rules}
 use Rattle.in_place.proofs.halt_if_null.Goals as goal
 
 pub returns-then-end-p : goal.returns-then-end-p

@@ -3,7 +3,6 @@ use mathlib.Core.Path.{ap, refl}
 use native.Mathlib.Omega.{arith}
 use Rattle.opcode.specs.Opcode.{arms, operation_at}
 use Rattle.in_place.proofs.HandleLaws.{ready_among, ready_row, ready_third, jump_not, goto_near, gosub_near, init_near}
-use borrow.Author.Rules.{rules}
 use Rattle.in_place.proofs.jump.Goals as goal
 
 pub returns-then-op-eq-OP_GOTO : goal.returns-then-op-eq-OP_GOTO

@@ -3,7 +3,6 @@ use mathlib.Core.Path.{ap, refl}
 use native.Mathlib.Omega.{arith}
 use Rattle.opcode.specs.Opcode.{arms, operation_at}
 use Rattle.in_place.proofs.HandleLaws.{ready_among, ready_row, ready_first, none_handles, jump_handles, register_handles, column_number, column_handles, handles_not}
-use borrow.Author.Rules.{rules}
 use Rattle.in_place.proofs.next_row.Goals as goal
 
 pub overflow_add-at : goal.overflow_add-at

@@ -1,6 +1,5 @@
 -- `in_place::null` writes one register. Assumes nothing.
 use Rattle.in_place.proofs.NearLaws.{arm-not, null_near}
-use borrow.Author.Rules.{rules}
 use Rattle.in_place.proofs.null.Goals as goal
 
 pub returns-then-j-k : goal.returns-then-j-k

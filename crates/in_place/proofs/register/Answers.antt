@@ -5,7 +5,6 @@ use Rattle.opcode.specs.Opcode.{arms, operation_at}
 use Rattle.explain.proofs.NumberLaws.{constant_number}
 use Rattle.in_place.proofs.NearLaws.{constant_near, variable_near, copies_near, integer_near}
 use Rattle.in_place.proofs.HandleLaws.{register_not}
-use borrow.Author.Rules.{rules}
 use Rattle.in_place.proofs.register.Goals as goal
 
 pub returns-then-op-gt-OP_ARITHMETIC : goal.returns-then-op-gt-OP_ARITHMETIC

@@ -3,7 +3,6 @@ use mathlib.Core.Path.{subst, sym, ◌∙◌}
 use native.Mathlib.Omega.{arith}
 use Rattle.intmap.specs.Get.{Within}
 use Rattle.in_place.proofs.ColumnLaws.{table-not, on_table}
-use borrow.Author.Rules.{rules}
 use Rattle.in_place.proofs.table.Goals as goal
 
 pub returns-in_default : goal.returns-in_default

@@ -1,12 +1,9 @@
--- `column_eq` and `record_eq` call each other. The invariant of the latter's loop: the columns left are the same exactly where all are, and both
--- ends lie within. The measure is twice the depth, and one more for `record_eq`; the loop's is the number of columns left. Assumes nothing.
-use mathlib.Core.Path.{◌≡◌, sym, ◌∙◌}
-use Prim.Native.Nat.{◌+◌, ℕ, ◌<◌}
+-- What is left of `column_eq_record_eq`, by the invariant of Invariants.antt. Assumes nothing.
+use mathlib.Core.Path.{sym, ◌∙◌}
+use Prim.Native.Nat.{◌<◌}
 use native.Mathlib.Nat.{add-zero, zero-add}
 use native.Mathlib.Omega.{arith}
-use borrow.Author.Tests.{not-true, not-false}
 use Rattle.area.specs.Cells.{cells}
-use Rattle.intmap.specs.Runs.{size, sizes, eq_columns}
 use Rattle.intmap.proofs.RunLaws.{size_record, size-pos, sizes_room, sizes-turn, same_size, same-cell, eq_heads, eq_loads, eq_none, eq_single, eq_record, eqs_end, eqs_stop, eqs_turn}
 use Rattle.intmap.proofs.+column_eq_record_eq.Goals as goal
 

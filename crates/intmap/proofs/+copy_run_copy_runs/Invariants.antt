@@ -1,16 +1,10 @@
 -- `copy_run` and `copy_runs` call each other. The invariant of the latter's loop: k cells are copied, and the columns left have the rest. The
 -- measure is twice the depth, and one more for `copy_runs`; the loop's is the number of columns left. Assumes nothing.
-use mathlib.Core.Path.{◌≡◌, refl, ap, ◌∙◌}
-use mathlib.Core.Logic.{inl, inr}
-use Prim.Native.Nat.{◌+◌, ◌-◌, ℕ, ◌<◌}
-use native.Mathlib.Omega.{arith}
-use native.Mathlib.Nat.{add-zero, zero-add}
+use mathlib.Core.Path.{◌≡◌}
+use Prim.Native.Nat.{◌+◌}
 use lib.ListN.{length}
 use Rattle.area.specs.Cells.{cells}
-use Rattle.area.specs.Moves.{moved}
-use Rattle.area.proofs.MoveLaws.{moved_none}
-use Rattle.intmap.proofs.RunLaws.{size_none, size-single, size_record, size-pos, sizes_end}
-use Rattle.intmap.proofs.SameCells.{record_moved, one-moved, sizes_below, copied, Copying, next_able, next_copied, next_single}
+use Rattle.intmap.proofs.SameCells.{Copying}
 use Rattle.intmap.proofs.+copy_run_copy_runs.Given as goal
 
 abbrev pub decreases-copy_run : goal.decreases-copy_run

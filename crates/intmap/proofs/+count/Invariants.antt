@@ -1,12 +1,9 @@
 -- `count` goes over a record's columns, and calls itself for those that are records. The invariant: the cells counted and those of the columns left are
 -- the whole column's. The cycle's measure is the depth, the loop's the number of columns left. Assumes nothing.
 use mathlib.Core.Path.{◌≡◌}
-use mathlib.Core.Logic.{inl, inr}
-use Prim.Native.Nat.{◌+◌, ◌-◌, ℕ, ◌<◌}
-use native.Mathlib.Omega.{arith}
+use Prim.Native.Nat.{◌+◌, ◌-◌}
 use Rattle.area.specs.Cells.{cells}
 use Rattle.intmap.specs.Runs.{size, sizes}
-use Rattle.intmap.proofs.RunLaws.{size_none, size-single, size_record, size-pos, sizes_room, sizes_then, sizes_end}
 use Rattle.intmap.proofs.+count.Given as goal
 
 abbrev pub decreases-count : goal.decreases-count

@@ -2,14 +2,10 @@
 -- left make the whole, the cells counted and those left are the column's, and what was found is below the depth. The measure is twice the
 -- depth, and one more for `depth_from`; the loop's is the number of columns left. Assumes nothing.
 use mathlib.Core.Path.{◌≡◌}
-use Prim.Native.Nat.{◌+◌, ◌-◌, ℕ, ◌<◌, ◌≤◌, max}
-use native.Mathlib.Omega.{arith}
-use borrow.Author.Rules.{rules}
+use Prim.Native.Nat.{◌+◌, ◌-◌, ◌≤◌, max}
 use Rattle.area.specs.Cells.{cells}
 use Rattle.intmap.specs.Runs.{size, sizes}
 use Rattle.intmap.specs.Depth.{nestings}
-use Rattle.intmap.proofs.RunLaws.{size_record, size-pos, sizes_room, sizes-turn}
-use Rattle.intmap.proofs.DepthLaws.{nesting-none, nesting-single, nesting_record, nesting_most, nestings_end, nestings-turn}
 use Rattle.intmap.proofs.+depth_from_depth_of.Given as goal
 
 abbrev pub decreases-depth_of : goal.decreases-depth_of

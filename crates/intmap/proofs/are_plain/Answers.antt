@@ -1,11 +1,7 @@
--- `intmap::are_plain` tests a cell a turn. The measure is how many are left. Assumes nothing.
+-- What is left of `are_plain`, by the invariant of Invariants.antt. Assumes nothing.
 use mathlib.Core.Path.{ap, sym, ◌∙◌}
-use Prim.Native.Nat.{◌-◌, ◌≤◌}
 use native.Mathlib.Omega.{arith}
-use borrow.Author.Rules.{rules}
-use Rattle.area.specs.Cells.{cells}
 use Rattle.intmap.specs.Pack.{tag_of}
-use Rattle.intmap.specs.Over.{Plain}
 use Rattle.intmap.proofs.OverLaws.{plain-none, plain_more, are_not, are_all}
 use Rattle.intmap.proofs.are_plain.Goals as goal
 

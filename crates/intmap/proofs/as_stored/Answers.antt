@@ -1,6 +1,5 @@
 -- `as_stored` gives 8 for a map that is full. Assumes nothing.
 use mathlib.Core.Path.{sym, ap}
-use borrow.Author.Rules.{rules}
 use Rattle.intmap.specs.Store.{as_stored}
 use Rattle.intmap.proofs.as_stored.Goals as goal
 

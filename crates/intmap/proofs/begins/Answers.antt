@@ -1,6 +1,5 @@
 -- `intmap::begins` compares the whole head. Assumes nothing.
 use Rattle.intmap.proofs.PackLaws.{begins-key}
-use borrow.Author.Rules.{rules}
 use Rattle.intmap.proofs.begins.Goals as goal
 
 pub returns : goal.returns

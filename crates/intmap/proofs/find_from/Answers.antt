@@ -1,12 +1,9 @@
--- `find_from` goes over the columns until one has a key that is not below. The invariant: the rest of the search gives what the whole gives,
--- and what is left lies within the area. The measure is the number of columns left. Assumes nothing.
-use mathlib.Core.Path.{◌≡◌, refl, ◌∙◌}
-use Prim.Native.Nat.{◌+◌, ◌<◌, ◌≤◌}
+-- What is left of `find_from`, by the invariant of Invariants.antt. Assumes nothing.
+use mathlib.Core.Path.{refl, ◌∙◌}
+use Prim.Native.Nat.{◌<◌}
 use native.Mathlib.Omega.{arith}
-use lib.ListN.{length}
 use Rattle.area.specs.Cells.{cells}
-use Rattle.intmap.specs.Runs.{size, sizes}
-use Rattle.intmap.specs.Find.{seek}
+use Rattle.intmap.specs.Runs.{size}
 use Rattle.intmap.proofs.RunLaws.{size-pos, sizes_step, sizes_on}
 use Rattle.intmap.proofs.FindLaws.{seek_end, seek_here, seek_on}
 use Rattle.intmap.proofs.find_from.Goals as goal

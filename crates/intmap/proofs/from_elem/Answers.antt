@@ -1,10 +1,7 @@
--- `from_elem` writes one cell a turn. The invariant: k of them stand, and the rest is as it was. The measure is how many are left. Assumes nothing.
-use mathlib.Core.Path.{◌≡◌, refl, ◌∙◌}
-use Prim.Native.Nat.{◌-◌, ◌≤◌}
+-- What is left of `from_elem`, by the invariant of Invariants.antt. Assumes nothing.
+use mathlib.Core.Path.{refl, ◌∙◌}
 use native.Mathlib.Omega.{arith}
-use lib.ListN.{length}
-use Rattle.area.specs.Cells.{cells}
-use Rattle.intmap.proofs.ChangeLaws.{Elems, elems-none, elems-turn, elems-done}
+use Rattle.intmap.proofs.ChangeLaws.{elems-none, elems-turn, elems-done}
 use Rattle.intmap.proofs.from_elem.Goals as goal
 
 pub loop-k-init : goal.loop-k-init

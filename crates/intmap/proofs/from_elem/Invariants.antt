@@ -1,10 +1,9 @@
 -- `from_elem` writes one cell a turn. The invariant: k of them stand, and the rest is as it was. The measure is how many are left. Assumes nothing.
-use mathlib.Core.Path.{◌≡◌, refl, ◌∙◌}
+use mathlib.Core.Path.{◌≡◌}
 use Prim.Native.Nat.{◌-◌, ◌≤◌}
-use native.Mathlib.Omega.{arith}
 use lib.ListN.{length}
 use Rattle.area.specs.Cells.{cells}
-use Rattle.intmap.proofs.ChangeLaws.{Elems, elems-none, elems-turn, elems-done}
+use Rattle.intmap.proofs.ChangeLaws.{Elems}
 use Rattle.intmap.proofs.from_elem.Given as goal
 
 abbrev pub invariant-loop-k : goal.invariant-loop-k

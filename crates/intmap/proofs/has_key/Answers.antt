@@ -1,8 +1,6 @@
 -- `intmap::has_key` compares the whole head. Assumes nothing.
 use mathlib.Core.Path.{refl}
-use native.Mathlib.Omega.{arith}
 use Rattle.intmap.proofs.PackLaws.{key_below, key_is}
-use borrow.Author.Rules.{rules}
 use Rattle.intmap.proofs.has_key.Goals as goal
 
 pub returns-then-low-c : goal.returns-then-low-c

@@ -1,12 +1,7 @@
--- `intmap::same_cells` compares a cell a turn. The measure is how many are left. Assumes nothing.
+-- What is left of `same_cells`, by the invariant of Invariants.antt. Assumes nothing.
 use mathlib.Core.Path.{ap}
-use mathlib.Core.Bool.{true}
-use Prim.Native.Nat.{◌-◌, ◌≤◌}
 use native.Mathlib.Omega.{arith}
-use borrow.Author.Rules.{rules}
-use Rattle.area.specs.Cells.{cells}
 use Rattle.area.specs.declared.Cell.{Cell}
-use Rattle.intmap.specs.Map.{SameCells}
 use Rattle.intmap.proofs.EqualLaws.{cells_differ, cells_turn, cells-none, cells_all}
 use Rattle.intmap.proofs.same_cells.Goals as goal
 

@@ -1,13 +1,8 @@
 -- `intmap::same_cells` compares a cell a turn. The measure is how many are left. Assumes nothing.
-use mathlib.Core.Path.{ap}
 use mathlib.Core.Bool.{true}
 use Prim.Native.Nat.{◌-◌, ◌≤◌}
-use native.Mathlib.Omega.{arith}
-use borrow.Author.Rules.{rules}
 use Rattle.area.specs.Cells.{cells}
-use Rattle.area.specs.declared.Cell.{Cell}
 use Rattle.intmap.specs.Map.{SameCells}
-use Rattle.intmap.proofs.EqualLaws.{cells_differ, cells_turn, cells-none, cells_all}
 use Rattle.intmap.proofs.same_cells.Given as goal
 
 abbrev pub invariant-loop-k : goal.invariant-loop-k

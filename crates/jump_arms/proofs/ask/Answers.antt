@@ -1,6 +1,5 @@
 -- `jump_arms::ask` reads the register. Assumes nothing.
 use Rattle.jump_arms.proofs.NullLaws.{asks_bad, asks_absent, asks_record, asks_int, asks_neither, asks_kind, asks_null, asks_either}
-use borrow.Author.Rules.{rules}
 use Rattle.jump_arms.proofs.ask.Goals as goal
 
 pub returns-then-kind-eq0 : goal.returns-then-kind-eq0

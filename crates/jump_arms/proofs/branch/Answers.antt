@@ -1,6 +1,5 @@
 -- `jump_arms::branch` adds a branch at P2 and goes on. Assumes nothing.
 use Rattle.jump_arms.proofs.StepLaws.{branch_arm}
-use borrow.Author.Rules.{rules}
 use Rattle.jump_arms.proofs.branch.Goals as goal
 
 pub returns : goal.returns

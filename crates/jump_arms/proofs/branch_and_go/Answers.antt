@@ -1,7 +1,6 @@
 -- `jump_arms::branch_and_go` gives the step after an access, with a branch. Assumes nothing.
 use mathlib.Core.Path.{sym, ap}
 use Rattle.jump_arms.specs.Arms.{both_after}
-use borrow.Author.Rules.{rules}
 use Rattle.jump_arms.proofs.branch_and_go.Goals as goal
 
 pub returns-in-Refused : goal.returns-in-Refused

@@ -1,7 +1,6 @@
 -- `jump_arms::branch_at` gives the step after an access. Assumes nothing.
 use mathlib.Core.Path.{sym, ap}
 use Rattle.jump_arms.specs.Arms.{branch_after}
-use borrow.Author.Rules.{rules}
 use Rattle.jump_arms.proofs.branch_at.Goals as goal
 
 pub returns-in-Refused : goal.returns-in-Refused

@@ -3,7 +3,6 @@ use mathlib.Core.Path.{sym, subst}
 use Rattle.jump_arms.specs.Arms.{BothArm}
 use Rattle.jump_arms.proofs.BothLaws.{behind_room, behind_held, state_room, state_held_lem, both_refused, both_arm}
 use Rattle.jump_arms.proofs.NullLaws.{update-row}
-use borrow.Author.Rules.{rules}
 use Rattle.jump_arms.proofs.change_both.Goals as goal
 
 pub put_changed-there-requires : goal.put_changed-there-requires

@@ -2,7 +2,6 @@
 use mathlib.Core.Path.{sym, subst}
 use Rattle.state.specs.Steps.{JumpArm}
 use Rattle.jump_arms.proofs.StoreSteps.{gosub_arm}
-use borrow.Author.Rules.{rules}
 use Rattle.jump_arms.proofs.gosub.Goals as goal
 
 pub returns : goal.returns

@@ -3,7 +3,6 @@ use mathlib.Core.Path.{subst}
 use Rattle.state.proofs.LeadsLaws.{current_held}
 use Rattle.jump_arms.specs.Arms.{Knows}
 use Rattle.jump_arms.proofs.IfLaws.{if_bad, if_unknown, if_int}
-use borrow.Author.Rules.{rules}
 use Rattle.jump_arms.proofs.if_.Goals as goal
 
 pub known_int-v-requires : goal.known_int-v-requires

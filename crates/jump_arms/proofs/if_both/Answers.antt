@@ -4,7 +4,6 @@ use native.Mathlib.Omega.{arith}
 use Rattle.jump_arms.specs.Arms.{IfArm}
 use Rattle.jump_arms.proofs.BothLaws.{behind_room, state_room, both_refused, both_arm}
 use Rattle.jump_arms.proofs.IfLaws.{stores_row, if_both}
-use borrow.Author.Rules.{rules}
 use Rattle.jump_arms.proofs.if_both.Goals as goal
 
 pub store_if-there-requires : goal.store_if-there-requires

@@ -2,7 +2,6 @@
 use mathlib.Core.Path.{sym, subst}
 use Rattle.jump_arms.specs.Arms.{IfArm}
 use Rattle.jump_arms.proofs.IfLaws.{if_zero, if_other}
-use borrow.Author.Rules.{rules}
 use Rattle.jump_arms.proofs.if_known.Goals as goal
 
 pub returns-then-w-eq-ZERO : goal.returns-then-w-eq-ZERO

@@ -3,7 +3,6 @@ use mathlib.Core.Path.{subst}
 use Rattle.state.proofs.LeadsLaws.{current_held}
 use Rattle.jump_arms.specs.Arms.{Asks}
 use Rattle.jump_arms.proofs.NullLaws.{change_bad, change_ends, change_both, is-null-arm, decided_null}
-use borrow.Author.Rules.{rules}
 use Rattle.jump_arms.proofs.is_null.Goals as goal
 
 pub ask-v-requires : goal.ask-v-requires

@@ -1,6 +1,5 @@
 -- `jump_arms::known_int` reads the register. Assumes nothing.
 use Rattle.jump_arms.proofs.ReturnLaws.{knows_bad, knows_absent, knows_single, knows_record, knows_int}
-use borrow.Author.Rules.{rules}
 use Rattle.jump_arms.proofs.known_int.Goals as goal
 
 pub returns-in-Bad : goal.returns-in-Bad

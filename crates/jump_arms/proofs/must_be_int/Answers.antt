@@ -1,6 +1,5 @@
 -- `jump_arms::must_be_int` adds a branch at P2 where P2 is a row, and goes on. Assumes nothing.
 use Rattle.jump_arms.proofs.StepLaws.{must_here, must_branch}
-use borrow.Author.Rules.{rules}
 use Rattle.jump_arms.proofs.must_be_int.Goals as goal
 
 pub returns-then-x-eq-ZERO : goal.returns-then-x-eq-ZERO

@@ -4,7 +4,6 @@ use Rattle.state.specs.Steps.{JumpArm}
 use Rattle.state.proofs.LeadsLaws.{current_held}
 use Rattle.jump_arms.specs.Arms.{Asks}
 use Rattle.jump_arms.proofs.NullLaws.{change_bad, change_ends, change_branches, change_stays, change_both, not-null-arm, decided_kind}
-use borrow.Author.Rules.{rules}
 use Rattle.jump_arms.proofs.not_null.Goals as goal
 
 pub ask-v-requires : goal.ask-v-requires

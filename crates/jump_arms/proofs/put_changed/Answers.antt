@@ -1,6 +1,5 @@
 -- `jump_arms::put_changed` makes one of the two changes. Assumes nothing.
 use Rattle.jump_arms.proofs.NullLaws.{put-changed}
-use borrow.Author.Rules.{rules}
 use Rattle.jump_arms.proofs.put_changed.Goals as goal
 
 pub returns-then-null : goal.returns-then-null

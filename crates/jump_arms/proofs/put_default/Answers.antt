@@ -1,7 +1,6 @@
 -- `jump_arms::put_default` stores the default where something is. Assumes nothing.
 use Rattle.jump_arms.proofs.NullLaws.{put_bad, put_absent, default_single, default_record, default_int}
 use native.Mathlib.Omega.{arith}
-use borrow.Author.Rules.{rules}
 use Rattle.jump_arms.proofs.put_default.Goals as goal
 
 pub put_single-requires : goal.put_single-requires

@@ -1,7 +1,6 @@
 -- `jump_arms::put_never` stores a plain column that is never null. Assumes nothing.
 use Rattle.jump_arms.proofs.NullLaws.{put_bad, put_absent, never_single, never_record, never_int}
 use native.Mathlib.Omega.{arith}
-use borrow.Author.Rules.{rules}
 use Rattle.jump_arms.proofs.put_never.Goals as goal
 
 pub put_single-requires : goal.put_single-requires

@@ -4,7 +4,6 @@ use native.Mathlib.Omega.{arith}
 use Rattle.intmap.specs.Pack.{tag_of}
 use Rattle.encoding.proofs.Packing.{code_small}
 use Rattle.jump_arms.proofs.NullLaws.{put-single}
-use borrow.Author.Rules.{rules}
 use Rattle.jump_arms.proofs.put_single.Goals as goal
 
 pub store_cell-requires : goal.store_cell-requires

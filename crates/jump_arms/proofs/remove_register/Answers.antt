@@ -1,6 +1,5 @@
 -- `jump_arms::remove_register` removes an entry of the map. Assumes nothing.
 use Rattle.jump_arms.proofs.ReturnLaws.{removal_leads}
-use borrow.Author.Rules.{rules}
 use Rattle.jump_arms.proofs.remove_register.Goals as goal
 
 pub returns : goal.returns

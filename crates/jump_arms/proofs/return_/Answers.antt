@@ -4,7 +4,6 @@ use Rattle.state.specs.Steps.{JumpArm}
 use Rattle.state.proofs.LeadsLaws.{current_held}
 use Rattle.jump_arms.specs.Arms.{Knows}
 use Rattle.jump_arms.proofs.ReturnLaws.{return_bad, return_on, return_ends, return_to}
-use borrow.Author.Rules.{rules}
 use Rattle.jump_arms.proofs.return_.Goals as goal
 
 pub known_int-v-requires : goal.known_int-v-requires

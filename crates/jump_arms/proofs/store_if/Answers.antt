@@ -1,6 +1,5 @@
 -- `jump_arms::store_if` stores one cell, or nothing. Assumes nothing.
 use Rattle.jump_arms.proofs.IfLaws.{put_stores, put_not}
-use borrow.Author.Rules.{rules}
 use Rattle.jump_arms.proofs.store_if.Goals as goal
 
 pub returns-then-x-eq-ZERO : goal.returns-then-x-eq-ZERO

@@ -7,7 +7,6 @@ use Rattle.model.specs.Numbers.{read_index}
 use Rattle.text.specs.ReadAt.{number_of}
 use Rattle.text.proofs.ReadLaws.{part_ends, no_value, value_read}
 use Rattle.listing.proofs.NameLaws.{index_none, index_other, index_is}
-use borrow.Author.Rules.{rules}
 use Rattle.listing.proofs.addr_at.Goals as goal
 
 pub returns-in_default : goal.returns-in_default

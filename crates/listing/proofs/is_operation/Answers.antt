@@ -1,12 +1,6 @@
--- `listing::is_operation` goes from byte to byte. The invariant: the bytes that are left say what the whole name says. Assumes nothing.
-use mathlib.Core.Path.{◌≡◌, ◌∙◌}
-use Prim.Native.Nat.{◌-◌, ◌≤◌}
+-- What is left of `is_operation`, by the invariant of Invariants.antt. Assumes nothing.
+use mathlib.Core.Path.{◌∙◌}
 use native.Mathlib.Omega.{arith}
-use lib.ListN.{length, drop}
-use borrow.Author.Rules.{rules}
-use borrow.Author.Tests.{not-true, not-false}
-use Rattle.type_info.specs.All.{all_of}
-use Rattle.model.specs.ListingText.{is_alnum, is_operation}
 use Rattle.listing.proofs.NameLaws.{name_empty, name_long, name_start, name_stop, name_on, name_end}
 use Rattle.listing.proofs.is_operation.Goals as goal
 

@@ -1,7 +1,6 @@
 -- `listing::judge_row`: the row that was read, judged. Assumes nothing.
 use mathlib.Core.Path.{refl}
 use Rattle.listing.proofs.LoadLaws.{row_unread, row_found, row_judged}
-use borrow.Author.Rules.{rules}
 use Rattle.listing.proofs.judge_row.Goals as goal
 
 pub read_row-requires : goal.read_row-requires

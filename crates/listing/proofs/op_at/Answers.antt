@@ -1,11 +1,9 @@
 -- `listing::op_at`: the test on the value where it stands. Assumes nothing.
 use mathlib.Core.Path.{sym, ◌∙◌}
 use native.Mathlib.Omega.{arith}
-use borrow.Author.Tests.{not-true, not-false}
 use Rattle.type_info.specs.Ascii.{ascii}
 use Rattle.model.specs.ListingText.{is_operation, read_operation}
 use Rattle.text.proofs.ReadLaws.{part_ends, no_part, part_bad, part_good}
-use borrow.Author.Rules.{rules}
 use Rattle.listing.proofs.op_at.Goals as goal
 
 pub returns-in_default : goal.returns-in_default

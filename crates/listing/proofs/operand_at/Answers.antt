@@ -2,7 +2,6 @@
 use native.Mathlib.Omega.{arith}
 use Rattle.text.proofs.ReadLaws.{part_ends}
 use Rattle.listing.proofs.OperandLaws.{operand_absent, operand_bad, operand_good}
-use borrow.Author.Rules.{rules}
 use Rattle.listing.proofs.operand_at.Goals as goal
 
 pub returns-in_default : goal.returns-in_default

@@ -4,7 +4,6 @@ use mathlib.Core.Path.{◌∙◌}
 use native.Mathlib.Omega.{arith}
 use Rattle.type_info.specs.Ascii.{ascii}
 use Rattle.text.proofs.ReadLaws.{part_ends}
-use borrow.Author.Rules.{rules}
 use Rattle.listing.proofs.p4_at.Goals as goal
 
 pub returns-in_default : goal.returns-in_default

@@ -1,6 +1,5 @@
 -- `listing::put_where`: the row is in its cell, or there is no room and nothing changed. Assumes nothing.
 use Rattle.listing.proofs.LoadLaws.{room_at, put_yes, put_no}
-use borrow.Author.Rules.{rules}
 use Rattle.listing.proofs.put_where.Goals as goal
 
 pub put_row-requires : goal.put_row-requires

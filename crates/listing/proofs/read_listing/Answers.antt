@@ -1,12 +1,8 @@
--- `listing::read_listing` reads a row a turn. The invariant: the rows read so far, and those that are left, are all; those that there is
--- room for are in their cells. Assumes nothing.
-use mathlib.Core.Path.{◌≡◌, refl}
-use Prim.Native.Nat.{◌-◌}
+-- What is left of `read_listing`, by the invariant of Invariants.antt. Assumes nothing.
+use mathlib.Core.Path.{refl}
 use native.Mathlib.Omega.{arith}
-use lib.ListN.{length}
-use borrow.Author.Rules.{rules}
 use Rattle.text.proofs.ReadLaws.{read_ends}
-use Rattle.listing.proofs.LoadLaws.{Loading, load_start, load_next, load_refused, load_over, load_count, room_kept, judged_bad, judged-row}
+use Rattle.listing.proofs.LoadLaws.{load_start, load_next, load_refused, load_over, load_count, room_kept, judged_bad, judged-row}
 use Rattle.listing.proofs.read_listing.Goals as goal
 
 pub loop-at-init : goal.loop-at-init

@@ -1,12 +1,9 @@
 -- `listing::read_listing` reads a row a turn. The invariant: the rows read so far, and those that are left, are all; those that there is
 -- room for are in their cells. Assumes nothing.
-use mathlib.Core.Path.{◌≡◌, refl}
+use mathlib.Core.Path.{◌≡◌}
 use Prim.Native.Nat.{◌-◌}
-use native.Mathlib.Omega.{arith}
 use lib.ListN.{length}
-use borrow.Author.Rules.{rules}
-use Rattle.text.proofs.ReadLaws.{read_ends}
-use Rattle.listing.proofs.LoadLaws.{Loading, load_start, load_next, load_refused, load_over, load_count, room_kept, judged_bad, judged-row}
+use Rattle.listing.proofs.LoadLaws.{Loading}
 use Rattle.listing.proofs.read_listing.Given as goal
 
 abbrev pub invariant-loop-at : goal.invariant-loop-at

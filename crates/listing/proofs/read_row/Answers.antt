@@ -8,7 +8,6 @@ use Rattle.text.proofs.ReadLaws.{read_ends, read_none, read_next, read_last, par
 use Rattle.listing.specs.Fields.{index_at, operand_at, p4_of}
 use Rattle.listing.proofs.OperandLaws.{operand_is}
 use Rattle.listing.proofs.HexLaws.{size_is}
-use borrow.Author.Rules.{rules}
 use Rattle.listing.proofs.read_row.Goals as goal
 
 pub returns-in_default : goal.returns-in_default

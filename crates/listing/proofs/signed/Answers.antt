@@ -4,7 +4,6 @@ use native.Mathlib.Omega.{arith}
 use Rattle.text.specs.ReadAt.{number_of}
 use Rattle.text.proofs.NumberLaws.{up_to_bound}
 use Rattle.listing.proofs.OperandLaws.{empty_operand, minus_bad, minus_zero, minus_good, plus_bad, plus_good}
-use borrow.Author.Rules.{rules}
 use Rattle.listing.proofs.signed.Goals as goal
 
 pub returns-then-t-eq0 : goal.returns-then-t-eq0

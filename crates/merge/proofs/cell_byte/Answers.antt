@@ -1,5 +1,4 @@
 -- `merge::cell_byte` tells the three kinds of a register's cell apart by its tag. Assumes nothing.
-use borrow.Author.Rules.{rules}
 use Rattle.merge.proofs.ByteLaws.{cell_single, cell_int, cell_record}
 use Rattle.merge.proofs.cell_byte.Goals as goal
 

@@ -1,5 +1,4 @@
 -- `merge::merge_byte` takes the newer kind unless it is Null. Assumes nothing.
-use borrow.Author.Rules.{rules}
 use Rattle.merge.proofs.ByteLaws.{merge_older, merge_newer}
 use Rattle.merge.proofs.merge_byte.Goals as goal
 

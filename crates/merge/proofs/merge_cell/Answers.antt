@@ -1,5 +1,4 @@
 -- `merge::merge_cell` leaves out an entry before the first column. Assumes nothing.
-use borrow.Author.Rules.{rules}
 use Rattle.merge.proofs.EntryLaws.{cell_left, cell_set}
 use Rattle.merge.proofs.merge_cell.Goals as goal
 

@@ -1,17 +1,13 @@
 -- `merge::merge_entries` merges an entry a turn. The invariant: what is still to come, from the bytes now, is what the whole gives, and what is
 -- left lies within the area. The measure is the number of entries left. Assumes nothing.
-use mathlib.Core.Path.{◌≡◌, refl, sym, ap, ◌∙◌}
-use Prim.Native.Nat.{◌+◌, ◌<◌, ◌≤◌}
-use native.Mathlib.Omega.{arith}
+use mathlib.Core.Path.{◌≡◌}
+use Prim.Native.Nat.{◌+◌, ◌≤◌}
 use lib.ListN.{length}
-use borrow.Author.Rules.{rules}
 use Rattle.area.specs.Cells.{cells}
 use Rattle.intmap.specs.Map.{levels}
 use Rattle.intmap.specs.Runs.{size, sizes}
 use Rattle.intmap.specs.Entries.{entries}
-use Rattle.intmap.proofs.RunLaws.{size-pos, sizes_step, sizes_on}
 use Rattle.merge.specs.Entries.{merge_runs}
-use Rattle.merge.proofs.EntryLaws.{merged_end, merged_past, merged_turn}
 use Rattle.merge.proofs.merge_entries.Given as goal
 
 abbrev pub invariant-loop-k : goal.invariant-loop-k

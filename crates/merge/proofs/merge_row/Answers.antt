@@ -2,7 +2,6 @@
 use mathlib.Core.Path.{ap}
 use Prim.Native.Nat.{◌+◌}
 use native.Mathlib.Omega.{arith}
-use borrow.Author.Rules.{rules}
 use Rattle.merge.proofs.EntryLaws.{found-columns}
 use Rattle.merge.proofs.RowLaws.{merged_row}
 use Rattle.merge.proofs.merge_row.Goals as goal

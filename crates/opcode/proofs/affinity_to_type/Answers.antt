@@ -1,4 +1,5 @@
 -- `opcode::affinity_to_type`: the five letters, and every other byte. Assumes nothing.
+use borrow.Author.Rules.{rules}
 use mathlib.Core.Path.{refl, sym, ap}
 use mathlib.Core.List.{[], ◌∷◌}
 use Rattle.type_info.specs.declared.DataType.TheVariants.{Null}
@@ -30,4 +31,4 @@ returns-in-69 c = sym (ap affinity_to_type c.in-69.is)
 
 pub returns-in_default : goal.returns-in_default
 unfolding affinity_to_type affinities NoneOf one_of keys_in
-returns-in_default c = sym (ap (or_else Null) (get_other c.args.affinity (0x45 ∷ 0x44 ∷ 0x43 ∷ 0x42 ∷ 0x41 ∷ []) affinities refl c.in_default.in_default-own.rest))
+returns-in_default c = sym (ap (or_else Null) (get_other c.args.affinity (0x45 ∷ 0x44 ∷ 0x43 ∷ 0x42 ∷ 0x41 ∷ []) affinities refl (search rules)))

@@ -1,6 +1,5 @@
 -- `opcode::aggregate`: the table of bytes has the prefixes of the definition, and a text with another first byte has none. Assumes nothing.
 use mathlib.Core.Path.{◌≡◌, refl}
-use mathlib.Core.Logic.{inl, inr}
 use mathlib.Core.List.{List, [], ◌∷◌}
 use Prim.Native.Nat.{ℕ}
 use lib.ListN.{get_or, get_or-eq_default}
@@ -38,9 +37,8 @@ returns-in_default c = no-aggregate c.args.text.now (omega arith, omega arith, o
 
 pub returns-in_default-2 : goal.returns-in_default-2
 returns-in_default-2 c =
-    let other = c.in_default.in_default-own.rest.1 in
     no-aggregate c.args.text.now
-    (omega arith, omega arith, omega arith, λ n. other (inr (inl n)), λ p. other (inr (inr p)), omega arith, λ l. other (inl l))
+    (omega arith, omega arith, omega arith, (search rules), (search rules), omega arith, (search rules))
 
 pub returns-in_default-3 : goal.returns-in_default-3
 returns-in_default-3 c = no-aggregate c.args.text.now (omega arith, omega arith, omega arith, omega arith, omega arith, omega arith, omega arith)

@@ -28,4 +28,4 @@ returns-in-20 c = look_up_length function_at (λ v. v) refl 5 c.args.text.now bu
 
 pub returns-in_default : goal.returns-in_default
 unfolding function_in function_at values built_in lengths_in NoneOf one_of ascii
-returns-in_default c = look_up_none function_at (λ v. v) refl 5 c.args.text.now built_in (20 ∷ 13 ∷ 12 ∷ 8 ∷ []) (omega arith) refl c.in_default.in_default-own.rest
+returns-in_default c = look_up_none function_at (λ v. v) refl 5 c.args.text.now built_in (20 ∷ 13 ∷ 12 ∷ 8 ∷ []) (omega arith) refl (search rules)

@@ -4,8 +4,6 @@ use mathlib.Core.List.{List, [], ◌∷◌}
 use Prim.Native.Nat.{ℕ}
 use native.Mathlib.Omega.{arith}
 use lib.ListN.{length}
-use borrow.Author.Tests.{not-true, not-false}
-use borrow.Author.Rules.{rules}
 use Rattle.type_info.specs.Ascii.{ascii, equals, starts_with}
 use Rattle.type_info.specs.Utf8.{reads, is_utf8}
 use Rattle.model.specs.TextTable.{first_for}

@@ -1,4 +1,5 @@
 -- `opcode::opcode_to_type`: the four constants, and every other number. Assumes nothing.
+use borrow.Author.Rules.{rules}
 use mathlib.Core.Path.{sym, ap}
 use Rattle.opcode.specs.Opcode.{arms, operation_at, constant_kind}
 use Rattle.opcode.proofs.Arms.{NoneOf}
@@ -23,4 +24,4 @@ returns-in-32 c = sym (ap (λ n. constant_kind (operation_at n)) c.in-32.is)
 
 pub returns-in_default : goal.returns-in_default
 unfolding NoneOf
-returns-in_default c = no_constant c.args.op c.in_default.in_default-own.rest
+returns-in_default c = no_constant c.args.op (search rules)

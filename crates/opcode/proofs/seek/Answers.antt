@@ -1,10 +1,6 @@
--- `opcode::seek` goes from entry to entry. The invariant: the entries that are left give what all of them give. Assumes nothing.
-use mathlib.Core.Path.{◌≡◌, refl, sym, ◌∙◌}
-use Prim.Native.Nat.{◌-◌, ◌≤◌}
+-- What is left of `seek`, by the invariant of Invariants.antt. Assumes nothing.
+use mathlib.Core.Path.{refl, sym, ◌∙◌}
 use native.Mathlib.Omega.{arith}
-use lib.ListN.{length, drop}
-use borrow.Author.Rules.{rules}
-use Rattle.opcode.specs.Lookup.{sought}
 use Rattle.opcode.proofs.LookupLaws.{entry_broken, entry_found, entry_passed, no_entry}
 use Rattle.opcode.proofs.seek.Goals as goal
 

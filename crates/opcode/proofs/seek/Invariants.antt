@@ -1,11 +1,8 @@
 -- `opcode::seek` goes from entry to entry. The invariant: the entries that are left give what all of them give. Assumes nothing.
-use mathlib.Core.Path.{◌≡◌, refl, sym, ◌∙◌}
+use mathlib.Core.Path.{◌≡◌}
 use Prim.Native.Nat.{◌-◌, ◌≤◌}
-use native.Mathlib.Omega.{arith}
 use lib.ListN.{length, drop}
-use borrow.Author.Rules.{rules}
 use Rattle.opcode.specs.Lookup.{sought}
-use Rattle.opcode.proofs.LookupLaws.{entry_broken, entry_found, entry_passed, no_entry}
 use Rattle.opcode.proofs.seek.Given as goal
 
 abbrev pub invariant-loop-at : goal.invariant-loop-at

@@ -37,4 +37,4 @@ returns-in-7 c = look_up_length operation_at (or_else no_arm) refl 43 c.args.nam
 
 pub returns-in_default : goal.returns-in_default
 unfolding operation_of operation_at arms operations lengths_in NoneOf one_of ascii
-returns-in_default c = look_up_none operation_at (or_else no_arm) refl 43 c.args.name.now operations (13 ∷ 12 ∷ 11 ∷ 10 ∷ 9 ∷ 8 ∷ 7 ∷ 6 ∷ 5 ∷ 4 ∷ 3 ∷ 2 ∷ []) (omega arith) refl ((((((c.in_default.in_default-own.rest, omega arith), omega arith), omega arith), omega arith), omega arith), omega arith)
+returns-in_default c = look_up_none operation_at (or_else no_arm) refl 43 c.args.name.now operations (13 ∷ 12 ∷ 11 ∷ 10 ∷ 9 ∷ 8 ∷ 7 ∷ 6 ∷ 5 ∷ 4 ∷ 3 ∷ 2 ∷ []) (omega arith) refl (((((((search rules), omega arith), omega arith), omega arith), omega arith), omega arith), omega arith)

@@ -1,10 +1,8 @@
--- `opcode::starts_with` compares byte by byte. The invariant: what is left of the text starts with what is left of the word exactly where
--- the whole does. Assumes nothing.
-use mathlib.Core.Path.{◌≡◌, refl, sym, ◌∙◌}
-use Prim.Native.Nat.{◌+◌, ◌-◌, ◌≤◌}
+-- What is left of `starts_with`, by the invariant of Invariants.antt. Assumes nothing.
+use mathlib.Core.Path.{refl, sym, ◌∙◌}
+use Prim.Native.Nat.{◌+◌, ◌≤◌}
 use native.Mathlib.Omega.{arith}
 use lib.ListN.{length, take, drop}
-use Rattle.type_info.specs.Ascii.{starts_with}
 use Rattle.opcode.proofs.LookupLaws.{too_short, byte_differs, byte_agrees, word_read, part_length, part_byte}
 use Rattle.opcode.proofs.starts_with.Goals as goal
 

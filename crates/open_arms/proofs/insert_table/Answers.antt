@@ -5,7 +5,6 @@ use Rattle.intmap.proofs.StoreLaws.{room_map, behind_new}
 use Rattle.state.proofs.LeadsLaws.{current_held}
 use Rattle.state.proofs.OwnLaws.{key_as}
 use Rattle.open_arms.proofs.OpenLaws.{stored_as}
-use borrow.Author.Rules.{rules}
 use Rattle.open_arms.proofs.insert_table.Goals as goal
 
 pub place_of-found-requires : goal.place_of-found-requires

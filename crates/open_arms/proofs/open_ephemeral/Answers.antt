@@ -1,7 +1,6 @@
 -- `open_arms::open_ephemeral` judges the count and the cells, and opens the table that it wrote. Assumes nothing.
 use mathlib.Core.Path.{refl}
 use Rattle.open_arms.proofs.OpenLaws.{arm_negative, arm_many, put_current, put_above, put_table, arm_opened}
-use borrow.Author.Rules.{rules}
 use Rattle.open_arms.proofs.open_ephemeral.Goals as goal
 
 pub returns-then-x-lt-ZERO : goal.returns-then-x-lt-ZERO

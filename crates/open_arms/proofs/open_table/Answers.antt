@@ -1,6 +1,5 @@
 -- `open_arms::open_table` stores the run, then the cursor. Assumes nothing.
 use Rattle.open_arms.proofs.OpenLaws.{open_full, next_current, open_done}
-use borrow.Author.Rules.{rules}
 use Rattle.open_arms.proofs.open_table.Goals as goal
 
 pub store_normal-requires : goal.store_normal-requires

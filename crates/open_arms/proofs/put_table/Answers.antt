@@ -1,6 +1,5 @@
 -- `open_arms::put_table` writes the head, then the columns. Assumes nothing.
 use Rattle.open_arms.proofs.OpenLaws.{table_put}
-use borrow.Author.Rules.{rules}
 use Rattle.open_arms.proofs.put_table.Goals as goal
 
 pub returns : goal.returns

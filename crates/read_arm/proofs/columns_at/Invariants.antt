@@ -1,12 +1,9 @@
 -- `read_arm::columns_at` follows a link a turn. The invariant: of the bucket's records the map holds the columns of the first, the link leads to the
 -- rest, and the map's keys are below the bound. The measure is how far the link is from the end, since links lead on. Assumes nothing.
-use mathlib.Core.Path.{◌≡◌, refl, sym, ◌∙◌}
-use native.Mathlib.Omega.{arith}
+use mathlib.Core.Path.{◌≡◌}
 use lib.ListN.{length}
-use borrow.Author.Rules.{rules}
-use borrow.Author.Tests.{not-true, not-false}
 use Rattle.area.specs.Cells.{cells}
-use Rattle.read_arm.proofs.GatherLaws.{ahead, Gathering, gathering_first, gathering_end, gathering_inside, gathering_plain, gathering_less, gathering_passed, gathering_behind, gathering_full, gathering_added}
+use Rattle.read_arm.proofs.GatherLaws.{ahead, Gathering}
 use Rattle.read_arm.proofs.columns_at.Given as goal
 
 abbrev pub invariant-loop-link : goal.invariant-loop-link

@@ -1,6 +1,5 @@
 -- `read_arm::is_for` compares the words. Assumes nothing.
 use Rattle.read_arm.proofs.ColumnLaws.{for_other, for_same}
-use borrow.Author.Rules.{rules}
 use Rattle.read_arm.proofs.is_for.Goals as goal
 
 pub returns-then-db-x : goal.returns-then-db-x

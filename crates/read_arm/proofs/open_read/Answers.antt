@@ -1,7 +1,6 @@
 -- `read_arm::open_read` gathers the columns behind the place of the table's head, writes the head, and opens the table. Assumes nothing.
 use native.Mathlib.Omega.{arith}
 use Rattle.read_arm.proofs.TableLaws.{arm_none, arm_full, read_few, read_current, read_above, read_table, arm_opened}
-use borrow.Author.Rules.{rules}
 use Rattle.read_arm.proofs.open_read.Goals as goal
 
 pub returns-then-limit-eq0 : goal.returns-then-limit-eq0

@@ -1,6 +1,5 @@
 -- `read_arm::opened_columns` judges the database first. Assumes nothing.
 use Rattle.read_arm.proofs.GatherLaws.{database_below, database_above, database_is, no_database, the_database}
-use borrow.Author.Rules.{rules}
 use Rattle.read_arm.proofs.opened_columns.Goals as goal
 
 pub returns-then-x-lt-ZERO : goal.returns-then-x-lt-ZERO

@@ -1,15 +1,12 @@
 -- `record_arms::any_deep` goes over the entries up to the first key that is not below. The invariant: whether one of those left is deep is whether
 -- one of all is, and those left lie within the area. The measure is how many are left. Assumes nothing.
-use mathlib.Core.Path.{◌≡◌, refl, sym, ◌∙◌}
-use Prim.Native.Nat.{◌+◌, ◌<◌, ◌≤◌}
-use native.Mathlib.Omega.{arith}
+use mathlib.Core.Path.{◌≡◌}
+use Prim.Native.Nat.{◌+◌, ◌≤◌}
 use lib.ListN.{length}
 use Rattle.area.specs.Cells.{cells}
 use Rattle.intmap.specs.Runs.{size, sizes}
 use Rattle.intmap.specs.Map.{levels}
-use Rattle.intmap.proofs.RunLaws.{size-pos, sizes_step, sizes_on}
 use Rattle.record_arms.specs.Records.{any_deep}
-use Rattle.record_arms.proofs.DeepLaws.{any_end, any_over, any_here, any_on}
 use Rattle.record_arms.proofs.any_deep.Given as goal
 
 abbrev pub invariant-loop-left : goal.invariant-loop-left

@@ -1,6 +1,4 @@
 -- `record_arms::are_apart` compares both ends. Assumes nothing.
-use native.Mathlib.Omega.{arith}
-use borrow.Author.Rules.{rules}
 use borrow.Author.Tests.{leb-true}
 use Rattle.record_arms.proofs.OverLaws.{apart_below, apart_above}
 use Rattle.record_arms.proofs.are_apart.Goals as goal

@@ -1,5 +1,4 @@
 -- `record_arms::build_record` puts the columns, then the head before them. Assumes nothing.
-use borrow.Author.Rules.{rules}
 use Rattle.record_arms.proofs.BuildLaws.{columns_full, columns_built}
 use Rattle.record_arms.proofs.build_record.Goals as goal
 

@@ -1,6 +1,5 @@
 -- `record_arms::is_deep` asks for the tag, for the key, then for the depth. Assumes nothing.
 use mathlib.Core.Path.{◌∙◌}
-use borrow.Author.Rules.{rules}
 use Rattle.record_arms.proofs.DeepLaws.{single_flat, under_key, within_keys}
 use Rattle.record_arms.proofs.is_deep.Goals as goal
 

@@ -1,7 +1,6 @@
 -- `record_arms::judge_range` goes by where the first index and the last lie. Assumes nothing.
 use native.Mathlib.Omega.{arith}
 use Rattle.record_arms.proofs.RangeLaws.{range_none, range_low, range_high, range_within}
-use borrow.Author.Rules.{rules}
 use Rattle.record_arms.proofs.judge_range.Goals as goal
 
 pub returns-then-n-eq0 : goal.returns-then-n-eq0

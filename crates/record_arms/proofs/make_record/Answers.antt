@@ -2,7 +2,6 @@
 use mathlib.Core.Path.{refl, subst}
 use Rattle.record_arms.specs.Records.{JudgesRange, RangeWithin}
 use Rattle.record_arms.proofs.RecordLaws.{arm_negative, arm_range, arm_stored}
-use borrow.Author.Rules.{rules}
 use Rattle.record_arms.proofs.make_record.Goals as goal
 
 pub returns-then-x-lt-ZERO : goal.returns-then-x-lt-ZERO

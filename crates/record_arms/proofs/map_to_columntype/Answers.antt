@@ -1,7 +1,6 @@
 -- `record_arms::map_to_columntype` asks for the tag. Assumes nothing.
 use mathlib.Core.Path.{sym, ◌∙◌}
 use Rattle.record_arms.proofs.BuildLaws.{column_int, column_other}
-use borrow.Author.Rules.{rules}
 use Rattle.record_arms.proofs.map_to_columntype.Goals as goal
 
 pub returns-then-tag_of-eq-INT : goal.returns-then-tag_of-eq-INT

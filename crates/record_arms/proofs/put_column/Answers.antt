@@ -1,6 +1,5 @@
 -- `record_arms::put_column` looks for the register, and copies its run or writes the default. Assumes nothing.
 use native.Mathlib.Omega.{arith}
-use borrow.Author.Rules.{rules}
 use Rattle.area.specs.Cells.{cells}
 use Rattle.intmap.proofs.RunLaws.{size-pos}
 use Rattle.intmap.specs.Map.{levels}

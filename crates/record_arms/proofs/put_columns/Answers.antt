@@ -1,14 +1,7 @@
--- `record_arms::put_columns` puts a column a turn. The invariant: the columns of the first k registers stand from `low` on, under their keys, the
--- entries from `at` on have the registers after those, and nothing else has changed. The measure is how many are left. Assumes nothing.
-use mathlib.Core.Path.{◌≡◌, refl, ◌∙◌}
-use Prim.Native.Nat.{◌-◌, ◌≤◌}
+-- What is left of `put_columns`, by the invariant of Invariants.antt. Assumes nothing.
+use mathlib.Core.Path.{refl, ◌∙◌}
 use native.Mathlib.Omega.{arith}
-use lib.ListN.{length}
-use borrow.Author.Rules.{rules}
-use Rattle.area.specs.Cells.{cells}
-use Rattle.intmap.specs.Entries.{entries}
-use Rattle.intmap.specs.Map.{levels}
-use Rattle.record_arms.proofs.BuildLaws.{Going, going_first, going_puttable, going_full, going_on, going_end}
+use Rattle.record_arms.proofs.BuildLaws.{going_first, going_puttable, going_full, going_on, going_end}
 use Rattle.record_arms.proofs.put_columns.Goals as goal
 
 pub loop-k-init : goal.loop-k-init

@@ -1,14 +1,12 @@
 -- `record_arms::put_columns` puts a column a turn. The invariant: the columns of the first k registers stand from `low` on, under their keys, the
 -- entries from `at` on have the registers after those, and nothing else has changed. The measure is how many are left. Assumes nothing.
-use mathlib.Core.Path.{◌≡◌, refl, ◌∙◌}
+use mathlib.Core.Path.{◌≡◌}
 use Prim.Native.Nat.{◌-◌, ◌≤◌}
-use native.Mathlib.Omega.{arith}
 use lib.ListN.{length}
-use borrow.Author.Rules.{rules}
 use Rattle.area.specs.Cells.{cells}
 use Rattle.intmap.specs.Entries.{entries}
 use Rattle.intmap.specs.Map.{levels}
-use Rattle.record_arms.proofs.BuildLaws.{Going, going_first, going_puttable, going_full, going_on, going_end}
+use Rattle.record_arms.proofs.BuildLaws.{Going}
 use Rattle.record_arms.proofs.put_columns.Given as goal
 
 abbrev pub invariant-loop-k : goal.invariant-loop-k

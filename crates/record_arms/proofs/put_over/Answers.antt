@@ -1,11 +1,6 @@
--- `record_arms::put_over` puts a column a turn. The measure is how many are left. Assumes nothing.
-use mathlib.Core.Path.{◌≡◌, refl, ◌∙◌}
-use Prim.Native.Nat.{◌-◌, ◌≤◌}
+-- What is left of `put_over`, by the invariant of Invariants.antt. Assumes nothing.
+use mathlib.Core.Path.{refl, ◌∙◌}
 use native.Mathlib.Omega.{arith}
-use borrow.Author.Rules.{rules}
-use lib.ListN.{length}
-use Rattle.area.specs.Cells.{cells}
-use Rattle.record_arms.specs.Over.{PutsRegisters}
 use Rattle.record_arms.proofs.OverLaws.{puts_none, puts_more, puts_all}
 use Rattle.record_arms.proofs.put_over.Goals as goal
 

@@ -1,12 +1,9 @@
 -- `record_arms::put_over` puts a column a turn. The measure is how many are left. Assumes nothing.
-use mathlib.Core.Path.{◌≡◌, refl, ◌∙◌}
+use mathlib.Core.Path.{◌≡◌}
 use Prim.Native.Nat.{◌-◌, ◌≤◌}
-use native.Mathlib.Omega.{arith}
-use borrow.Author.Rules.{rules}
 use lib.ListN.{length}
 use Rattle.area.specs.Cells.{cells}
 use Rattle.record_arms.specs.Over.{PutsRegisters}
-use Rattle.record_arms.proofs.OverLaws.{puts_none, puts_more, puts_all}
 use Rattle.record_arms.proofs.put_over.Given as goal
 
 abbrev pub invariant-loop-d : goal.invariant-loop-d

@@ -1,8 +1,6 @@
 -- `record_arms::put_record` tests both records and the registers, and puts the columns and the head. Assumes nothing.
 use mathlib.Core.Path.{ap, sym, ◌∙◌}
 use native.Mathlib.Omega.{arith}
-use borrow.Author.Rules.{rules}
-use borrow.Author.Tests.{not-false}
 use Rattle.area.specs.declared.Cell.{Cell}
 use Rattle.intmap.specs.Pack.{tag_of}
 use Rattle.intmap.proofs.RunLaws.{first-inside}

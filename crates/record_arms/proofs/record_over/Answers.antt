@@ -1,7 +1,6 @@
 -- `record_arms::record_over` finds both places. Assumes nothing.
 use mathlib.Core.Path.{sym, subst, ◌∙◌}
 use native.Mathlib.Omega.{arith}
-use borrow.Author.Rules.{rules}
 use Rattle.intmap.specs.Get.{Within}
 use Rattle.state.proofs.OverLaws.{entry_column}
 use Rattle.record_arms.proofs.OverLaws.{entry-within, over-not, record_over}

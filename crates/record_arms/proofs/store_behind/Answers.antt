@@ -5,7 +5,6 @@ use Rattle.intmap.specs.Get.{index_of}
 use Rattle.record_arms.specs.Records.{BuildsRecord}
 use Rattle.record_arms.proofs.DeepLaws.{flat_registers}
 use Rattle.record_arms.proofs.RecordLaws.{record_index, record_deep, record_many, record_full, built_room, built_fits, record_stored}
-use borrow.Author.Rules.{rules}
 use Rattle.record_arms.proofs.store_behind.Goals as goal
 
 pub returns-in-Bad : goal.returns-in-Bad

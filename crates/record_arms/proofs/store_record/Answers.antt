@@ -1,5 +1,4 @@
 -- `record_arms::store_record` puts the record over another, or stores it from behind the map. Assumes nothing.
-use borrow.Author.Rules.{rules}
 use Rattle.state.proofs.LeadsLaws.{current_held}
 use Rattle.record_arms.proofs.OverLaws.{leads_then, current_then}
 use Rattle.record_arms.proofs.store_record.Goals as goal

@@ -1,7 +1,6 @@
 -- `record_arms::too_deep` asks of the registers' keys. Assumes nothing.
 use mathlib.Core.Path.{ap, ◌∙◌}
 use Prim.Native.Nat.{◌+◌}
-use borrow.Author.Rules.{rules}
 use Rattle.area.specs.Cells.{cells}
 use Rattle.record_arms.specs.Records.{any_deep}
 use Rattle.record_arms.proofs.too_deep.Goals as goal

@@ -1,7 +1,6 @@
 -- `register_arms::agg_final` refuses what is not UTF-8, and stores what the aggregate gives at its end. Assumes nothing.
 use Rattle.state.proofs.StoreLeads.{leads_as}
 use Rattle.register_arms.proofs.RegisterLaws.{refuses_leads, same_leads, final_refused, final_integer, final_real, final_other, final_stays}
-use borrow.Author.Rules.{rules}
 use Rattle.register_arms.proofs.agg_final.Goals as goal
 
 pub returns-then-x-ne1 : goal.returns-then-x-ne1

@@ -1,7 +1,6 @@
 -- `register_arms::agg_step` refuses what is not UTF-8, and stores what the aggregate gives. Assumes nothing.
 use Rattle.state.proofs.StoreLeads.{leads_as}
 use Rattle.register_arms.proofs.RegisterLaws.{refuses_leads, step_refused, step_integer, step_real, step_sum, step_other, step_operand}
-use borrow.Author.Rules.{rules}
 use Rattle.register_arms.proofs.agg_step.Goals as goal
 
 pub returns-then-x-ne1 : goal.returns-then-x-ne1

@@ -1,9 +1,7 @@
 -- `register_arms::arithmetic` reads P1 and P2 in this order, and stores what the two give. Assumes nothing.
-use mathlib.Core.Path.{refl}
 use Rattle.state.proofs.LeadsLaws.{current_held}
 use Rattle.register_arms.proofs.ValueLaws.{not_bad}
 use Rattle.register_arms.proofs.RegisterLaws.{refuses_leads, leads_where, first_refused, second_refused, operands_stored}
-use borrow.Author.Rules.{rules}
 use Rattle.register_arms.proofs.arithmetic.Goals as goal
 
 pub read_register-a-requires : goal.read_register-a-requires

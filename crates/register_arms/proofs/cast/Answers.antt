@@ -1,10 +1,9 @@
 -- `register_arms::cast` reads P1, and stores the kind of P2's low byte there. Assumes nothing.
-use mathlib.Core.Path.{refl, sym, ◌∙◌}
+use mathlib.Core.Path.{sym, ◌∙◌}
 use Rattle.state.proofs.LeadsLaws.{current_held}
 use Rattle.register_arms.proofs.ValueLaws.{not_bad}
 use Rattle.register_arms.proofs.RegisterLaws.{refuses_leads, same_leads, leads_where}
 use Rattle.register_arms.proofs.ChangeLaws.{cast_refused, cast_nothing, cast_stored}
-use borrow.Author.Rules.{rules}
 use Rattle.register_arms.proofs.cast.Goals as goal
 
 pub read_register-v-requires : goal.read_register-v-requires

@@ -1,7 +1,6 @@
 -- `register_arms::constant` stores a value of the kind in P2, never null. Assumes nothing.
 use Rattle.state.proofs.StoreLeads.{leads_as}
 use Rattle.register_arms.proofs.RegisterLaws.{constant_arm}
-use borrow.Author.Rules.{rules}
 use Rattle.register_arms.proofs.constant.Goals as goal
 
 pub returns : goal.returns

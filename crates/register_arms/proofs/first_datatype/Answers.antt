@@ -1,6 +1,5 @@
 -- `register_arms::first_datatype` asks for the code of the first. Assumes nothing.
 use Rattle.register_arms.proofs.ValueLaws.{first_null, first_other}
-use borrow.Author.Rules.{rules}
 use Rattle.register_arms.proofs.first_datatype.Goals as goal
 
 pub returns-then-datatype_code-eq0 : goal.returns-then-datatype_code-eq0

@@ -1,7 +1,6 @@
 -- `register_arms::function` refuses what is not UTF-8, and stores the value by its number. Assumes nothing.
 use Rattle.state.proofs.StoreLeads.{leads_as}
 use Rattle.register_arms.proofs.RegisterLaws.{refuses_leads, same_leads, function_refused, function_unknown, function_rowid, function_text, function_real, function_integer}
-use borrow.Author.Rules.{rules}
 use Rattle.register_arms.proofs.function.Goals as goal
 
 pub returns-then-x-ne1 : goal.returns-then-x-ne1

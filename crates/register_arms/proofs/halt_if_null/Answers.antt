@@ -1,6 +1,5 @@
 -- `register_arms::halt_if_null` reads P3, and stores a plain column there again, as never null. Assumes nothing.
 use Rattle.state.proofs.LeadsLaws.{current_held}
-use borrow.Author.Rules.{rules}
 use Rattle.register_arms.proofs.RegisterLaws.{refuses_leads, same_leads, leads_where}
 use Rattle.register_arms.proofs.ChangeLaws.{halt_refused, halt_nothing, halt_record, halt_int, halt_stored}
 use Rattle.register_arms.proofs.halt_if_null.Goals as goal

@@ -1,7 +1,6 @@
 -- `register_arms::integer` stores P1 in P2. Assumes nothing.
 use Rattle.state.proofs.StoreLeads.{leads_as}
 use Rattle.register_arms.proofs.RegisterLaws.{integer_arm}
-use borrow.Author.Rules.{rules}
 use Rattle.register_arms.proofs.integer.Goals as goal
 
 pub returns : goal.returns

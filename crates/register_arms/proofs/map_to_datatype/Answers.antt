@@ -1,7 +1,6 @@
 -- `register_arms::map_to_datatype`: a case for each that a register may hold. Assumes nothing.
 use mathlib.Core.Path.{refl}
 use Rattle.register_arms.proofs.ValueLaws.{datatype_is}
-use borrow.Author.Rules.{rules}
 use Rattle.register_arms.proofs.map_to_datatype.Goals as goal
 
 pub returns-in-Bad : goal.returns-in-Bad

@@ -2,7 +2,6 @@
 use mathlib.Core.Path.{refl}
 use native.Mathlib.Omega.{arith}
 use Rattle.register_arms.proofs.ValueLaws.{nullable_is}
-use borrow.Author.Rules.{rules}
 use Rattle.register_arms.proofs.map_to_nullable.Goals as goal
 
 pub returns-in-Bad : goal.returns-in-Bad

@@ -2,7 +2,6 @@
 use native.Mathlib.Omega.{arith}
 use Rattle.state.proofs.StoreLeads.{leads_as}
 use Rattle.register_arms.proofs.NullLaws.{null_arm}
-use borrow.Author.Rules.{rules}
 use Rattle.register_arms.proofs.null.Goals as goal
 
 pub returns-then-x : goal.returns-then-x

@@ -1,13 +1,10 @@
--- `register_arms::null_many`: behind the first registers, what is still to come of the definition's loop is the whole. The measure is how many are
--- left. Assumes nothing.
-use mathlib.Core.Path.{◌≡◌, refl}
-use lib.ListN.{length}
+-- What is left of `null_many`, by the invariant of Invariants.antt. Assumes nothing.
+use mathlib.Core.Path.{refl}
 use native.Mathlib.Omega.{arith}
 use Rattle.state.proofs.LeadsLaws.{led_current}
-use Rattle.register_arms.proofs.NullLaws.{Rest, null-begins, null_ends, null_refused, null_again}
+use Rattle.register_arms.proofs.NullLaws.{null-begins, null_ends, null_refused, null_again}
 use Rattle.register_arms.proofs.RunLaws.{run_then}
 use borrow.Author.Rules.{rules}
-use Rattle.area.specs.Cells.{cells}
 use Rattle.register_arms.proofs.null_many.Goals as goal
 
 pub overflow_add-i : goal.overflow_add-i

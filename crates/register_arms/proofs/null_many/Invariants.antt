@@ -1,12 +1,8 @@
 -- `register_arms::null_many`: behind the first registers, what is still to come of the definition's loop is the whole. The measure is how many are
 -- left. Assumes nothing.
-use mathlib.Core.Path.{◌≡◌, refl}
+use mathlib.Core.Path.{◌≡◌}
 use lib.ListN.{length}
-use native.Mathlib.Omega.{arith}
-use Rattle.state.proofs.LeadsLaws.{led_current}
-use Rattle.register_arms.proofs.NullLaws.{Rest, null-begins, null_ends, null_refused, null_again}
-use Rattle.register_arms.proofs.RunLaws.{run_then}
-use borrow.Author.Rules.{rules}
+use Rattle.register_arms.proofs.NullLaws.{Rest}
 use Rattle.area.specs.Cells.{cells}
 use Rattle.register_arms.proofs.null_many.Given as goal
 

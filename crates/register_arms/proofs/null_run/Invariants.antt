@@ -1,15 +1,10 @@
 -- `register_arms::null_run` makes a register null a turn. The invariant: what was done so far is what as many turns of the definition give. The
 -- measure is how many are left. Assumes nothing.
-use mathlib.Core.Path.{◌≡◌, refl, ap}
+use mathlib.Core.Path.{◌≡◌}
 use Prim.Native.Nat.{◌-◌}
 use lib.ListN.{length}
-use native.Mathlib.Omega.{arith}
-use borrow.Author.Rules.{rules}
-use borrow.Author.Tests.{not-true, not-false}
 use Rattle.area.specs.Cells.{cells}
-use Rattle.intmap.specs.Pack.{tag_of}
-use Rattle.state.proofs.LeadsLaws.{current_held}
-use Rattle.register_arms.proofs.RunLaws.{Nulling, run_none, nulling_first, nulling_stop, nulling_on}
+use Rattle.register_arms.proofs.RunLaws.{Nulling}
 use Rattle.register_arms.proofs.null_run.Given as goal
 
 abbrev pub invariant-loop-done : goal.invariant-loop-done

@@ -1,7 +1,6 @@
 -- `register_arms::operands_nullable` asks for absent operands first. Assumes nothing.
 use mathlib.Core.Path.{sym, ◌∙◌}
 use Rattle.register_arms.proofs.ValueLaws.{first_absent, second_absent, both_nullable}
-use borrow.Author.Rules.{rules}
 use Rattle.register_arms.proofs.operands_nullable.Goals as goal
 
 pub returns-then-is_absent : goal.returns-then-is_absent

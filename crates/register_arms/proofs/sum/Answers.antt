@@ -1,9 +1,8 @@
 -- `register_arms::sum` reads the operand, and stores its sum. Assumes nothing.
-use mathlib.Core.Path.{refl, sym, ◌∙◌}
+use mathlib.Core.Path.{sym, ◌∙◌}
 use Rattle.state.proofs.LeadsLaws.{current_held}
 use Rattle.register_arms.proofs.ValueLaws.{not_bad}
 use Rattle.register_arms.proofs.RegisterLaws.{refuses_leads, same_leads, leads_where, copy_refused, copy_nothing, sum_stored}
-use borrow.Author.Rules.{rules}
 use Rattle.register_arms.proofs.sum.Goals as goal
 
 pub read_register-v-requires : goal.read_register-v-requires

@@ -1,7 +1,6 @@
 -- `register_arms::variable` stores null in P2. Assumes nothing.
 use Rattle.state.proofs.StoreLeads.{leads_as}
 use Rattle.register_arms.proofs.RegisterLaws.{variable_arm}
-use borrow.Author.Rules.{rules}
 use Rattle.register_arms.proofs.variable.Goals as goal
 
 pub returns : goal.returns

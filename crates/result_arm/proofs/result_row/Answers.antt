@@ -1,6 +1,5 @@
 -- `result_arm::result_row` judges the width, then the range. Assumes nothing.
 use Rattle.result_arm.proofs.ResultLaws.{row_wide, row_refused, row_read}
-use borrow.Author.Rules.{rules}
 use Rattle.result_arm.proofs.result_row.Goals as goal
 
 pub returns-then-n-gt-WIDEST : goal.returns-then-n-gt-WIDEST

@@ -2,7 +2,6 @@
 use Rattle.cursor_arms.proofs.DeleteLaws.{row_within}
 use Rattle.state.proofs.LeadsLaws.{current_held}
 use Rattle.rewind_arm.proofs.RewindLaws.{rewind_on, rewind_bad, rewind_absent, rewind_normal, rewind_pseudo}
-use borrow.Author.Rules.{rules}
 use Rattle.rewind_arm.proofs.rewind.Goals as goal
 
 pub returns-then-x-eq-ZERO : goal.returns-then-x-eq-ZERO

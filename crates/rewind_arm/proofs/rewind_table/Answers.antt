@@ -3,7 +3,6 @@ use native.Mathlib.Omega.{arith}
 use Rattle.state.proofs.LeadsLaws.{current_held}
 use Rattle.jump_arms.proofs.BothLaws.{behind_held}
 use Rattle.rewind_arm.proofs.RewindLaws.{table_full, table_empty, table_unknown}
-use borrow.Author.Rules.{rules}
 use Rattle.rewind_arm.proofs.rewind_table.Goals as goal
 
 pub is_empty-empty-requires : goal.is_empty-empty-requires

@@ -1,6 +1,5 @@
 -- `root_block::block_of` puts the page and the database under the column's head. Assumes nothing.
 use Rattle.root_block.proofs.ColumnLaws.{block_made}
-use borrow.Author.Rules.{rules}
 use Rattle.root_block.proofs.block_of.Goals as goal
 
 pub returns : goal.returns

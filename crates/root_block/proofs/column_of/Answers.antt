@@ -2,7 +2,6 @@
 use mathlib.Core.Bool.{not}
 use native.Mathlib.Omega.{arith}
 use Rattle.root_block.proofs.ColumnLaws.{code_few, column_made}
-use borrow.Author.Rules.{rules}
 use Rattle.root_block.proofs.column_of.Goals as goal
 
 pub single-requires : goal.single-requires

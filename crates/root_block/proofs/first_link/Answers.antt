@@ -5,7 +5,6 @@ use lib.ListN.{get_or}
 use Rattle.area.specs.Cells.{blank, cells}
 use Rattle.root_block.specs.Blocks.{first_of}
 use Rattle.root_block.proofs.LinkLaws.{bucket_inside}
-use borrow.Author.Rules.{rules}
 use Rattle.root_block.proofs.first_link.Goals as goal
 
 pub cell_at-c-requires : goal.cell_at-c-requires

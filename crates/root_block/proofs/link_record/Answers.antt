@@ -1,7 +1,6 @@
 -- `root_block::link_record` stores the record's cell and then the bucket's, which may be the same. Assumes nothing.
 use native.Mathlib.Omega.{arith}
 use Rattle.root_block.proofs.LinkLaws.{bucket_inside, link_made}
-use borrow.Author.Rules.{rules}
 use Rattle.root_block.proofs.link_record.Goals as goal
 
 pub overflow_mul-first : goal.overflow_mul-first

@@ -1,11 +1,6 @@
--- `root_block::link_records` links a record a turn. The invariant: the records still to link, linked, give what all give at the entry. The measure
--- is how many are left. Assumes nothing.
-use mathlib.Core.Path.{◌≡◌, refl, sym, ◌∙◌}
-use Prim.Native.Nat.{◌≤◌}
+-- What is left of `link_records`, by the invariant of Invariants.antt. Assumes nothing.
+use mathlib.Core.Path.{refl, sym, ◌∙◌}
 use native.Mathlib.Omega.{arith}
-use borrow.Author.Rules.{rules}
-use Rattle.area.specs.Cells.{cells, CellsNow}
-use Rattle.root_block.specs.Build.{linked_all}
 use Rattle.root_block.proofs.LinkLaws.{linked_all-turn, linked_all_end}
 use Rattle.root_block.proofs.link_records.Goals as goal
 

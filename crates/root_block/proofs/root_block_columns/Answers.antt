@@ -1,6 +1,5 @@
 -- `root_block::root_block_columns` writes the records and links them. Assumes nothing.
 use Rattle.root_block.proofs.LinkLaws.{stand_inside, indexed}
-use borrow.Author.Rules.{rules}
 use Rattle.root_block.proofs.root_block_columns.Goals as goal
 
 pub link_records-requires : goal.link_records-requires

@@ -1,5 +1,4 @@
 -- `rows::judge` puts the answers about the name and the P4 together. Assumes nothing.
-use borrow.Author.Rules.{rules}
 use Rattle.rows.proofs.RowLaws.{judged_other, judged_text}
 use Rattle.rows.proofs.judge.Goals as goal
 

@@ -3,7 +3,6 @@ use mathlib.Core.Path.{ap, ◌∙◌}
 use Prim.Native.Nat.{◌+◌}
 use lib.ListN.{set}
 use Rattle.area.specs.Cells.{cells}
-use borrow.Author.Rules.{rules}
 use Rattle.rows.proofs.put_row.Goals as goal
 
 pub returns : goal.returns

@@ -1,7 +1,6 @@
 -- `rows::row_at` reads the row's cell. Assumes nothing.
 use mathlib.Core.Path.{ap, ◌∙◌}
 use Rattle.rows.specs.Rows.{row_in}
-use borrow.Author.Rules.{rules}
 use Rattle.rows.proofs.row_at.Goals as goal
 
 pub returns : goal.returns

@@ -1,6 +1,5 @@
 -- `state::ahead` adds the distance to the size. Assumes nothing.
 use native.Mathlib.Omega.{arith}
-use borrow.Author.Rules.{rules}
 use Rattle.state.proofs.ahead.Goals as goal
 
 pub overflow_add-result-2 : goal.overflow_add-result-2

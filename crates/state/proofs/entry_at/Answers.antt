@@ -1,7 +1,6 @@
 -- `state::entry_at` takes what was located. Assumes nothing.
 use mathlib.Core.Path.{refl}
 use native.Mathlib.Omega.{arith}
-use borrow.Author.Rules.{rules}
 use Rattle.state.proofs.OwnLaws.{held-among, located_key, located_nowhere, entry_none, entry_hinted}
 use Rattle.state.proofs.entry_at.Goals as goal
 

@@ -1,10 +1,6 @@
--- `state::entry_below` tests the cell, the head that it tells, or goes down a cell a turn. The invariant: from p on none begins. The measure is how
--- far it can go. Assumes nothing.
-use Prim.Native.Nat.{◌-◌, ◌≤◌}
+-- What is left of `entry_below`, by the invariant of Invariants.antt. Assumes nothing.
 use native.Mathlib.Omega.{arith}
-use borrow.Author.Rules.{rules}
-use Rattle.area.specs.Cells.{cells}
-use Rattle.state.proofs.OwnLaws.{among_inside, NoneFrom, none_there, below_there, below_at, below_none, below_last, reached_to}
+use Rattle.state.proofs.OwnLaws.{among_inside, none_there, below_there, below_at, below_none, below_last, reached_to}
 use Rattle.state.proofs.entry_below.Goals as goal
 
 pub cell_at-c-requires : goal.cell_at-c-requires

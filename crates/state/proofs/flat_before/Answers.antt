@@ -1,7 +1,6 @@
 -- `state::flat_before` tests the place behind, then the cell there. Assumes nothing.
 use native.Mathlib.Omega.{arith}
 use Rattle.state.proofs.OwnLaws.{flat_not, flat_end, flat_by}
-use borrow.Author.Rules.{rules}
 use Rattle.state.proofs.flat_before.Goals as goal
 
 pub returns-then-end-at : goal.returns-then-end-at

@@ -1,5 +1,4 @@
 -- `state::get` judges the index first. Assumes nothing.
-use borrow.Author.Rules.{rules}
 use mathlib.Core.Path.{subst}
 use Rattle.intmap.specs.Get.{Within}
 use Rattle.intmap.proofs.GetLaws.{get_bad}

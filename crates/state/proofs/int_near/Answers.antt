@@ -1,7 +1,6 @@
 -- `state::int_near` writes one cell. Assumes nothing.
 use Rattle.state.proofs.OwnLaws.{near_leads}
 use Rattle.state.proofs.StoreLeads.{int_leads}
-use borrow.Author.Rules.{rules}
 use Rattle.state.proofs.int_near.Goals as goal
 
 pub returns : goal.returns

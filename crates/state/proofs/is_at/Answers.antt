@@ -1,6 +1,4 @@
 -- `state::is_at` tests the place, then the cell. Assumes nothing.
-use native.Mathlib.Omega.{arith}
-use borrow.Author.Rules.{rules}
 use Rattle.state.proofs.OwnLaws.{tests_key, tests_end}
 use Rattle.state.proofs.is_at.Goals as goal
 

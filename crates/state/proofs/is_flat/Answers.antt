@@ -1,6 +1,5 @@
 -- `state::is_flat` tests the place behind, then the cell there. Assumes nothing.
 use mathlib.Core.Path.{refl}
-use borrow.Author.Rules.{rules}
 use Rattle.state.proofs.is_flat.Goals as goal
 
 pub returns : goal.returns

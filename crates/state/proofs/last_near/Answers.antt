@@ -1,7 +1,6 @@
 -- `state::last_near` looks for the key of the place. Assumes nothing.
 use native.Mathlib.Omega.{arith}
 use Rattle.state.proofs.OwnLaws.{entry_near}
-use borrow.Author.Rules.{rules}
 use Rattle.state.proofs.last_near.Goals as goal
 
 pub near_last-requires : goal.near_last-requires

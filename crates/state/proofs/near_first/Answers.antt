@@ -1,7 +1,6 @@
 -- `state::near_first` tests the cell at the distance. Assumes nothing.
 use mathlib.Core.Path.{sym, ◌∙◌}
 use native.Mathlib.Omega.{arith}
-use borrow.Author.Rules.{rules}
 use Rattle.state.proofs.OwnLaws.{among_inside, guessed, guessed_end}
 use Rattle.state.proofs.near_first.Goals as goal
 

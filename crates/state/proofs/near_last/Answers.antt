@@ -1,7 +1,5 @@
--- `state::near_last` passes an entry a turn. The measure is how many are left. Assumes nothing.
-use Prim.Native.Nat.{◌≤◌}
+-- What is left of `near_last`, by the invariant of Invariants.antt. Assumes nothing.
 use native.Mathlib.Omega.{arith}
-use borrow.Author.Rules.{rules}
 use Rattle.state.proofs.OwnLaws.{among_inside, guessed_here, guessed_end}
 use Rattle.state.proofs.near_last.Goals as goal
 

@@ -1,7 +1,6 @@
 -- `state::over_entry` finds the entry and copies over it. Assumes nothing.
 use mathlib.Core.Path.{ap, sym, ◌∙◌}
 use native.Mathlib.Omega.{arith}
-use borrow.Author.Rules.{rules}
 use Rattle.state.proofs.OwnLaws.{case}
 use Rattle.state.proofs.OverLaws.{entry-not, entry_column, entry_over}
 use Rattle.state.proofs.over_entry.Goals as goal

@@ -1,7 +1,6 @@
 -- `state::over_register` judges the index. Assumes nothing.
 use mathlib.Core.Path.{subst, ◌∙◌}
 use native.Mathlib.Omega.{arith}
-use borrow.Author.Rules.{rules}
 use Rattle.intmap.specs.Get.{Within}
 use Rattle.state.proofs.OverLaws.{register_not, register_bad, register_over}
 use Rattle.state.proofs.over_register.Goals as goal

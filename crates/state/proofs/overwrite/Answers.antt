@@ -1,8 +1,6 @@
 -- `state::overwrite` tests the cell where it stands. Assumes nothing.
 use mathlib.Core.Path.{sym, subst, ◌∙◌}
 use native.Mathlib.Omega.{arith}
-use borrow.Author.Tests.{not-true, not-false}
-use borrow.Author.Rules.{rules}
 use Rattle.intmap.specs.Get.{Within}
 use Rattle.state.proofs.OwnLaws.{bad_own, other_own, has_key, overwrites_bad, overwrites_at}
 use Rattle.state.proofs.overwrite.Goals as goal

@@ -1,7 +1,6 @@
 -- `state::overwrite_own` judges the index, and tests the cell that was located. Assumes nothing.
 use mathlib.Core.Path.{subst}
 use native.Mathlib.Omega.{arith}
-use borrow.Author.Rules.{rules}
 use Rattle.intmap.specs.Get.{Within}
 use Rattle.state.proofs.OwnLaws.{held-among, located_key, located_nowhere, bad_own, new_own, overwrites_none, overwrites_own}
 use Rattle.state.proofs.overwrite_own.Goals as goal

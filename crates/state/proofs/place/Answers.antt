@@ -1,11 +1,7 @@
--- `state::place` looks through fewer cells each turn. The invariant: entries before `low` are below the key, `high` is the end or where one begins
--- that is not, and there were at most seven more tries than cells left out. The measure is the length. Assumes nothing.
+-- What is left of `place`, by the invariant of Invariants.antt. Assumes nothing.
 use mathlib.Core.Path.{subst}
-use Prim.Native.Nat.{ℕ, ◌+◌, ◌-◌, ◌<◌, ◌≤◌}
+use Prim.Native.Nat.{◌<◌, ◌≤◌}
 use native.Mathlib.Omega.{arith}
-use lib.ListN.{get_or}
-use borrow.Author.Rules.{rules}
-use Rattle.area.specs.Cells.{blank, cells}
 use Rattle.intmap.specs.Pack.{key_of}
 use Rattle.state.proofs.OwnLaws.{among_inside, among_to, lower, belongs_there, passed_few}
 use Rattle.state.proofs.place.Goals as goal

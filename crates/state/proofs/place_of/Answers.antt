@@ -1,6 +1,5 @@
 -- `state::place_of` takes the end, where the key belongs there, or searches the map. Assumes nothing.
 use native.Mathlib.Omega.{arith}
-use borrow.Author.Rules.{rules}
 use Rattle.state.proofs.OwnLaws.{held-among, belongs_last, key_as}
 use Rattle.state.proofs.place_of.Goals as goal
 

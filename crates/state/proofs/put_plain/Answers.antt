@@ -1,5 +1,4 @@
 -- `state::put_plain` tests the cell, then writes. Assumes nothing.
-use borrow.Author.Rules.{rules}
 use Rattle.state.proofs.OwnLaws.{puts_not, puts_it}
 use Rattle.state.proofs.put_plain.Goals as goal
 

@@ -2,7 +2,6 @@
 use mathlib.Core.Path.{sym, ◌∙◌}
 use mathlib.Core.Bool.{true≢false}
 use borrow.Author.Tests.{leb-true, ltb-true}
-use borrow.Author.Rules.{rules}
 use Rattle.state.proofs.reaches.Goals as goal
 
 pub returns-then-begins : goal.returns-then-begins

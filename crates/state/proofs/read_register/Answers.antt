@@ -1,6 +1,5 @@
 -- `state::read_register` looks for the register and reads its first cell. Assumes nothing.
 use native.Mathlib.Omega.{arith}
-use borrow.Author.Rules.{rules}
 use Rattle.state.proofs.ReadLaws.{read_bad, read_absent, read_within, read_at}
 use Rattle.state.proofs.read_register.Goals as goal
 

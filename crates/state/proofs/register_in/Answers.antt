@@ -2,7 +2,6 @@
 use mathlib.Core.Path.{sym, ap₂, ◌∙◌}
 use Rattle.state.specs.declared.Register.TheVariants as register
 use Rattle.state.proofs.ReadLaws.{in_single, in_record, in_int}
-use borrow.Author.Rules.{rules}
 use Rattle.state.proofs.register_in.Goals as goal
 
 pub returns-then-tag-eq-SINGLE : goal.returns-then-tag-eq-SINGLE

@@ -3,7 +3,6 @@ use mathlib.Core.Path.{subst}
 use native.Mathlib.Omega.{arith}
 use Rattle.intmap.specs.Get.{Within}
 use Rattle.state.proofs.OwnLaws.{gets_near, gets_nowhere}
-use borrow.Author.Rules.{rules}
 use Rattle.state.proofs.register_near.Goals as goal
 
 pub returns-in_default : goal.returns-in_default

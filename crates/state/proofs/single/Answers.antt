@@ -4,7 +4,6 @@ use native.Mathlib.Omega.{arith}
 use Rattle.area.specs.Cells.{cell}
 use Rattle.intmap.specs.Pack.{head}
 use Rattle.encoding.proofs.Packing.{code_small}
-use borrow.Author.Rules.{rules}
 use Rattle.state.proofs.single.Goals as goal
 
 pub pack-requires : goal.pack-requires

@@ -5,7 +5,6 @@ use Rattle.intmap.specs.Pack.{tag_of}
 use Rattle.encoding.proofs.Packing.{code_small}
 use Rattle.state.proofs.OwnLaws.{near_leads}
 use Rattle.state.proofs.StoreLeads.{single_leads}
-use borrow.Author.Rules.{rules}
 use Rattle.state.proofs.single_near.Goals as goal
 
 pub write_near-requires : goal.write_near-requires

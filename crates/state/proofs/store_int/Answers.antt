@@ -1,6 +1,5 @@
 -- `state::store_int` stores one cell. Assumes nothing.
 use native.Mathlib.Omega.{arith}
-use borrow.Author.Rules.{rules}
 use Rattle.state.proofs.LeadsLaws.{current_held}
 use Rattle.state.proofs.OwnLaws.{cell_leads}
 use Rattle.state.proofs.StoreLeads.{int_leads}

@@ -1,7 +1,6 @@
 -- `state::store_register` writes over the cell that is found at once, or stores. Assumes nothing.
 use mathlib.Core.Path.{refl}
 use native.Mathlib.Omega.{arith}
-use borrow.Author.Rules.{rules}
 use Rattle.state.proofs.OwnLaws.{held-among, still_room, still_held, stored_then}
 use Rattle.state.proofs.store_register.Goals as goal
 

@@ -1,7 +1,6 @@
 -- `state::store_single` stores one cell. Assumes nothing.
 use mathlib.Core.Path.{ap}
 use native.Mathlib.Omega.{arith}
-use borrow.Author.Rules.{rules}
 use Rattle.state.proofs.LeadsLaws.{current_held}
 use Rattle.state.proofs.OwnLaws.{cell_leads}
 use Rattle.state.proofs.StoreLeads.{single_leads}

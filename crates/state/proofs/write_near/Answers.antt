@@ -1,7 +1,6 @@
 -- `state::write_near` judges the index, and tests the cell at the distance. Assumes nothing.
 use mathlib.Core.Path.{subst}
 use native.Mathlib.Omega.{arith}
-use borrow.Author.Rules.{rules}
 use Rattle.intmap.specs.Get.{Within}
 use Rattle.state.proofs.OwnLaws.{among_inside, near_not, near_written}
 use Rattle.state.proofs.write_near.Goals as goal

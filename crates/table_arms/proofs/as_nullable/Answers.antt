@@ -1,7 +1,6 @@
 -- `table_arms::as_nullable` asks for the tag. Assumes nothing.
 use Rattle.table_arms.proofs.NullLaws.{plain-head, other_head}
 use mathlib.Core.Path.{sym, ◌∙◌}
-use borrow.Author.Rules.{rules}
 use Rattle.table_arms.proofs.as_nullable.Goals as goal
 
 pub returns-then-tag_of-eq-SINGLE : goal.returns-then-tag_of-eq-SINGLE

@@ -2,7 +2,6 @@
 use Rattle.table_arms.proofs.InsertLaws.{got_inside, insert_bad, insert_absent, insert_there}
 use Rattle.state.proofs.LeadsLaws.{current_held}
 use native.Mathlib.Omega.{arith}
-use borrow.Author.Rules.{rules}
 use Rattle.table_arms.proofs.insert.Goals as goal
 
 pub get-v-requires : goal.get-v-requires

@@ -2,7 +2,6 @@
 use mathlib.Core.Path.{sym, ◌∙◌}
 use native.Mathlib.Omega.{arith}
 use Rattle.table_arms.proofs.InsertLaws.{value-within, from_record, from_null, from_kind, from_number}
-use borrow.Author.Rules.{rules}
 use Rattle.table_arms.proofs.insert_from.Goals as goal
 
 pub cell_at-c-requires : goal.cell_at-c-requires

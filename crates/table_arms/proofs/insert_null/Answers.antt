@@ -2,7 +2,6 @@
 use Rattle.table_arms.proofs.InsertLaws.{null_bad, null_absent, null_normal, null_pseudo}
 use Rattle.state.proofs.LeadsLaws.{current_held}
 use native.Mathlib.Omega.{arith}
-use borrow.Author.Rules.{rules}
 use Rattle.table_arms.proofs.insert_null.Goals as goal
 
 pub read_cursor-p-requires : goal.read_cursor-p-requires

@@ -1,9 +1,7 @@
 -- `table_arms::insert_record` goes by the cursor and its table. Assumes nothing.
-use native.Mathlib.Omega.{arith}
 use Rattle.cursor_arms.proofs.DeleteLaws.{row_within}
 use Rattle.table_arms.proofs.InsertLaws.{record_bad, record_absent, record_pseudo, table_bad, table_absent, table_there}
 use Rattle.state.proofs.LeadsLaws.{current_held}
-use borrow.Author.Rules.{rules}
 use Rattle.table_arms.proofs.insert_record.Goals as goal
 
 pub read_cursor-p-requires : goal.read_cursor-p-requires

@@ -1,8 +1,6 @@
 use mathlib.Core.Path.{refl, sym, ◌∙◌}
 use Rattle.table_arms.proofs.NullLaws.{already_head, cell_kept, cell_written}
 use Rattle.area.specs.Cells.{cells}
-use native.Mathlib.Omega.{arith}
-use borrow.Author.Rules.{rules}
 use Rattle.table_arms.proofs.null_cell.Goals as goal
 
 pub returns-then-nullable_of-eq-NULLABLE : goal.returns-then-nullable_of-eq-NULLABLE

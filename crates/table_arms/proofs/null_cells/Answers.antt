@@ -1,12 +1,6 @@
 use Rattle.table_arms.proofs.NullLaws.{skipped, null-turn, null_long, null_one, null_flat, null-done}
 use native.Mathlib.Omega.{arith}
-use mathlib.Core.Path.{◌≡◌, refl, ◌∙◌}
-use Prim.Native.Nat.{◌+◌, ◌≤◌}
-use lib.ListN.{length}
-use Rattle.area.specs.Cells.{cells}
-use Rattle.intmap.specs.Runs.{size, sizes}
-use Rattle.encoding.specs.Heads.{single_nullable, on_heads}
-use borrow.Author.Rules.{rules}
+use mathlib.Core.Path.{refl, ◌∙◌}
 use Rattle.table_arms.proofs.null_cells.Goals as goal
 
 pub nullable_cells-k-requires : goal.nullable_cells-k-requires

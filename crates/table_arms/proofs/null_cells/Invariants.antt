@@ -1,12 +1,9 @@
-use Rattle.table_arms.proofs.NullLaws.{skipped, null-turn, null_long, null_one, null_flat, null-done}
-use native.Mathlib.Omega.{arith}
-use mathlib.Core.Path.{◌≡◌, refl, ◌∙◌}
+use mathlib.Core.Path.{◌≡◌}
 use Prim.Native.Nat.{◌+◌, ◌≤◌}
 use lib.ListN.{length}
 use Rattle.area.specs.Cells.{cells}
 use Rattle.intmap.specs.Runs.{size, sizes}
 use Rattle.encoding.specs.Heads.{single_nullable, on_heads}
-use borrow.Author.Rules.{rules}
 use Rattle.table_arms.proofs.null_cells.Given as goal
 
 abbrev pub invariant-loop-left : goal.invariant-loop-left

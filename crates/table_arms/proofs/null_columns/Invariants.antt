@@ -1,15 +1,11 @@
 -- `table_arms::null_columns` changes one head a turn. The invariant: what is left to be done to these cells gives what the whole gives to those of
 -- the entry, and the columns left lie within. The measure is their number. Assumes nothing.
-use mathlib.Core.Path.{◌≡◌, refl, ◌∙◌}
+use mathlib.Core.Path.{◌≡◌}
 use Prim.Native.Nat.{◌+◌, ◌≤◌}
-use native.Mathlib.Omega.{arith}
 use lib.ListN.{length}
 use Rattle.area.specs.Cells.{cells}
 use Rattle.intmap.specs.Runs.{size, sizes}
-use Rattle.intmap.proofs.RunLaws.{size-pos, sizes_step}
 use Rattle.encoding.specs.Heads.{single_nullable, on_heads}
-use Rattle.table_arms.proofs.NullLaws.{null-turn, null_room, null-done}
-use borrow.Author.Rules.{rules}
 use Rattle.table_arms.proofs.null_columns.Given as goal
 
 abbrev pub invariant-loop-left : goal.invariant-loop-left

@@ -5,7 +5,6 @@ use native.Mathlib.Omega.{arith}
 use Rattle.state.proofs.LeadsLaws.{current_held}
 use mathlib.Core.Path.{sym, ◌∙◌}
 use Rattle.cursor_arms.proofs.StandsLaws.{columns_led, flat_there}
-use borrow.Author.Rules.{rules}
 use Rattle.table_arms.proofs.null_row.Goals as goal
 
 pub read_cursor-p-requires : goal.read_cursor-p-requires

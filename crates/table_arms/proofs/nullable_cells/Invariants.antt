@@ -1,11 +1,6 @@
-use mathlib.Core.Path.{sym, ap, ◌∙◌}
-use Rattle.intmap.specs.Pack.{nullable_of}
-use Rattle.table_arms.proofs.NullLaws.{one_more, two_more}
-use native.Mathlib.Omega.{arith}
 use Prim.Native.Nat.{◌-◌, ◌≤◌}
 use Rattle.area.specs.Cells.{cells}
 use Rattle.table_arms.specs.Nulled.{AreNullable}
-use borrow.Author.Rules.{rules}
 use Rattle.table_arms.proofs.nullable_cells.Given as goal
 
 abbrev pub invariant-loop-k : goal.invariant-loop-k

@@ -1,6 +1,5 @@
 -- `table_arms::store_behind` makes a table of the record behind the map, and stores it. Assumes nothing.
 use Rattle.table_arms.proofs.InsertLaws.{stores_full, stores_done}
-use borrow.Author.Rules.{rules}
 use Rattle.table_arms.proofs.store_behind.Goals as goal
 
 pub returns-in-Full : goal.returns-in-Full

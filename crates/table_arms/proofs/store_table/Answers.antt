@@ -1,6 +1,5 @@
 -- `table_arms::store_table` puts a record over the table, or stores from behind the map. Assumes nothing.
 use native.Mathlib.Omega.{arith}
-use borrow.Author.Rules.{rules}
 use Rattle.state.proofs.LeadsLaws.{current_held}
 use Rattle.state.proofs.OverLaws.{still_current}
 use Rattle.table_arms.proofs.InsertLaws.{value-within, table-head, stores-over, stores_then}

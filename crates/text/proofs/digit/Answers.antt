@@ -1,7 +1,5 @@
 -- `text::digit`: a byte that is a digit, and not above the greatest number. Assumes nothing.
 use Rattle.text.proofs.NumberLaws.{single_low, single_high, single_over, single_is}
-use native.Mathlib.Omega.{arith}
-use borrow.Author.Rules.{rules}
 use Rattle.text.proofs.digit.Goals as goal
 
 pub returns-then-b-lt48 : goal.returns-then-b-lt48

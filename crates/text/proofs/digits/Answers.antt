@@ -1,11 +1,9 @@
--- `text::digits` reads digit by digit. The invariant: what is left, behind the number so far, gives what the whole text gives. Assumes nothing.
+-- What is left of `digits`, by the invariant of Invariants.antt. Assumes nothing.
 use Rattle.text.proofs.NumberLaws.{byte_low, byte_high, digit_on, digit_over, digits_end}
-use Rattle.text.specs.Digits.{digits_up_to}
-use borrow.Author.Rules.{rules}
-use lib.ListN.{length, drop, get_or}
+use lib.ListN.{get_or}
 use native.Mathlib.Omega.{arith}
-use Prim.Native.Nat.{◌-◌, ◌≤◌}
-use mathlib.Core.Path.{◌≡◌, refl, ◌∙◌}
+use Prim.Native.Nat.{◌-◌}
+use mathlib.Core.Path.{refl, ◌∙◌}
 use Rattle.text.proofs.digits.Goals as goal
 
 pub loop-i-init : goal.loop-i-init

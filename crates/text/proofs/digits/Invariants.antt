@@ -1,11 +1,8 @@
 -- `text::digits` reads digit by digit. The invariant: what is left, behind the number so far, gives what the whole text gives. Assumes nothing.
-use Rattle.text.proofs.NumberLaws.{byte_low, byte_high, digit_on, digit_over, digits_end}
 use Rattle.text.specs.Digits.{digits_up_to}
-use borrow.Author.Rules.{rules}
-use lib.ListN.{length, drop, get_or}
-use native.Mathlib.Omega.{arith}
+use lib.ListN.{length, drop}
 use Prim.Native.Nat.{◌-◌, ◌≤◌}
-use mathlib.Core.Path.{◌≡◌, refl, ◌∙◌}
+use mathlib.Core.Path.{◌≡◌}
 use Rattle.text.proofs.digits.Given as goal
 
 abbrev pub invariant-loop-i : goal.invariant-loop-i

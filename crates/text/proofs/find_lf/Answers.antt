@@ -1,11 +1,7 @@
--- `text::find_lf` goes from byte to byte. The invariant: what is left, behind the bytes so far, gives what the whole line gives. Assumes
--- nothing.
-use Rattle.text.proofs.LineLaws.{line_from, line_start, line_on, no_line, line_here}
-use Rattle.model.specs.Fields.{take_line}
-use lib.ListN.{length, drop}
+-- What is left of `find_lf`, by the invariant of Invariants.antt. Assumes nothing.
+use Rattle.text.proofs.LineLaws.{line_start, line_on, no_line, line_here}
 use native.Mathlib.Omega.{arith}
-use Prim.Native.Nat.{◌-◌, ◌≤◌}
-use mathlib.Core.Path.{◌≡◌, ◌∙◌}
+use mathlib.Core.Path.{◌∙◌}
 use Rattle.text.proofs.find_lf.Goals as goal
 
 pub loop-i-init : goal.loop-i-init

@@ -1,11 +1,10 @@
 -- `text::find_lf` goes from byte to byte. The invariant: what is left, behind the bytes so far, gives what the whole line gives. Assumes
 -- nothing.
-use Rattle.text.proofs.LineLaws.{line_from, line_start, line_on, no_line, line_here}
+use Rattle.text.proofs.LineLaws.{line_from}
 use Rattle.model.specs.Fields.{take_line}
 use lib.ListN.{length, drop}
-use native.Mathlib.Omega.{arith}
 use Prim.Native.Nat.{◌-◌, ◌≤◌}
-use mathlib.Core.Path.{◌≡◌, ◌∙◌}
+use mathlib.Core.Path.{◌≡◌}
 use Rattle.text.proofs.find_lf.Given as goal
 
 abbrev pub invariant-loop-i : goal.invariant-loop-i

@@ -1,7 +1,6 @@
 -- `text::natural`: a number that begins with 0 is that digit alone. Assumes nothing.
 use Rattle.text.proofs.NumberLaws.{empty-number, one_byte, leading_zero, other_digit}
 use mathlib.Core.Path.{◌∙◌}
-use borrow.Author.Rules.{rules}
 use Rattle.text.proofs.natural.Goals as goal
 
 pub returns-then-t-eq0 : goal.returns-then-t-eq0

@@ -5,7 +5,6 @@ use Rattle.model.specs.Numbers.{read_up_to}
 use native.Mathlib.Omega.{arith}
 use mathlib.Core.Option.{none, some}
 use mathlib.Core.Path.{sym, ap, ◌∙◌}
-use borrow.Author.Rules.{rules}
 use Rattle.text.proofs.number_at.Goals as goal
 
 pub returns-in_default : goal.returns-in_default

@@ -1,11 +1,8 @@
--- `text::starts` goes from byte to byte of the key. The invariant: what is left of both says what the whole says. Assumes nothing.
+-- What is left of `starts`, by the invariant of Invariants.antt. Assumes nothing.
 use Rattle.text.proofs.LineLaws.{key_long, key_end, key_other, key_on}
-use Rattle.type_info.specs.Ascii.{starts_with}
-use lib.ListN.{length, drop}
 use native.Mathlib.Nat.{add-zero}
 use native.Mathlib.Omega.{arith}
-use Prim.Native.Nat.{◌+◌, ◌-◌, ◌≤◌}
-use mathlib.Core.Path.{◌≡◌, ◌∙◌}
+use mathlib.Core.Path.{◌∙◌}
 use Rattle.text.proofs.starts.Goals as goal
 
 pub returns-then-t-at : goal.returns-then-t-at

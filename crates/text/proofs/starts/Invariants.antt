@@ -1,11 +1,8 @@
 -- `text::starts` goes from byte to byte of the key. The invariant: what is left of both says what the whole says. Assumes nothing.
-use Rattle.text.proofs.LineLaws.{key_long, key_end, key_other, key_on}
 use Rattle.type_info.specs.Ascii.{starts_with}
 use lib.ListN.{length, drop}
-use native.Mathlib.Nat.{add-zero}
-use native.Mathlib.Omega.{arith}
 use Prim.Native.Nat.{◌+◌, ◌-◌, ◌≤◌}
-use mathlib.Core.Path.{◌≡◌, ◌∙◌}
+use mathlib.Core.Path.{◌≡◌}
 use Rattle.text.proofs.starts.Given as goal
 
 abbrev pub invariant-loop-i : goal.invariant-loop-i

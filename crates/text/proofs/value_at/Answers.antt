@@ -1,8 +1,6 @@
 -- `text::value_at`: the key, then the line behind it. Assumes nothing.
-use borrow.Author.Tests.{not-true, not-false}
 use Rattle.text.proofs.LineLaws.{no_key, key_inside, value_open, value_ends}
 use native.Mathlib.Omega.{arith}
-use borrow.Author.Rules.{rules}
 use Rattle.text.proofs.value_at.Goals as goal
 
 pub returns-then-not-starts : goal.returns-then-not-starts

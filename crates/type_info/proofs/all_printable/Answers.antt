@@ -1,10 +1,6 @@
--- `type_info::all_printable` tests each byte. The invariant: what is left is printable exactly where the whole is.
--- Assumes nothing.
-use mathlib.Core.Path.{◌≡◌, refl, ◌∙◌}
-use Prim.Native.Nat.{◌-◌, ◌≤◌}
+-- What is left of `all_printable`, by the invariant of Invariants.antt. Assumes nothing.
+use mathlib.Core.Path.{refl, ◌∙◌}
 use native.Mathlib.Omega.{arith}
-use lib.ListN.{length, drop}
-use Rattle.type_info.specs.DeclaredType.{all_printable}
 use Rattle.type_info.proofs.Words.{printable_low, printable_high, printable_on, printable_end}
 use Rattle.type_info.proofs.all_printable.Goals as goal
 

@@ -1,11 +1,9 @@
 -- `type_info::all_printable` tests each byte. The invariant: what is left is printable exactly where the whole is.
 -- Assumes nothing.
-use mathlib.Core.Path.{◌≡◌, refl, ◌∙◌}
+use mathlib.Core.Path.{◌≡◌}
 use Prim.Native.Nat.{◌-◌, ◌≤◌}
-use native.Mathlib.Omega.{arith}
 use lib.ListN.{length, drop}
 use Rattle.type_info.specs.DeclaredType.{all_printable}
-use Rattle.type_info.proofs.Words.{printable_low, printable_high, printable_on, printable_end}
 use Rattle.type_info.proofs.all_printable.Given as goal
 
 abbrev pub invariant-loop-i : goal.invariant-loop-i

@@ -6,8 +6,7 @@ use mathlib.Core.List.{List}
 use Prim.Native.Nat.{ℕ, ◌<◌, ◌≤◌}
 use native.Mathlib.Omega.{arith}
 use lib.ListN.{length}
-use borrow.Author.Tests.{le-leb, lt-leb, not-true, not-false}
-use borrow.Author.Rules.{rules}
+use borrow.Author.Tests.{le-leb, lt-leb}
 use Rattle.type_info.specs.DeclaredType.{all_printable, answer_if, declared_type}
 use Rattle.type_info.specs.declared.DeclaredType.TheVariants.{Refused, Is}
 use Rattle.type_info.proofs.declared_type.Goals as goal

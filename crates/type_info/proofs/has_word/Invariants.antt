@@ -1,11 +1,9 @@
 -- `type_info::has_word` tries each place. The invariant: what is left of the text contains the word exactly where the whole does.
 -- Assumes nothing.
-use mathlib.Core.Path.{◌≡◌, refl, sym, ◌∙◌}
+use mathlib.Core.Path.{◌≡◌}
 use Prim.Native.Nat.{◌-◌, ◌≤◌}
-use native.Mathlib.Omega.{arith}
 use lib.ListN.{length, drop}
 use Rattle.type_info.specs.Ascii.{lowercase, contains}
-use Rattle.type_info.proofs.Words.{contains_here, contains_later, contains_end}
 use Rattle.type_info.proofs.has_word.Given as goal
 
 abbrev pub invariant-loop-i : goal.invariant-loop-i

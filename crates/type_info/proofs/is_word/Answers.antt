@@ -1,7 +1,6 @@
 -- `type_info::is_word`: a text of the word's length is the word where the word starts it.
 -- Assumes nothing.
 use mathlib.Core.Path.{sym, ◌∙◌}
-use borrow.Author.Rules.{rules}
 use Rattle.type_info.specs.Ascii.{lowercase}
 use Rattle.type_info.proofs.Words.{equals_starts, equals_other, length-lowercase}
 use Rattle.type_info.proofs.is_word.Goals as goal

@@ -1,6 +1,5 @@
 -- `type_info::lower` is the lower case of a byte: one law for each way out.
 -- Assumes nothing.
-use borrow.Author.Rules.{rules}
 use Rattle.type_info.proofs.Words.{lower_below, lower_above, lower_letter}
 use Rattle.type_info.proofs.lower.Goals as goal
 

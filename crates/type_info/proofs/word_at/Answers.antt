@@ -1,12 +1,9 @@
--- `type_info::word_at` compares byte by byte. The invariant: what is left of the text starts with what is left of the word exactly where the
--- whole does.
--- Assumes nothing.
-use mathlib.Core.Path.{◌≡◌, sym, ap, ◌∙◌}
-use Prim.Native.Nat.{◌+◌, ◌-◌, ◌≤◌}
+-- What is left of `word_at`, by the invariant of Invariants.antt. Assumes nothing.
+use mathlib.Core.Path.{sym, ap, ◌∙◌}
+use Prim.Native.Nat.{◌+◌}
 use native.Mathlib.Nat.{add-zero}
 use native.Mathlib.Omega.{arith}
-use lib.ListN.{length, drop}
-use borrow.Author.Rules.{rules}
+use lib.ListN.{drop}
 use Rattle.type_info.specs.Ascii.{lowercase, starts_with}
 use Rattle.type_info.proofs.Words.{word_short, word_differs, word_agrees, word_read}
 use Rattle.type_info.proofs.word_at.Goals as goal

@@ -1,14 +1,10 @@
 -- `type_info::word_at` compares byte by byte. The invariant: what is left of the text starts with what is left of the word exactly where the
 -- whole does.
 -- Assumes nothing.
-use mathlib.Core.Path.{◌≡◌, sym, ap, ◌∙◌}
+use mathlib.Core.Path.{◌≡◌}
 use Prim.Native.Nat.{◌+◌, ◌-◌, ◌≤◌}
-use native.Mathlib.Nat.{add-zero}
-use native.Mathlib.Omega.{arith}
 use lib.ListN.{length, drop}
-use borrow.Author.Rules.{rules}
 use Rattle.type_info.specs.Ascii.{lowercase, starts_with}
-use Rattle.type_info.proofs.Words.{word_short, word_differs, word_agrees, word_read}
 use Rattle.type_info.proofs.word_at.Given as goal
 
 abbrev pub invariant-loop-j : goal.invariant-loop-j

@@ -1,7 +1,6 @@
 -- `walk::add_branch` pushes a branch and keeps the rest of the walk as it is. Assumes nothing.
 use Rattle.walk.proofs.FollowLaws.{may_push}
 use Rattle.walk.proofs.BranchLaws.{adds_full, adds_done}
-use borrow.Author.Rules.{rules}
 use Rattle.walk.proofs.add_branch.Goals as goal
 
 pub push-x-requires : goal.push-x-requires

@@ -1,5 +1,4 @@
 -- `walk::alone`, by what a handling gave. Assumes nothing.
-use borrow.Author.Rules.{rules}
 use Rattle.walk.proofs.TurnLaws.{alone_repeat}
 use Rattle.walk.proofs.alone.Goals as goal
 

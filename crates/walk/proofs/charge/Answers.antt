@@ -1,5 +1,4 @@
 -- `walk::charge` takes a unit and counts it. Assumes nothing.
-use borrow.Author.Rules.{rules}
 use Rattle.walk.proofs.ListLaws.{charged_as}
 use Rattle.walk.proofs.charge.Goals as goal
 

@@ -1,6 +1,5 @@
 -- `walk::close` counts the current lineage and closes those that wait. Assumes nothing.
 use Rattle.walk.proofs.CloseLaws.{stopped_walking, closes_current}
-use borrow.Author.Rules.{rules}
 use Rattle.walk.proofs.close.Goals as goal
 
 pub close_all-requires : goal.close_all-requires

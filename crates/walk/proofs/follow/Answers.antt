@@ -1,6 +1,5 @@
 -- `walk::follow`, by what the handling gave. Assumes nothing.
 use Rattle.walk.proofs.AllLaws.{all_refused, may_ways, all_ways, may_three, all_three, may_result, all_result}
-use borrow.Author.Rules.{rules}
 use Rattle.walk.proofs.follow.Goals as goal
 
 pub follow_ways-requires : goal.follow_ways-requires

@@ -1,6 +1,5 @@
 -- `walk::follow_result` merges the row before its branch is offered. Assumes nothing.
 use Rattle.walk.proofs.ResultLaws.{result_holding, result_offering, result_full, result_walking, result_goes}
-use borrow.Author.Rules.{rules}
 use Rattle.walk.proofs.follow_result.Goals as goal
 
 pub add_branch-x-requires : goal.add_branch-x-requires

@@ -13,4 +13,4 @@ pub returns-in-Full : goal.returns-in-Full
 returns-in-Full c = three_over _ _ _ _ _ _ _ _ _ c.in-Full.is c.add_three-x.ensures
 
 pub returns-in-Done : goal.returns-in-Done
-returns-in-Done c = three_goes _ _ _ _ _ _ _ _ _ _ _ _ c.slice_known-1.given c.slice_known-2-1.given c.requires.0.less c.in-Done.is c.add_three-x.ensures c.go_on.ensures
+returns-in-Done c = three_goes _ _ _ _ _ _ _ _ _ _ _ _ (search rules) (search rules) c.requires.0.less c.in-Done.is c.add_three-x.ensures c.go_on.ensures

@@ -26,4 +26,4 @@ pub returns-in-Full : goal.returns-in-Full
 returns-in-Full c = ways-full _ _ _ _ _ _ _ _ _ c.in-To.is c.in-Full.is c.add_branch-x.ensures
 
 pub returns-in-Done : goal.returns-in-Done
-returns-in-Done c = ways-done _ _ _ _ _ _ _ _ _ c.args.repeat _ _ _ c.slice_known-1.given c.slice_known-in-To-1.given c.requires.0.less c.in-To.is c.in-Done.is c.add_branch-x.ensures c.note_repeat-in-Done.ensures c.go_on-in-Done.ensures
+returns-in-Done c = ways-done _ _ _ _ _ _ _ _ _ c.args.repeat _ _ _ (search rules) (search rules) c.requires.0.less c.in-To.is c.in-Done.is c.add_branch-x.ensures c.note_repeat-in-Done.ensures c.go_on-in-Done.ensures

@@ -1,7 +1,6 @@
 -- `walk::go_on`, by whether a state goes on and stands on a row. Assumes nothing.
 use mathlib.Core.Path.{sym, ◌∙◌}
 use Rattle.walk.proofs.UpLaws.{goes_nowhere, goes_off, goes_row}
-use borrow.Author.Rules.{rules}
 use Rattle.walk.proofs.go_on.Goals as goal
 
 pub returns-then-in_listing : goal.returns-then-in_listing

@@ -1,8 +1,5 @@
 -- `walk::in_listing` in its two tests. Assumes nothing.
 use Rattle.walk.proofs.ListLaws.{tested, tested_below}
-use borrow.Author.Rules.{rules}
-use mathlib.Core.Bool.{false}
-use borrow.Author.Tests.{leb-true}
 use Rattle.walk.proofs.in_listing.Goals as goal
 
 pub returns-then-row-ge-ZERO : goal.returns-then-row-ge-ZERO

@@ -1,5 +1,4 @@
 -- `walk::loop_stop` changes one count. Assumes nothing.
-use borrow.Author.Rules.{rules}
 use Rattle.walk.proofs.ListLaws.{counts_as}
 use Rattle.walk.proofs.loop_stop.Goals as goal
 

@@ -1,7 +1,6 @@
 -- `walk::next_in_place` hands the state and the row over in words. Assumes nothing.
 use native.Mathlib.Omega.{arith}
 use Rattle.walk.proofs.TurnLaws.{ready_near, number_near}
-use borrow.Author.Rules.{rules}
 use Rattle.walk.proofs.next_in_place.Goals as goal
 
 pub number-op-requires : goal.number-op-requires

@@ -1,5 +1,4 @@
 -- `walk::note_repeat` changes one count, by its test. Assumes nothing.
-use borrow.Author.Rules.{rules}
 use Rattle.walk.proofs.ListLaws.{noted_true, noted_false}
 use Rattle.walk.proofs.note_repeat.Goals as goal
 

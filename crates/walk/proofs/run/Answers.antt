@@ -1,10 +1,8 @@
--- `walk::run`. The invariant: the rest of the run from where the walk stands is the whole run. The measure is the budget that is left. Assumes nothing.
-use borrow.Author.Rules.{rules}
+-- What is left of `run`, by the invariant of Invariants.antt. Assumes nothing.
 use native.Mathlib.Omega.{arith}
 use mathlib.Core.Path.{◌∙◌}
-use Rattle.walk.proofs.RunLaws.{RunsTo, runs-first, runs_standing, may_close, runs_pause, runs_close, runs_refused, runs_ended, runs_next, runs_stays, runs_as}
+use Rattle.walk.proofs.RunLaws.{runs-first, runs_standing, may_close, runs_pause, runs_close, runs_refused, runs_ended, runs_next, runs_stays, runs_as}
 use Rattle.walk.proofs.TurnLaws.{may_charge}
-use mathlib.Core.Logic.{inl, inr}
 use Rattle.walk.proofs.run.Goals as goal
 use Rattle.walk.proofs.run.Goals.{in-Stays, in-Goes+in-OnRow}
 

@@ -1,8 +1,7 @@
--- `walk::take` takes up one after the other. The invariant: what is taken up from those that are left is what is taken up from all. The measure is the place of the latest. Assumes nothing.
+-- What is left of `take`, by the invariant of Invariants.antt. Assumes nothing.
 use native.Mathlib.Omega.{arith}
 use Rattle.walk.proofs.ListLaws.{row-tested}
-use borrow.Author.Rules.{rules}
-use Rattle.walk.proofs.TakeLaws.{Reaching, reach_first, reach_end, reach_nothing, reach_next, reach_row, reach_less, reach_inside, reach_latest}
+use Rattle.walk.proofs.TakeLaws.{reach_first, reach_end, reach_nothing, reach_next, reach_row, reach_less, reach_inside, reach_latest}
 use Rattle.walk.proofs.take.Goals as goal
 
 pub loop-list-init : goal.loop-list-init

@@ -1,8 +1,5 @@
 -- `walk::take` takes up one after the other. The invariant: what is taken up from those that are left is what is taken up from all. The measure is the place of the latest. Assumes nothing.
-use native.Mathlib.Omega.{arith}
-use Rattle.walk.proofs.ListLaws.{row-tested}
-use borrow.Author.Rules.{rules}
-use Rattle.walk.proofs.TakeLaws.{Reaching, reach_first, reach_end, reach_nothing, reach_next, reach_row, reach_less, reach_inside, reach_latest}
+use Rattle.walk.proofs.TakeLaws.{Reaching}
 use Rattle.walk.proofs.take.Given as goal
 
 abbrev pub invariant-loop-list : goal.invariant-loop-list

@@ -24,28 +24,28 @@ pub raise_count-requires : goal.raise_count-requires
 raise_count-requires c = record { inside = may_count c.requires; below = omega (arith, c.count_at-handled.ensures, c.if-handled-ge3.false) }
 
 pub row_at-x-requires : goal.row_at-x-requires
-row_at-x-requires c = row_inside c.requires.holds _ c.slice_known-1.given c.slice_known-3-1.given c.raise_count.ensures
+row_at-x-requires c = row_inside c.requires.holds _ (search rules) (search rules) c.raise_count.ensures
 
 pub next_in_place-row-requires : goal.next_in_place-row-requires
-next_in_place-row-requires c = is_ready c.requires.holds _ c.slice_known-1.given c.slice_known-3-1.given c.raise_count.ensures _ c.row_at-x.ensures
+next_in_place-row-requires c = is_ready c.requires.holds _ (search rules) (search rules) c.raise_count.ensures _ c.row_at-x.ensures
 
 pub returns-then-row-ne0 : goal.returns-then-row-ne0
-returns-then-row-ne0 c = turns_in_place c.requires _ c.charge-v.ensures _ _ c.slice_known-1.given c.slice_known-3-1.given c.type_inv.area c.raise_count.ensures c.next_in_place-row.auto.area _ c.row_at-x.ensures _ c.count_at-handled.ensures c.if-row-ne0.true c.next_in_place-row.ensures c.if-handled-ge3.false
+returns-then-row-ne0 c = turns_in_place c.requires _ c.charge-v.ensures _ _ (search rules) (search rules) c.type_inv.area c.raise_count.ensures c.next_in_place-row.auto.area _ c.row_at-x.ensures _ c.count_at-handled.ensures c.if-row-ne0.true c.next_in_place-row.ensures c.if-handled-ge3.false
 
 pub handle-h-requires : goal.handle-h-requires
-handle-h-requires c = may_handle c.requires.holds _ c.slice_known-1.given c.slice_known-3-1.given c.raise_count.ensures _ (c.next_in_place-row.ensures.no c.if-row-ne0.false)
+handle-h-requires c = may_handle c.requires.holds _ (search rules) (search rules) c.raise_count.ensures _ (c.next_in_place-row.ensures.no c.if-row-ne0.false)
 
 pub shape_of-area-then-in_listing : goal.shape_of-area-then-in_listing
 shape_of-area-then-in_listing c = c.handle-h.auto.area ∙ c.next_in_place-row.auto.area ∙ c.raise_count.auto.area
 
 pub returns-then-in_listing : goal.returns-then-in_listing
-returns-then-in_listing c = turns_stays c.requires _ c.charge-v.ensures _ _ c.slice_known-1.given c.slice_known-3-1.given c.type_inv.area c.raise_count.ensures (c.handle-h.auto.area ∙ c.next_in_place-row.auto.area) _ refl _ _ c.count_at-handled.ensures (handles_then (c.next_in_place-row.ensures.no c.if-row-ne0.false) c.handle-h.ensures) _ _ c.alone-on.ensures c.in-To.is (sym c.in_listing.ensures ∙ c.if-in_listing.true) c.if-handled-ge3.false
+returns-then-in_listing c = turns_stays c.requires _ c.charge-v.ensures _ _ (search rules) (search rules) c.type_inv.area c.raise_count.ensures (c.handle-h.auto.area ∙ c.next_in_place-row.auto.area) _ refl _ _ c.count_at-handled.ensures (handles_then (c.next_in_place-row.ensures.no c.if-row-ne0.false) c.handle-h.ensures) _ _ c.alone-on.ensures c.in-To.is (sym c.in_listing.ensures ∙ c.if-in_listing.true) c.if-handled-ge3.false
 
 pub follow-requires : goal.follow-requires
-follow-requires c = (handled_turning c.requires _ c.charge-v.ensures _ _ c.slice_known-1.given c.slice_known-3-1.given c.slice_known-5-1.given c.raise_count.ensures (c.handle-h.auto.area ∙ c.next_in_place-row.auto.area) _ refl _ _ c.count_at-handled.ensures (handles_then (c.next_in_place-row.ensures.no c.if-row-ne0.false) c.handle-h.ensures), handled_may c.requires _ c.charge-v.ensures _ _ c.slice_known-1.given c.slice_known-3-1.given c.slice_known-5-1.given c.raise_count.ensures (c.handle-h.auto.area ∙ c.next_in_place-row.auto.area) _ refl _ _ c.count_at-handled.ensures (handles_then (c.next_in_place-row.ensures.no c.if-row-ne0.false) c.handle-h.ensures))
+follow-requires c = (handled_turning c.requires _ c.charge-v.ensures _ _ (search rules) (search rules) (search rules) c.raise_count.ensures (c.handle-h.auto.area ∙ c.next_in_place-row.auto.area) _ refl _ _ c.count_at-handled.ensures (handles_then (c.next_in_place-row.ensures.no c.if-row-ne0.false) c.handle-h.ensures), handled_may c.requires _ c.charge-v.ensures _ _ (search rules) (search rules) (search rules) c.raise_count.ensures (c.handle-h.auto.area ∙ c.next_in_place-row.auto.area) _ refl _ _ c.count_at-handled.ensures (handles_then (c.next_in_place-row.ensures.no c.if-row-ne0.false) c.handle-h.ensures))
 
 pub shape_of-area : goal.shape_of-area
 shape_of-area c = c.follow.auto.area ∙ c.handle-h.auto.area ∙ c.next_in_place-row.auto.area ∙ c.raise_count.auto.area
 
 pub returns : goal.returns
-returns c = turns_handled c.requires _ c.charge-v.ensures _ _ c.slice_known-1.given c.slice_known-3-1.given c.slice_known-5-1.given c.raise_count.ensures (c.handle-h.auto.area ∙ c.next_in_place-row.auto.area) _ refl _ _ c.count_at-handled.ensures (handles_then (c.next_in_place-row.ensures.no c.if-row-ne0.false) c.handle-h.ensures) _ _ _ c.if-handled-ge3.false c.follow.ensures
+returns c = turns_handled c.requires _ c.charge-v.ensures _ _ (search rules) (search rules) (search rules) c.raise_count.ensures (c.handle-h.auto.area ∙ c.next_in_place-row.auto.area) _ refl _ _ c.count_at-handled.ensures (handles_then (c.next_in_place-row.ensures.no c.if-row-ne0.false) c.handle-h.ensures) _ _ _ c.if-handled-ge3.false c.follow.ensures

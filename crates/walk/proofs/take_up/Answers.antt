@@ -10,4 +10,4 @@ pub returns-in-Nothing : goal.returns-in-Nothing
 returns-in-Nothing c = none_left _ _ _ _ c.take-x.ensures _ c.in-Nothing.is
 
 pub returns-in-At : goal.returns-in-At
-returns-in-At c = is_current _ _ _ _ c.take-x.ensures _ _ c.in-At.is _ _ c.slice_known-1.given c.type_inv.area c.load.ensures
+returns-in-At c = is_current _ _ _ _ c.take-x.ensures _ _ c.in-At.is _ _ (search rules) c.type_inv.area c.load.ensures

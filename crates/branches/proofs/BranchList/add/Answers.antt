@@ -14,4 +14,4 @@ pub link-requires : goal.link-requires
 link-requires c = link_ready _ _ _ _ _ _ c.requires.0 _ _ _ _ c.save.ensures c.requires.2 (omega (arith, length-cells c.args.area.now, c.if-area-end.false))
 
 pub returns : goal.returns
-returns c = push_added _ _ _ _ _ _ c.requires.0 _ _ _ _ c.save.ensures c.requires.2 _ c.requires.1 (omega (arith, c.if-area-end.false)) c.link.ensures c.slice_known-1.given c.slice_known-2-1.given c.type_inv.area
+returns c = push_added _ _ _ _ _ _ c.requires.0 _ _ _ _ c.save.ensures c.requires.2 _ c.requires.1 (omega (arith, c.if-area-end.false)) c.link.ensures (search rules) (search rules) c.type_inv.area

@@ -1,5 +1,5 @@
 -- `BranchList::push` looks for the state, and adds it where it is not known. Assumes nothing.
-use Rattle.std.proofs.Common.{subst, rules}
+use Rattle.std.proofs.Common.{subst}
 use Rattle.branches.specs.Search.{Searches}
 use Rattle.branches.proofs.AddLaws.{push_known}
 use Rattle.branches.proofs.BranchList.push.Goals as goal

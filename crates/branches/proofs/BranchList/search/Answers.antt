@@ -1,7 +1,6 @@
--- `BranchList::search` goes down by a digit a turn. The invariant: the way of the state's hashes has led to p, and every place where the state is lies on the
--- way from there. The measure is how far the top is, since links lead to later places. Assumes nothing.
-use Rattle.std.proofs.Common.{◌-◌, ◌<◌, ◌≤◌, sym, refl, ◌∙◌, arith}
-use Rattle.branches.proofs.SearchLaws.{Searching, search_first, search_lies, search_later, search_next, search_known, search_free, search_end}
+-- What is left of `BranchList::search`, by the invariant of Invariants.antt. Assumes nothing.
+use Rattle.std.proofs.Common.{sym, refl, ◌∙◌, arith}
+use Rattle.branches.proofs.SearchLaws.{search_first, search_lies, search_later, search_next, search_known, search_free, search_end}
 use Rattle.branches.proofs.BranchList.search.Goals as goal
 
 pub loop-p-init : goal.loop-p-init

@@ -1,7 +1,7 @@
 -- `BranchList::search` goes down by a digit a turn. The invariant: the way of the state's hashes has led to p, and every place where the state is lies on the
 -- way from there. The measure is how far the top is, since links lead to later places. Assumes nothing.
-use Rattle.std.proofs.Common.{◌-◌, ◌<◌, ◌≤◌, sym, refl, ◌∙◌, arith}
-use Rattle.branches.proofs.SearchLaws.{Searching, search_first, search_lies, search_later, search_next, search_known, search_free, search_end}
+use Rattle.std.proofs.Common.{◌-◌, ◌<◌, ◌≤◌}
+use Rattle.branches.proofs.SearchLaws.{Searching}
 use Rattle.branches.proofs.BranchList.search.Given as goal
 
 abbrev pub invariant-loop-p : goal.invariant-loop-p

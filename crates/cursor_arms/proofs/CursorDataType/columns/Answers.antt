@@ -1,7 +1,6 @@
 -- `cursor_arms::CursorDataType::columns` goes by the kind of cursor. Assumes nothing.
 use Rattle.cursor_arms.proofs.StandsLaws.{row_small, entry-within, register_within, columns_bad, columns_absent, columns_normal, columns_pseudo}
 use native.Mathlib.Omega.{arith}
-use borrow.Author.Rules.{rules}
 use Rattle.cursor_arms.proofs.CursorDataType.columns.Goals as goal
 
 pub entry_at-requires : goal.entry_at-requires

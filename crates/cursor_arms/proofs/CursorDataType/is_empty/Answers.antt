@@ -1,7 +1,6 @@
 -- `cursor_arms::CursorDataType::is_empty` goes by the kind of cursor. Assumes nothing.
 use Rattle.cursor_arms.proofs.StandsLaws.{row_small, entry-within, empty_bad, empty_absent, empty_normal, empty_pseudo}
 use native.Mathlib.Omega.{arith}
-use borrow.Author.Rules.{rules}
 use Rattle.cursor_arms.proofs.CursorDataType.is_empty.Goals as goal
 
 pub entry_at-requires : goal.entry_at-requires

@@ -1,7 +1,6 @@
 -- `cursor_arms::CursorDataType::set_empty` changes the head of its table. Assumes nothing.
 use Rattle.cursor_arms.proofs.TableLaws.{empty_bad_place, empty_no_place, empty_within, empty_set}
 use native.Mathlib.Omega.{arith}
-use borrow.Author.Rules.{rules}
 use Rattle.cursor_arms.proofs.CursorDataType.set_empty.Goals as goal
 
 pub cell_at-requires : goal.cell_at-requires

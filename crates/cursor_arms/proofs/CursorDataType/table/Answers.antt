@@ -1,7 +1,6 @@
 -- `cursor_arms::CursorDataType::table` goes by the kind of cursor. Assumes nothing.
 use Rattle.cursor_arms.proofs.StandsLaws.{row_small, table_bad, table_absent, table_normal, table_pseudo}
 use native.Mathlib.Omega.{arith}
-use borrow.Author.Rules.{rules}
 use Rattle.cursor_arms.proofs.CursorDataType.table.Goals as goal
 
 pub entry_at-requires : goal.entry_at-requires

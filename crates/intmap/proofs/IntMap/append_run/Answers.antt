@@ -1,7 +1,6 @@
 -- `IntMap::append_run` copies the run behind all entries, and writes its head again under the key. Assumes nothing.
 use mathlib.Core.Path.{refl}
 use native.Mathlib.Omega.{arith}
-use borrow.Author.Rules.{rules}
 use Rattle.area.specs.Cells.{cells}
 use Rattle.intmap.proofs.StoreLaws.{room_map, few_entries, behind_full, behind_opened, run_pos, run_full, run_done}
 use Rattle.intmap.proofs.IntMap.append_run.Goals as goal

@@ -1,5 +1,4 @@
 -- `IntMap::copy_to` moves the cells, and the same cells are the same entries. Assumes nothing.
-use borrow.Author.Rules.{rules}
 use Rattle.intmap.proofs.MapLaws.{map-copied}
 use Rattle.intmap.proofs.IntMap.copy_to.Goals as goal
 

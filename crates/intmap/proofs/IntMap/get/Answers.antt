@@ -1,6 +1,5 @@
 -- `IntMap::get` judges the index, then looks for its key. Assumes nothing.
 use mathlib.Core.Path.{subst}
-use borrow.Author.Rules.{rules}
 use Rattle.intmap.specs.Get.{Within}
 use Rattle.intmap.proofs.GetLaws.{get_bad, get_absent, get_at}
 use Rattle.intmap.proofs.IntMap.get.Goals as goal

@@ -7,8 +7,6 @@ use Rattle.intmap.specs.Pack.{tag_of}
 use Rattle.intmap.proofs.RunLaws.{first-inside}
 use Rattle.intmap.proofs.Overwritten.{overwritten}
 use Rattle.intmap.proofs.StoreLaws.{room_map, found_column}
-use native.Mathlib.Omega.{arith}
-use borrow.Author.Rules.{rules}
 use Rattle.intmap.proofs.IntMap.insert_cell.Goals as goal
 
 pub find-found-requires : goal.find-found-requires

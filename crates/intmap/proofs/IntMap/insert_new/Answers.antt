@@ -8,7 +8,6 @@ use Rattle.area.proofs.MoveLaws.{length_moved}
 use Rattle.intmap.specs.Entries.{key_run}
 use Rattle.intmap.proofs.StoreLaws.{room_map, few_entries, new_within, new_full, new_opened, cell_full, cell_done}
 use native.Mathlib.Omega.{arith}
-use borrow.Author.Rules.{rules}
 use Rattle.intmap.proofs.IntMap.insert_new.Goals as goal
 
 pub returns-then-limit-self : goal.returns-then-limit-self

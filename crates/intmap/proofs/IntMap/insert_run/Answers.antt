@@ -1,6 +1,5 @@
 -- `IntMap::insert_run` searches, and stores there. Assumes nothing.
 use Rattle.intmap.proofs.StoreLaws.{room_map}
-use borrow.Author.Rules.{rules}
 use Rattle.intmap.proofs.IntMap.insert_run.Goals as goal
 
 pub find-found-requires : goal.find-found-requires

@@ -1,6 +1,5 @@
 -- `IntMap::insert_run_at` makes room, copies the run there, which lies above the room, and writes its head again under the key. Assumes nothing.
 use native.Mathlib.Omega.{arith}
-use borrow.Author.Rules.{rules}
 use Rattle.area.specs.Cells.{cells}
 use Rattle.intmap.proofs.StoreLaws.{opened_as, run_pos, run_full, run_fits, run_done}
 use Rattle.intmap.proofs.IntMap.insert_run_at.Goals as goal

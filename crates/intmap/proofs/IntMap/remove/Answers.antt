@@ -1,6 +1,5 @@
 -- `IntMap::remove` moves what comes after the entry down over it. Assumes nothing.
 use native.Mathlib.Omega.{arith}
-use borrow.Author.Rules.{rules}
 use Rattle.intmap.proofs.RunLaws.{first-inside}
 use Rattle.intmap.proofs.StoreLaws.{found_in, found_all, found_column, found_pos, removed_none, removed_old}
 use Rattle.intmap.proofs.IntMap.remove.Goals as goal

@@ -1,6 +1,5 @@
 -- `IntMap::remove_at` judges the index, then takes the entry under its key out. Assumes nothing.
 use mathlib.Core.Path.{refl, subst}
-use borrow.Author.Rules.{rules}
 use Rattle.intmap.specs.Get.{Within}
 use Rattle.intmap.proofs.JudgedLaws.{removal_bad, removal_done}
 use Rattle.intmap.proofs.IntMap.remove_at.Goals as goal

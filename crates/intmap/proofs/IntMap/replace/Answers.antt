@@ -4,7 +4,6 @@ use Rattle.intmap.specs.Entries.{key_run}
 use Rattle.intmap.specs.Pack.{key_of}
 use Rattle.intmap.proofs.StoreLaws.{opened_as, opened_in, cell_full, cell_done}
 use native.Mathlib.Omega.{arith}
-use borrow.Author.Rules.{rules}
 use Rattle.intmap.proofs.IntMap.replace.Goals as goal
 
 pub room_at-p-requires : goal.room_at-p-requires

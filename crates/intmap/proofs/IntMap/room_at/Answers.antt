@@ -1,7 +1,6 @@
 -- `IntMap::room_at` makes room where the search led: in the place of the entry that is there, or before the next. Assumes nothing.
 use mathlib.Core.Path.{sym}
 use native.Mathlib.Omega.{arith}
-use borrow.Author.Rules.{rules}
 use Rattle.area.specs.Cells.{cells}
 use Rattle.intmap.proofs.RunLaws.{first-inside}
 use Rattle.intmap.proofs.StoreLaws.{room_map, few_entries, found_in, found_all, found_column, opened_old, opened_new, opened_as}

@@ -2,7 +2,6 @@
 use mathlib.Core.Path.{refl, ap, subst}
 use Prim.Native.Nat.{ℕ}
 use native.Mathlib.Omega.{arith}
-use borrow.Author.Rules.{rules}
 use Rattle.area.specs.Cells.{cells}
 use Rattle.intmap.specs.Get.{Within}
 use Rattle.intmap.specs.Entries.{span}

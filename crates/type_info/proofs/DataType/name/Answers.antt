@@ -1,7 +1,6 @@
 -- `type_info::DataType::name` spells each name.
 -- Assumes nothing.
 use mathlib.Core.Path.{sym, ap}
-use borrow.Author.Rules.{rules}
 use Rattle.type_info.specs.Ascii.{ascii}
 use Rattle.type_info.specs.Names.{name_of, spelled}
 use Rattle.type_info.proofs.DataType.name.Goals as goal

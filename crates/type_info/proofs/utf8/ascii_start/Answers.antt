@@ -1,9 +1,6 @@
--- `type_info::utf8::ascii_start` counts bytes below 128. The invariant: they are passed, each as a character of its own. Assumes nothing.
+-- What is left of `utf8::ascii_start`, by the invariant of Invariants.antt. Assumes nothing.
 use mathlib.Core.Path.{refl, ◌∙◌}
-use Prim.Native.Nat.{◌-◌}
 use native.Mathlib.Omega.{arith}
-use lib.ListN.{length}
-use Rattle.type_info.specs.Utf8.{Passed}
 use Rattle.type_info.proofs.Automaton.{ascii_taken}
 use Rattle.type_info.proofs.utf8.ascii_start.Goals as goal
 

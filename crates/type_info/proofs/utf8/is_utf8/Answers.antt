@@ -1,7 +1,6 @@
 -- `type_info::utf8::is_utf8`: what is left behind the ASCII start decides, and nothing left is UTF-8. Assumes nothing.
 use mathlib.Core.Path.{◌∙◌}
 use native.Mathlib.Omega.{arith}
-use borrow.Author.Rules.{rules}
 use Rattle.type_info.specs.ByteClass.{expectations, expectation, expected}
 use Rattle.type_info.specs.Utf8.{is_utf8}
 use Rattle.type_info.proofs.Automaton.{at_end, checked}

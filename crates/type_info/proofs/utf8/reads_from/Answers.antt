@@ -1,5 +1,5 @@
 -- `type_info::utf8::reads_from`: the tables in the code hold what their rules compute. Assumes nothing.
-use Rattle.std.proofs.Common.{◌≡◌, ℕ, List, ◌+◌, ◌*◌, ◌<◌, ◌∙◌, refl, sym, subst, get_or, arith}
+use Rattle.std.proofs.Common.{◌≡◌, ℕ, ◌+◌, ◌*◌, ◌<◌, ◌∙◌, refl, sym, subst, get_or, arith}
 use Rattle.type_info.specs.ByteClass.{ClassOf, StateAfter, expectations, expectation, expected}
 use Rattle.type_info.specs.Utf8.{is_utf8}
 use Rattle.type_info.proofs.Tables.{class_table, state_table, classes_right, states_right}
