@@ -1,6 +1,6 @@
 // What each result column of a report is, and whether it may be blank: the entry of libcolumn_kinds.a, for C and C++.
 //
-//     rt staticlib column_kinds        writes target/staticlib/libcolumn_kinds.a (x86-64 Linux)
+//     host/archive        writes target/staticlib/libcolumn_kinds.a (x86-64 Linux)
 //     gcc -Iinclude program.c target/staticlib/libcolumn_kinds.a
 //
 // The archive needs memcpy and memset of the C library, and nothing else. README.md says what of it is proved; that C sees it so

@@ -1,6 +1,6 @@
 // Runs the entry `column_kinds` of the proved archive over files of cases and compares all that it gives.
 //
-//     rt staticlib column_kinds
+//     host/archive
 //     gcc -std=c11 -O2 -Wall -Wextra -Iinclude tests/cases.c target/staticlib/libcolumn_kinds.a -o target/cases
 //     target/cases [-t] CASES...          -t: the processor time of each call
 //

@@ -1,6 +1,6 @@
 """Why an answer is contradicted by a run: which operation is read otherwise than SQLite's opcode page has it.
 
-    rt staticlib column_kinds
+    host/archive
     python3 tests/causes.py FOLDER...           the contradictions of tests/seen.py by cause, as Markdown tables
     python3 tests/causes.py --list FOLDER...    one line for each contradiction: every single repair that removes it
     python3 tests/causes.py --moved FOLDER...   checks the rewriting: every row moved, no answer changes; exit status 1 if one does

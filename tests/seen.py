@@ -1,6 +1,6 @@
 """What the answers are worth: the call's answers on real listings, beside what the statements gave when they were run.
 
-    rt staticlib column_kinds
+    host/archive
     python3 tests/seen.py FOLDER...             the figures, as Markdown tables
     python3 tests/seen.py --wrong FOLDER...     one line for each answer that a run contradicts
 
@@ -45,7 +45,7 @@ class Port:
 
     def __init__(self):
         if not os.path.exists(ARCHIVE):
-            sys.exit('no %s: run rt staticlib column_kinds first' % ARCHIVE)
+            sys.exit('no %s: run host/archive first' % ARCHIVE)
         if not os.path.exists(SHARED) or os.path.getmtime(SHARED) < os.path.getmtime(ARCHIVE):
             subprocess.run(['gcc', '-shared', '-o', SHARED, '-Wl,--whole-archive', ARCHIVE, '-Wl,--no-whole-archive'], check=True)
         self.call = ctypes.CDLL(SHARED).column_kinds

@@ -1,4 +1,4 @@
-//! Links the proved archive, which `rt staticlib column_kinds` writes. COLUMN_KINDS_LIB names its folder;
+//! Links the proved archive, which `host/archive` writes. COLUMN_KINDS_LIB names its folder;
 //! without it the folder is target/staticlib of this repository.
 use std::env;
 use std::path::PathBuf;
@@ -9,7 +9,7 @@ fn main() {
     let folder = env::var("COLUMN_KINDS_LIB").map_or(here.join("../../target/staticlib"), PathBuf::from);
     let archive = folder.join("libcolumn_kinds.a");
     if !archive.is_file() {
-        panic!("there is no {}; rt staticlib column_kinds writes it", archive.display());
+        panic!("there is no {}; host/archive writes it", archive.display());
     }
     println!("cargo:rerun-if-changed={}", archive.display());
     println!("cargo:rustc-link-search=native={}", folder.display());

@@ -1,12 +1,6 @@
 -- The length in the call's result counts bytes of the answer buffer. Assumes nothing.
-use mathlib.Core.Path.{◌≡◌, sym}
-use mathlib.Core.List.{List}
-use Prim.Native.Nat.{ℕ, ◌≤◌, ◌%◌}
+use Rattle.std.proofs.Common.{◌≡◌, ℕ, ◌≤◌, ◌%◌, List, length, arith}
 use native.Mathlib.Decide.{ℕ_discrete}
-use native.Mathlib.Omega.{arith}
-use lib.ListN.{length}
-use lib.Seq.{length-take-le}
-use Rattle.io.specs.Counts.{IsPrefixLen}
 use Rattle.model.specs.Call.{call}
 use Rattle.column_kinds.specs.Calls.{Calls}
 
@@ -18,8 +12,5 @@ module _ (listing catalogue area area_then answer answer_then : List ℕ) (r : �
     | no ne ↦ omega (arith, (h.claims.refused ne).size)
   ]
 
-  pub length_counts : 65536 ≡ length answer → 65536 ≡ length answer_then → IsPrefixLen (r % 4294967296) answer_then
-  length_counts long long_then = (fits, sym (length-take-le (r % 4294967296) answer_then fits))
-    where
-      fits : r % 4294967296 ≤ length answer_then
-      fits = omega (arith, size_fits, h.result, long, long_then)
+  pub length_counts : 65536 ≡ length answer → 65536 ≡ length answer_then → r % 4294967296 ≤ length answer_then
+  length_counts long long_then = omega (arith, size_fits, h.result, long, long_then)

@@ -1,11 +1,14 @@
-// Prints what each result column of listing.txt is, by the tables of catalog.txt, or the refusal. 01, "Sample runs".
+// Prints what each result column of listing.txt is, by the tables of catalog.txt, or the refusal.
 // Both files are in the folder that the program runs in; one that is missing is empty.
 #![tactic(auto)]
 
-ghost use Rattle.std.specs.Prelude.{◌≡◌, ◌%◌, length};
-ghost use Rattle.io.specs.Counts.{IsPrefixLen};
+ghost use Rattle.std.specs.Prelude.{◌≡◌, ◌%◌, ◌≤◌, length, IfOk};
 
-use libc::STDOUT_FILENO;
+use reading::read_full;
+use std::fs::File;
+use std::io;
+use std::io::Read;
+use std::rt::Files;
 
 // A file that was read: how many of its bytes are in the buffer, and whether it has more.
 #[derive(Clone, Copy)]
@@ -21,61 +24,57 @@ fn catalogue_buffer() -> [u8; 32768]
 }
 
 // Whether there is a byte left to read.
-fn has_more(fd: i32) -> bool {
+fn has_more<R: Read>(reader: &mut R) -> io::Result<bool> {
     let mut byte = [0u8; 1];
-    io::read_full(fd, &mut byte) > 0
+    Ok(read_full(reader, &mut byte)? > 0)
 }
 
-fn read_file(name: &[u8], buf: &mut [u8]) -> Contents
-    ensures { IsPrefixLen result.len buf.new }
+fn read_file(rt: &impl Files, name: &str, buf: &mut [u8]) -> io::Result<Contents>
+    ensures { IfOk result (λ contents. contents.len ≤ length buf.new) }
 {
-    let fd = os::open_read(name);
-    if fd < 0 {
-        return Contents {
+    match File::open(rt, name) {
+        Err(_) => Ok(Contents {
             len: 0,
             longer: false,
-        };
+        }),
+        Ok(mut file) => {
+            let len = read_full(&mut file, buf)?;
+            let longer = has_more(&mut file)?;
+            Ok(Contents { len, longer })
+        }
     }
-    let len = io::read_full(fd, buf);
-    let longer = has_more(fd);
-    libc::close(fd);
-    Contents { len, longer }
 }
 
-fn print_refusal(number: u64) {
-    io::write_all(STDOUT_FILENO, b"refused=");
-    io::print_decimal(STDOUT_FILENO, number);
-    io::write_all(STDOUT_FILENO, b"\n");
+fn print_refusal(rt: &impl Print, number: u64) -> io::Result<()> {
+    println!(rt; "refused={number}")
 }
 
 // The call's result is number × 4,294,967,296 + length, and the number is 0 where there is an answer.
-fn print_result(res: u64, answer: &[u8])
-    requires { IsPrefixLen (res % 4294967296) answer.now }
+fn print_result(rt: &impl Print, res: u64, answer: &[u8]) -> io::Result<()>
+    requires { res % 4294967296 ≤ length answer.now }
 {
     let number = res / 4294967296;
     if number != 0 {
-        print_refusal(number);
-        return;
+        return print_refusal(rt, number);
     }
     let n = (res % 4294967296) as usize;
-    io::write_all(STDOUT_FILENO, &answer[..n]);
+    rt.write_all(&answer[..n])
 }
 
-fn print_kinds(listing: &[u8], catalogue: &[u8]) {
-    let mut area = io::large_buffer();
-    let mut answer = io::large_buffer();
+fn print_kinds(rt: &impl Print, listing: &[u8], catalogue: &[u8]) -> io::Result<()> {
+    let mut area = [0u8; 65536];
+    let mut answer = [0u8; 65536];
     let result = column_kinds::column_kinds(listing, catalogue, &mut area, &mut answer);
-    print_result(result, &answer);
+    print_result(rt, result, &answer)
 }
 
-fn main() {
-    let mut listing = io::large_buffer();
-    let rows = read_file(b"listing.txt", &mut listing);
+fn main(rt: HostRuntime) -> io::Result<()> {
+    let mut listing = [0u8; 65536];
+    let rows = read_file(&rt, "listing.txt", &mut listing)?;
     let mut catalogue = catalogue_buffer();
-    let records = read_file(b"catalog.txt", &mut catalogue);
+    let records = read_file(&rt, "catalog.txt", &mut catalogue)?;
     if rows.longer || records.longer {
-        print_refusal(3);
-        return;
+        return print_refusal(&rt, 3);
     }
-    print_kinds(&listing[..rows.len], &catalogue[..records.len]);
+    print_kinds(&rt, &listing[..rows.len], &catalogue[..records.len])
 }

@@ -1,4 +1,4 @@
-// The call: what each result column of a listing is, and whether it may be blank. 01, "The call".
+// The call: what each result column of a listing is, and whether it may be blank.
 #![tactic(auto)]
 
 ghost use Rattle.std.specs.Prelude.{◌≡◌, ◌≤◌};
@@ -159,8 +159,7 @@ fn call(listing: &[u8], catalogue: &[u8], area: &mut [u8], answer: &mut [u8]) ->
 }
 
 // The entry. Its number is 0 or a refusal; the result is number × 4,294,967,296 + length.
-#[unsafe(no_mangle)]
-pub extern "C" fn column_kinds(
+pub fn column_kinds(
     listing: &[u8],
     catalogue: &[u8],
     area: &mut [u8],

@@ -2,38 +2,42 @@
 // An argument that is missing, or too long for the buffer, is refused as an empty one is.
 #![tactic(auto)]
 
-use libc::STDOUT_FILENO;
+ghost use Rattle.std.specs.Prelude.{◌≤◌, length};
+
+use std::io;
+use std::rt::Env;
 use type_info::DeclaredType;
 
-fn print_name(bytes: [u8; 8], len: usize) {
+fn print_name(rt: &impl Print, bytes: [u8; 8], len: usize) -> io::Result<()> {
     if len <= 8 {
-        io::write_all(STDOUT_FILENO, &bytes[..len]);
+        rt.write_all(&bytes[..len])?;
     }
-    io::write_all(STDOUT_FILENO, b"\n");
+    rt.write_all(b"\n")
 }
 
-fn print(answer: DeclaredType) {
+fn print(rt: &impl Print, answer: DeclaredType) -> io::Result<()> {
     match answer {
-        DeclaredType::Refused(number) => {
-            io::write_all(STDOUT_FILENO, b"refused=");
-            io::print_decimal(STDOUT_FILENO, number as u64);
-            io::write_all(STDOUT_FILENO, b"\n");
-        }
+        DeclaredType::Refused(number) => println!(rt; "refused={number}"),
         DeclaredType::Is(kind, affinity) => {
-            io::write_all(STDOUT_FILENO, b"type=");
+            rt.write_all(b"type=")?;
             let name = kind.name();
-            let bytes = name.0;
-            print_name(bytes, name.1);
-            io::write_all(STDOUT_FILENO, b"affinity=");
+            print_name(rt, name.0, name.1)?;
+            rt.write_all(b"affinity=")?;
             let name = affinity.name();
-            let bytes = name.0;
-            print_name(bytes, name.1);
+            print_name(rt, name.0, name.1)
         }
     }
 }
 
-fn main() {
-    let mut text = io::buffer();
-    let n = os::arg(1, &mut text);
-    print(type_info::declared_type(&text[..n]));
+// Puts the first argument at the start of the buffer, and answers how many bytes it has: none if it is missing or longer than the buffer.
+fn argument(rt: &impl Env, buf: &mut [u8]) -> usize
+    ensures { result ≤ length buf.new }
+{
+    rt.arg(1, buf).unwrap_or(0)
+}
+
+fn main(rt: HostRuntime) -> io::Result<()> {
+    let mut text = [0u8; 4096];
+    let n = argument(&rt, &mut text);
+    print(&rt, type_info::declared_type(&text[..n]))
 }

@@ -4,33 +4,30 @@
 
 ghost use Rattle.std.specs.Prelude.{◌≤◌, ◌<◌, length};
 
-use libc::STDOUT_FILENO;
+use reading::read_full;
+use std::io;
 use type_info::DeclaredType;
 
-fn print(text: &[u8]) {
-    io::write_all(STDOUT_FILENO, text);
+fn print(rt: &impl Print, text: &[u8]) -> io::Result<()> {
+    rt.write_all(text)
 }
 
-fn print_name(bytes: [u8; 8], len: usize) {
+fn print_name(rt: &impl Print, bytes: [u8; 8], len: usize) -> io::Result<()> {
     if len <= 8 {
-        print(&bytes[..len]);
+        print(rt, &bytes[..len])?;
     }
+    Ok(())
 }
 
-fn show_type(text: &[u8]) {
+fn show_type(rt: &impl Print, text: &[u8]) -> io::Result<()> {
     match type_info::declared_type(text) {
-        DeclaredType::Refused(number) => {
-            print(b"refused=");
-            io::print_decimal(STDOUT_FILENO, number as u64);
-        }
+        DeclaredType::Refused(number) => print!(rt; "refused={number}"),
         DeclaredType::Is(kind, affinity) => {
             let name = kind.name();
-            let bytes = name.0;
-            print_name(bytes, name.1);
-            print(b" ");
+            print_name(rt, name.0, name.1)?;
+            print(rt, b" ")?;
             let name = affinity.name();
-            let bytes = name.0;
-            print_name(bytes, name.1);
+            print_name(rt, name.0, name.1)
         }
     }
 }
@@ -62,28 +59,28 @@ fn decode(hex: &[u8], out: &mut [u8]) -> usize
     n
 }
 
-fn show_utf8(hex: &[u8]) {
+fn show_utf8(rt: &impl Print, hex: &[u8]) -> io::Result<()> {
     let mut bytes = [0u8; 64];
     let n = decode(hex, &mut bytes);
     if type_info::utf8::is_utf8(&bytes[..n]) {
-        print(b"yes");
+        print(rt, b"yes")
     } else {
-        print(b"no");
+        print(rt, b"no")
     }
 }
 
-fn show(line: &[u8]) {
+fn show(rt: &impl Print, line: &[u8]) -> io::Result<()> {
     if line.len() < 2 {
-        return;
+        return Ok(());
     }
-    print(line);
-    print(b": ");
+    print(rt, line)?;
+    print(rt, b": ")?;
     if line[0] == b't' {
-        show_type(&line[2..]);
+        show_type(rt, &line[2..])?;
     } else {
-        show_utf8(&line[2..]);
+        show_utf8(rt, &line[2..])?;
     }
-    print(b"\n");
+    print(rt, b"\n")
 }
 
 // Where the line that starts at `at` ends: at its LF, or with the text.
@@ -101,17 +98,18 @@ fn line_end(s: &[u8], at: usize) -> usize
     end
 }
 
-fn show_all(s: &[u8]) {
+fn show_all(rt: &impl Print, s: &[u8]) -> io::Result<()> {
     let mut at: usize = 0;
     while at < s.len() {
         let end = line_end(s, at);
-        show(&s[at..end]);
+        show(rt, &s[at..end])?;
         at = end + 1;
     }
+    Ok(())
 }
 
-fn main() {
-    let mut input = io::large_buffer();
-    let n = io::read_full(0, &mut input);
-    show_all(&input[..n]);
+fn main(rt: HostRuntime) -> io::Result<()> {
+    let mut input = [0u8; 65536];
+    let n = read_full(&mut rt.stdin(), &mut input)?;
+    show_all(&rt, &input[..n])
 }

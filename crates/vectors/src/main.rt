@@ -18,9 +18,14 @@
 // that the area is zero. Printed are the disagreements, how many cases each file has, and how often the entry gave each number.
 #![tactic(auto)]
 
-ghost use Rattle.std.specs.Prelude.{◌≡◌, ◌+◌, ◌≤◌, length};
+ghost use Rattle.std.specs.Prelude.{◌≡◌, ◌+◌, ◌≤◌, length, vec_len, IfOk};
 
-use libc::STDOUT_FILENO;
+use itoa::Buffer;
+use reading::read_full;
+use std::alloc::{AllocError, Global};
+use std::fs::File;
+use std::io;
+use std::rt::Files;
 
 // What the entry's number is multiplied by, and the length is added to.
 const NUMBER: u64 = 4294967296;
@@ -143,15 +148,15 @@ impl Progress {
 }
 
 fn next(n: u64) -> u64 {
-    std::num::wrapping_add_u64(n, 1)
+    n.wrapping_add(1)
 }
 
-fn print(text: &[u8]) {
-    io::write_all(STDOUT_FILENO, text);
+fn print(rt: &impl Print, text: &[u8]) -> io::Result<()> {
+    rt.write_all(text)
 }
 
-fn print_number(n: u64) {
-    io::print_decimal(STDOUT_FILENO, n);
+fn print_number(rt: &impl Print, n: u64) -> io::Result<()> {
+    print!(rt; "{n}")
 }
 
 // The part of a text between two places, or nothing where there is none.
@@ -184,9 +189,8 @@ fn put(out: &mut [u8], at: usize, text: &[u8]) -> usize {
 }
 
 fn put_number(out: &mut [u8], at: usize, n: u64) -> usize {
-    let mut digits = [0u8; 20];
-    let k = io::decimal(n, &mut digits);
-    put(out, at, &digits[..k])
+    let mut digits = Buffer::new();
+    put(out, at, digits.format(n).as_bytes())
 }
 
 // The value of a hexadecimal digit; of any other byte a number below 16.
@@ -256,7 +260,7 @@ fn put_field_byte(out: &mut [u8], at: Fields, byte: u8) -> Fields {
     if byte == b' ' {
         return Fields {
             end: put_label(out, at.end, at.label),
-            label: std::num::wrapping_add_u8(at.label, 1),
+            label: at.label.wrapping_add(1),
         };
     }
     Fields {
@@ -471,52 +475,61 @@ fn all_are(s: &[u8], byte: u8) -> bool {
     other == 0
 }
 
-fn differ(name: &[u8], what: &[u8], is: u64, must: u64) {
-    print(name);
-    print(b": ");
-    print(what);
-    print(b" ");
-    print_number(is);
-    print(b" and not ");
-    print_number(must);
-    print(b"\n");
+fn differ(rt: &impl Print, name: &[u8], what: &[u8], is: u64, must: u64) -> io::Result<()> {
+    print(rt, name)?;
+    print(rt, b": ")?;
+    print(rt, what)?;
+    print(rt, b" ")?;
+    print_number(rt, is)?;
+    print(rt, b" and not ")?;
+    print_number(rt, must)?;
+    print(rt, b"\n")
 }
 
-fn differs(name: &[u8], what: &[u8]) {
-    print(name);
-    print(b": ");
-    print(what);
-    print(b"\n");
+fn differs(rt: &impl Print, name: &[u8], what: &[u8]) -> io::Result<()> {
+    print(rt, name)?;
+    print(rt, b": ")?;
+    print(rt, what)?;
+    print(rt, b"\n")
 }
 
 // Whether a call left what it must; the first difference is printed.
-fn agrees(name: &[u8], number: u64, expected: &[u8], res: u64, area: &[u8], answer: &[u8]) -> bool {
+fn agrees(
+    rt: &impl Print,
+    name: &[u8],
+    number: u64,
+    expected: &[u8],
+    res: u64,
+    area: &[u8],
+    answer: &[u8],
+) -> io::Result<bool> {
     let length = res % NUMBER;
     if res / NUMBER != number {
-        differ(name, b"number", res / NUMBER, number);
-        return false;
+        differ(rt, name, b"number", res / NUMBER, number)?;
+        return Ok(false);
     }
     if length != (expected.len() as u64) {
-        differ(name, b"length", length, expected.len() as u64);
-        return false;
+        differ(rt, name, b"length", length, expected.len() as u64)?;
+        return Ok(false);
     }
     if !starts(answer, expected) {
-        differs(name, b"the answer's bytes");
-        return false;
+        differs(rt, name, b"the answer's bytes")?;
+        return Ok(false);
     }
     if !all_are(part(answer, length as usize, answer.len()), ANSWER_FILL) {
-        differs(name, b"bytes behind the answer");
-        return false;
+        differs(rt, name, b"bytes behind the answer")?;
+        return Ok(false);
     }
     if !all_are(area, 0) {
-        differs(name, b"the area is not zero");
-        return false;
+        differs(rt, name, b"the area is not zero")?;
+        return Ok(false);
     }
-    true
+    Ok(true)
 }
 
 // Calls the entry on what a case has built, all of it lent.
 fn call(
+    rt: &impl Print,
     name: &[u8],
     number: u64,
     listing: &[u8],
@@ -524,14 +537,14 @@ fn call(
     expected: &[u8],
     area: &mut [u8],
     answer: &mut [u8],
-) -> Outcome {
+) -> io::Result<Outcome> {
     fill(area, AREA_FILL);
     fill(answer, ANSWER_FILL);
     let result = column_kinds::column_kinds(listing, catalogue, area, answer);
-    Outcome {
+    Ok(Outcome {
         number: result / NUMBER,
-        agrees: agrees(name, number, expected, result, area, answer),
-    }
+        agrees: agrees(rt, name, number, expected, result, area, answer)?,
+    })
 }
 
 // Whether a text did not fit its buffer.
@@ -545,6 +558,7 @@ fn expected_end(number: u64, p: Progress) -> usize {
 }
 
 fn gives(
+    rt: &impl Print,
     name: &[u8],
     number: u64,
     listing: &[u8],
@@ -553,7 +567,7 @@ fn gives(
     area: &mut [u8],
     answer: &mut [u8],
     p: Progress,
-) -> Progress {
+) -> io::Result<Progress> {
     let rows = p.listing;
     let lent = p.area;
     let room = p.room;
@@ -561,15 +575,16 @@ fn gives(
         || is_full(p.catalogue, catalogue)
         || is_full(p.expected, expected)
     {
-        differs(name, b"a text does not fit");
-        return p.counted(Outcome {
+        differs(rt, name, b"a text does not fit")?;
+        return Ok(p.counted(Outcome {
             number: 13,
             agrees: false,
-        });
+        }));
     }
     if lent <= area.len() {
         if room <= answer.len() {
             let outcome = call(
+                rt,
                 name,
                 number,
                 part(listing, 0, rows.end),
@@ -577,19 +592,20 @@ fn gives(
                 part(expected, 0, expected_end(number, p)),
                 &mut area[..lent],
                 &mut answer[..room],
-            );
-            return p.counted(outcome);
+            )?;
+            return Ok(p.counted(outcome));
         }
     }
-    differs(name, b"more is lent than there is");
-    p.counted(Outcome {
+    differs(rt, name, b"more is lent than there is")?;
+    Ok(p.counted(Outcome {
         number: 13,
         agrees: false,
-    })
+    }))
 }
 
 // One line of the text.
 fn step(
+    rt: &impl Print,
     text: &[u8],
     at: Span,
     listing: &mut [u8],
@@ -598,22 +614,23 @@ fn step(
     area: &mut [u8],
     answer: &mut [u8],
     p: Progress,
-) -> Progress {
+) -> io::Result<Progress> {
     let line = part(text, at.from, at.to);
     if starts(line, b"again ") {
         let last = p.line;
-        return again(
+        return Ok(again(
             read_number(part(line, 6, line.len())),
             part(text, last.from, last.to),
             listing,
             catalogue,
             expected,
             p,
-        );
+        ));
     }
     if starts(line, b"gives ") {
         let name = p.name;
         return gives(
+            rt,
             part(text, name.from, name.to),
             read_number(part(line, 6, line.len())),
             listing,
@@ -626,7 +643,7 @@ fn step(
     }
     let mut q = p;
     q.line = at;
-    build(line, listing, catalogue, expected, q)
+    Ok(build(line, listing, catalogue, expected, q))
 }
 
 // Where the line that starts at `at` ends: at its LF, or with the text.
@@ -645,6 +662,7 @@ fn line_end(s: &[u8], at: usize) -> usize
 }
 
 fn replay(
+    rt: &impl Print,
     text: &[u8],
     listing: &mut [u8],
     catalogue: &mut [u8],
@@ -652,13 +670,14 @@ fn replay(
     area: &mut [u8],
     answer: &mut [u8],
     p: Progress,
-) -> Progress {
+) -> io::Result<Progress> {
     let mut q = p;
     let mut at: usize = 0;
     while at < text.len() {
         let end = line_end(text, at);
         let after = end + 1;
         q = step(
+            rt,
             text,
             Span { from: at, to: end },
             listing,
@@ -667,39 +686,44 @@ fn replay(
             area,
             answer,
             q,
-        );
+        )?;
         at = after;
     }
-    q
+    Ok(q)
+}
+
+// Opens the file of this name, if there is one. A name that is not UTF-8 names none.
+fn open<R: Files>(rt: &R, name: &[u8]) -> Option<R::File> {
+    let name = str::from_utf8(name).ok()?;
+    File::open(rt, name).ok()
 }
 
 // Reads a file, and answers how many bytes it has: none if it is missing or fills the buffer.
-fn read_file(name: &[u8], text: &mut [u8]) -> usize {
-    let fd = os::open_read(name);
-    if fd < 0 {
-        differs(name, b"missing");
-        return 0;
-    }
-    let n = io::read_full(fd, text);
-    libc::close(fd);
+fn read_file(rt: &(impl Files + Print), name: &[u8], text: &mut [u8]) -> io::Result<usize> {
+    let Some(mut file) = open(rt, name) else {
+        differs(rt, name, b"missing")?;
+        return Ok(0);
+    };
+    let n = read_full(&mut file, text)?;
     if n == text.len() {
-        differs(name, b"too long");
-        return 0;
+        differs(rt, name, b"too long")?;
+        return Ok(0);
     }
-    n
+    Ok(n)
 }
 
 // Prints how many cases a file had.
-fn reported(name: &[u8], before: u64, p: Progress) -> Progress {
-    print(name);
-    print(b": ");
-    print_number(std::num::wrapping_sub_u64(p.calls, before));
-    print(b" cases\n");
-    p
+fn reported(rt: &impl Print, name: &[u8], before: u64, p: Progress) -> io::Result<Progress> {
+    print(rt, name)?;
+    print(rt, b": ")?;
+    print_number(rt, p.calls.wrapping_sub(before))?;
+    print(rt, b" cases\n")?;
+    Ok(p)
 }
 
 // Replays a file, from an empty listing and an empty catalogue on.
 fn replay_file(
+    rt: &(impl Files + Print),
     name: &[u8],
     text: &mut [u8],
     listing: &mut [u8],
@@ -708,9 +732,10 @@ fn replay_file(
     area: &mut [u8],
     answer: &mut [u8],
     p: Progress,
-) -> Progress {
-    let n = read_file(name, text);
+) -> io::Result<Progress> {
+    let n = read_file(rt, name, text)?;
     let q = replay(
+        rt,
         part(text, 0, n),
         listing,
         catalogue,
@@ -718,11 +743,12 @@ fn replay_file(
         area,
         answer,
         p.emptied(),
-    );
-    reported(name, p.calls, q)
+    )?;
+    reported(rt, name, p.calls, q)
 }
 
 fn replay_files(
+    rt: &(impl Files + Print),
     names: &[u8],
     text: &mut [u8],
     listing: &mut [u8],
@@ -730,13 +756,14 @@ fn replay_files(
     expected: &mut [u8],
     area: &mut [u8],
     answer: &mut [u8],
-) -> Progress {
+) -> io::Result<Progress> {
     let mut q = Progress::new();
     let mut at: usize = 0;
     while at < names.len() {
         let end = line_end(names, at);
         let after = end + 1;
         q = replay_file(
+            rt,
             part(names, at, end),
             text,
             listing,
@@ -745,37 +772,33 @@ fn replay_files(
             area,
             answer,
             q,
-        );
+        )?;
         at = after;
     }
-    q
+    Ok(q)
 }
 
-fn print_count(number: usize, count: u64) {
-    print(b"number ");
-    print_number(number as u64);
-    print(b": ");
-    print_number(count);
-    print(b"\n");
+fn print_count(rt: &impl Print, number: usize, count: u64) -> io::Result<()> {
+    println!(rt; "number {number}: {count}")
 }
 
-fn print_counts(p: Progress) {
+fn print_counts(rt: &impl Print, p: Progress) -> io::Result<()> {
     let mut number: usize = 0;
     while number < 13 {
-        print_count(number, p.numbers[number]);
+        print_count(rt, number, p.numbers[number])?;
         number += 1;
     }
+    Ok(())
 }
 
-fn print_totals(p: Progress) {
-    print_counts(p);
-    print_number(p.calls);
-    print(b" cases, ");
-    print_number(p.disagree);
-    print(b" disagree\n");
+fn print_totals(rt: &impl Print, p: Progress) -> io::Result<()> {
+    print_counts(rt, p)?;
+    let calls = p.calls;
+    let disagree = p.disagree;
+    println!(rt; "{calls} cases, {disagree} disagree")
 }
 
-// The buffers are on the stack, of which a process commonly has 8 MiB.
+// The smaller buffers are on the stack.
 fn buffer_128k() -> [u8; 131072]
     ensures { 131072 ≡ length result }
 {
@@ -794,22 +817,24 @@ fn buffer_512k() -> [u8; 524288]
     [0; 524288]
 }
 
-fn buffer_6m() -> [u8; 6291456]
-    ensures { 6291456 ≡ length result }
+// The work area is on the heap: it alone would fill most of the stack.
+fn buffer_6m(alloc: Global) -> Result<Vec<u8>, AllocError>
+    ensures { IfOk result (λ buffer. 6291456 ≡ vec_len buffer) }
 {
-    [0; 6291456]
+    Vec::from_elem(alloc, 0u8, 6291456)
 }
 
-fn main() {
-    let mut input = io::buffer();
-    let n = io::read_full(0, &mut input);
+fn main(rt: HostRuntime) -> io::Result<()> {
+    let mut input = [0u8; 4096];
+    let n = read_full(&mut rt.stdin(), &mut input)?;
     let mut text = buffer_512k();
     let mut listing = buffer_128k();
     let mut catalogue = buffer_256k();
     let mut expected = buffer_128k();
-    let mut area = buffer_6m();
+    let mut area = buffer_6m(rt.alloc())?;
     let mut answer = buffer_128k();
-    print_totals(replay_files(
+    let progress = replay_files(
+        &rt,
         &input[..n],
         &mut text,
         &mut listing,
@@ -817,5 +842,6 @@ fn main() {
         &mut expected,
         &mut area,
         &mut answer,
-    ));
+    )?;
+    print_totals(&rt, progress)
 }
