@@ -18,11 +18,10 @@
 // that the area is zero. Printed are the disagreements, how many cases each file has, and how often the entry gave each number.
 #![tactic(auto)]
 
-ghost use Rattle.std.specs.Prelude.{◌≡◌, ◌+◌, ◌≤◌, length, vec_len, IfOk};
+ghost use Rattle.std.specs.Prelude.{◌≡◌, ◌+◌, ◌≤◌, length};
 
 use itoa::Buffer;
 use reading::read_full;
-use std::alloc::{AllocError, Global};
 use std::fs::File;
 use std::io;
 use std::rt::Files;
@@ -798,7 +797,7 @@ fn print_totals(rt: &impl Print, p: Progress) -> io::Result<()> {
     println!(rt; "{calls} cases, {disagree} disagree")
 }
 
-// The smaller buffers are on the stack.
+// The buffers are on the stack, of which a process commonly has 8 MiB.
 fn buffer_128k() -> [u8; 131072]
     ensures { 131072 ≡ length result }
 {
@@ -817,11 +816,10 @@ fn buffer_512k() -> [u8; 524288]
     [0; 524288]
 }
 
-// The work area is on the heap: it alone would fill most of the stack.
-fn buffer_6m(alloc: Global) -> Result<Vec<u8>, AllocError>
-    ensures { IfOk result (λ buffer. 6291456 ≡ vec_len buffer) }
+fn buffer_6m() -> [u8; 6291456]
+    ensures { 6291456 ≡ length result }
 {
-    Vec::from_elem(alloc, 0u8, 6291456)
+    [0; 6291456]
 }
 
 fn main(rt: HostRuntime) -> io::Result<()> {
@@ -831,7 +829,7 @@ fn main(rt: HostRuntime) -> io::Result<()> {
     let mut listing = buffer_128k();
     let mut catalogue = buffer_256k();
     let mut expected = buffer_128k();
-    let mut area = buffer_6m(rt.alloc())?;
+    let mut area = buffer_6m();
     let mut answer = buffer_128k();
     let progress = replay_files(
         &rt,
