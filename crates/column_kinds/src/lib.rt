@@ -159,12 +159,7 @@ fn call(listing: &[u8], catalogue: &[u8], area: &mut [u8], answer: &mut [u8]) ->
 }
 
 // The entry. Its number is 0 or a refusal; the result is number × 4,294,967,296 + length.
-pub fn column_kinds(
-    listing: &[u8],
-    catalogue: &[u8],
-    area: &mut [u8],
-    answer: &mut [u8],
-) -> u64
+pub fn column_kinds(listing: &[u8], catalogue: &[u8], area: &mut [u8], answer: &mut [u8]) -> u64
     ensures { Calls listing.now catalogue.now area.old area.new answer.old answer.new result }
 {
     let x = call(listing, catalogue, area, answer);
