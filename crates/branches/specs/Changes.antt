@@ -1,6 +1,6 @@
 -- What the parts of `push` write: a state with its header and its counts at a place, and a link to it. What they and `load` and `pop` ask for.
 -- Assumes nothing.
-use Rattle.std.specs.Prelude.{◌≡◌, ℕ, ◌+◌, ◌%◌, ◌<◌, ◌≤◌, List, length, get_or, ◌≢◌, slice_index_or}
+use Rattle.std.specs.Prelude.{◌≡◌, ℕ, ◌+◌, ◌%◌, ◌<◌, ◌≤◌, List, length, get_or, ◌≢◌}
 use Rattle.model.specs.State.{MemoryState as Defined}
 use Rattle.area.specs.Cells.{cell, blank, cells}
 use Rattle.area.specs.Counts.{count as count_at}
@@ -57,7 +57,7 @@ pub record Linked (cs ds : List Cell) (p bits q : ℕ) : Type 0 where
   pub other : (b : ℕ) → (b % 3 ≢ bits % 3) → child ds p b ≡ child cs p b
   pub alike : (b : ℕ) → b % 3 ≡ bits % 3 → child ds p b ≡ q
   pub sizes : sizes_at ds p ≡ sizes_at cs p
-  pub elsewhere : (j : ℕ) → (j ≢ p + 1) → slice_index_or ds j blank ≡ slice_index_or cs j blank
+  pub elsewhere : (j : ℕ) → (j ≢ p + 1) → get_or ds j blank ≡ get_or cs j blank
   pub long : length ds ≡ length cs
 
 -- at place 0 there is none, and nothing is changed

@@ -1,7 +1,7 @@
 -- A remembered state in the area: two header cells, the cells of its map, and the cells of its lineage's handled counts. 01, "The walk":
 -- "Remembering takes 2 + cells + (rows / 16, rounded up) units of 16 bytes". The header has the state's hash and row, three links of the search
 -- tree, the entries and cells of its map, and the state that waits behind this one. A link is a cell's place; 0 stands for none. Assumes nothing.
-use Rattle.std.specs.Prelude.{ℕ, ◌+◌, ◌*◌, ◌/◌, ◌%◌, ◌^◌, List, slice_index_or}
+use Rattle.std.specs.Prelude.{ℕ, ◌+◌, ◌*◌, ◌/◌, ◌%◌, ◌^◌, List, get_or}
 use Rattle.area.specs.Cells.{blank}
 use Rattle.area.specs.declared.Cell.{Cell}
 use Rattle.state.specs.declared.MemoryState.{MemoryState}
@@ -16,17 +16,17 @@ third = 2097152
 
 -- the first header cell: hash and row
 abbrev pub hash_at : List Cell → ℕ → ℕ
-hash_at cs p = (slice_index_or cs p blank).head
+hash_at cs p = (get_or cs p blank).head
 
 abbrev pub row_at : List Cell → ℕ → ℕ
-row_at cs p = (slice_index_or cs p blank).payload
+row_at cs p = (get_or cs p blank).payload
 
 -- the second: the links, and the sizes with the one that waits behind
 abbrev pub links_at : List Cell → ℕ → ℕ
-links_at cs p = (slice_index_or cs (p + 1) blank).head
+links_at cs p = (get_or cs (p + 1) blank).head
 
 abbrev pub sizes_at : List Cell → ℕ → ℕ
-sizes_at cs p = (slice_index_or cs (p + 1) blank).payload
+sizes_at cs p = (get_or cs (p + 1) blank).payload
 
 -- one of the three links, by the last digit, to the base 3, of what is left of a hash: the bit of their word at which it begins, and where it leads
 abbrev pub shift : ℕ → ℕ

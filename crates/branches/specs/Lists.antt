@@ -1,6 +1,6 @@
 -- What the functions of `BranchList` say: a branch that is pushed is dropped, kept or has no space, as the definition judges it; the latest that
 -- waits is taken; and a state is loaded with its lineage's counts. Assumes nothing.
-use Rattle.std.specs.Prelude.{◌≡◌, ℕ, ◌+◌, ◌-◌, ◌<◌, ◌≤◌, ◌⊎◌, List, [], ◌∷◌, length, slice_index_or}
+use Rattle.std.specs.Prelude.{◌≡◌, ℕ, ◌+◌, ◌-◌, ◌<◌, ◌≤◌, ◌⊎◌, List, [], ◌∷◌, length, get_or}
 use Rattle.model.specs.Walk.{judge, dropped, kept, no_space}
 use Rattle.model.specs.State.{MemoryState as Defined}
 use Rattle.model.specs.Cells.{cells as cells_of}
@@ -22,16 +22,16 @@ use Rattle.branches.specs.declared.Popped.TheVariants as popped
 -- cells outside two places are as they were
 pub record Outside (cs ds : List Cell) (a m b n : ℕ) : Type 0 where
   pub long : length ds ≡ length cs
-  pub same : (j : ℕ) → (j < a) ⊎ (a + m ≤ j) → (j < b) ⊎ (b + n ≤ j) → slice_index_or ds j blank ≡ slice_index_or cs j blank
+  pub same : (j : ℕ) → (j < a) ⊎ (a + m ≤ j) → (j < b) ⊎ (b + n ≤ j) → get_or ds j blank ≡ get_or cs j blank
 
 -- and all below a place
 pub record Below (cs ds : List Cell) (first : ℕ) : Type 0 where
   pub long : length ds ≡ length cs
-  pub same : (j : ℕ) → j < first → slice_index_or ds j blank ≡ slice_index_or cs j blank
+  pub same : (j : ℕ) → j < first → get_or ds j blank ≡ get_or cs j blank
 
 -- and all from a place on
 abbrev pub Above : List Cell → List Cell → ℕ → Type 0
-Above cs ds top = (j : ℕ) → top ≤ j → slice_index_or ds j blank ≡ slice_index_or cs j blank
+Above cs ds top = (j : ℕ) → top ≤ j → get_or ds j blank ≡ get_or cs j blank
 
 -- the units that remembering a state takes, in a walk over n rows
 abbrev pub units_for : ℕ → Defined → ℕ

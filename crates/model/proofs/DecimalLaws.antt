@@ -124,9 +124,9 @@ unfolding read_natural read_digits
 natural_back [] n e = never e
 natural_back (b ∷ s) n e =
     cases (eqb b 48)
-    (λ y. let (none_left, zero_is) = zero-first b s n y e in
+    (λ y. let (nothing_left, zero_is) = zero-first b s n y e in
     let p : b ≡ 48 = eqb-true b 48 y in
-    rw (none_left, zero_is, p) (sym (print_digit 0 (omega arith))))
+    rw (nothing_left, zero_is, p) (sym (print_digit 0 (omega arith))))
     (λ y. let (good, rest) = only_if-some (is_digit b) (sym (other_first b s y) ∙ e) in
     let (low, high) = digit_range b good in
     let other : b ≡ 48 → ⊥ = eqb-false b 48 y in

@@ -35,10 +35,10 @@ module _ {A : Type 0} (item : ℕ → Reader A) (Valid : A → Type 0) (print : 
       ((ap suc w.0, all_cons v w.1), sym (append_assoc (print k x) (print_items print (suc k) more) u)))
 
   -- until the text ends
-  none_left : (most k : ℕ) → items_up_to item most k [] ≡ some []
+  none_left_lem : (most k : ℕ) → items_up_to item most k [] ≡ some []
   unfolding items_up_to
-  none_left zero k = refl
-  none_left (suc most) k = refl
+  none_left_lem zero k = refl
+  none_left_lem (suc most) k = refl
 
   one_more : (most k : ℕ) (t : List ℕ) → 1 ≤ length t → items_up_to item (suc most) k t ≡ (item k t then λ x. items_up_to item most (suc k) x.1 then λ more. some (x.0 ∷ more))
   unfolding items_up_to
@@ -65,7 +65,7 @@ module _ {A : Type 0} (item : ℕ → Reader A) (Valid : A → Type 0) (print : 
   module _ (longer : (k : ℕ) (v : A) → 1 ≤ length (print k v)) where
     up_to_print : (most k : ℕ) {xs : List A} → All Valid xs → length (print_items print k xs) ≤ most → items_up_to item most k (print_items print k xs) ≡ some xs
     unfolding print_items
-    up_to_print most k all_nil h = none_left most k
+    up_to_print most k all_nil h = none_left_lem most k
     up_to_print zero k (all_cons {x = x} {xs = more} v w) h = absurd (omega (arith, longer k x, length-append (print k x) (print_items print (suc k) more)))
     up_to_print (suc most) k (all_cons {x = x} {xs = more} v w) h =
         let size : length (print k x ++ print_items print (suc k) more) ≡ length (print k x) + length (print_items print (suc k) more) = length-append (print k x) (print_items print (suc k) more) in

@@ -183,11 +183,11 @@ module _ (limit : ℕ) where
   unfolding open_table
   table_opened row x t m = table_stored row t m >> λ s. cursor_stored x.p1 (Normal row) s
 
-columns_of : (c : Option CursorDataType) (m : MemoryState) → Numbered (cursor_columns c m)
+columns_of_lem : (c : Option CursorDataType) (m : MemoryState) → Numbered (cursor_columns c m)
 unfolding cursor_columns
-columns_of none m = value
-columns_of (some (Normal row)) m = value
-columns_of (some (Pseudo i)) m = register_read i m >> λ v. value
+columns_of_lem none m = value
+columns_of_lem (some (Normal row)) m = value
+columns_of_lem (some (Pseudo i)) m = register_read i m >> λ v. value
 
 one_column : (i : ℤ) (cs : Option Columns) → Numbered (column_of i cs)
 unfolding column_of
@@ -221,8 +221,8 @@ module _ (meaning : Meaning) (x : Row) (m : MemoryState) where
   cursor_arm_lem : (row : ℕ) (o : CursorOperation) → Numbered (cursor_arm meaning row x m o)
   unfolding cursor_arm
   cursor_arm_lem row op_column =
-      cursor_read x.p1 m >> λ c. (columns_of c m >> λ cs. (one_column x.p2 cs >> λ v. register_stored meaning.cell_limit x.p3 _ m))
-  cursor_arm_lem row op_row_data = cursor_read x.p1 m >> λ c. (columns_of c m >> λ cs. register_stored meaning.cell_limit x.p2 _ m)
+      cursor_read x.p1 m >> λ c. (columns_of_lem c m >> λ cs. (one_column x.p2 cs >> λ v. register_stored meaning.cell_limit x.p3 _ m))
+  cursor_arm_lem row op_row_data = cursor_read x.p1 m >> λ c. (columns_of_lem c m >> λ cs. register_stored meaning.cell_limit x.p2 _ m)
   cursor_arm_lem row op_insert = register_read x.p2 m >> λ v. inserted meaning.cell_limit x m v
   cursor_arm_lem row op_delete = cursor_read x.p1 m >> λ c. value
   cursor_arm_lem row op_open_pseudo = cursor_stored meaning.cell_limit x.p1 _ m
