@@ -9,6 +9,7 @@ Functions of src/, exported names and texts in quotes are left alone. So are the
 """
 
 import glob
+import os
 import re
 
 WORD = re.compile(r"--[^\n]*|\"(?:[^\"\\\n]|\\.)*\"|[^\s(){}.;,@\"«»\[\]\\`]+")
@@ -157,6 +158,7 @@ def main():
         if to != text:
             with open(path, "w", encoding="utf-8") as it:
                 it.write(to)
+    os.makedirs("tools", exist_ok=True)
     with open("tools/respelled.tsv", "w", encoding="utf-8") as it:
         it.writelines(f"{name}\t{new[name]}\n" for name in sorted(new))
     print(len(new), "names")
