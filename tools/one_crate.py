@@ -1,8 +1,8 @@
 #!/usr/bin/env python3
 """Lays all library crates out as the modules of one crate, so that one check proves them together, whatever order they stand in.
 
-usage: python3 tools/one_crate.py FOLDER           at the top of the repository: writes FOLDER/crates/one
-       python3 tools/one_crate.py --back FOLDER    takes the files of proofs/ that were changed there back
+usage: python3 tools/one_crate.py FOLDER [CRATE..]   at the top of the repository: writes FOLDER/crates/one, of these crates and those below them
+       python3 tools/one_crate.py --back FOLDER      takes the files of proofs/ that were changed there back
 
 A change in a low crate is then checked with all that stands on it: `rt check --allow-holes` in FOLDER/crates/one, some minutes the first time
 and half a minute after. Nothing that it says counts for the gate. A path in its output, as proofs/walk/take/Answers.antt, is that of a crate
@@ -54,9 +54,10 @@ def parted(text):
     return re.sub(r"\bRattle\.one\.(specs|proofs)\.(\w+)\.", r"Rattle.\2.\1.", text)
 
 
-def source(text, deps):
-    """A crate's source as a module: the crates that it uses are its siblings."""
+def source(text, deps, crate):
+    """A crate's source as a module: the crates that it uses are its siblings, and its specs/ and proofs/ a module's of theirs."""
     text = text.replace("#![tactic(auto)]\n", "")
+    text = re.sub(r"\bcrate::(specs|proofs)::", rf"crate::\1::{crate}::", text)
     used = []
     for dep in deps:
         text = re.sub(rf"(?m)^(\s*(?:pub )?use ){dep}::", rf"\1crate::{dep}::", text)
@@ -80,15 +81,18 @@ def files(crate, part):
     return [os.path.relpath(it, base) for it in glob.glob(f"{base}/**/*.antt", recursive=True)]
 
 
-def lay_out(folder):
+def lay_out(folder, chosen):
     of = libraries()
+    if chosen:
+        kept = set(chosen).union(*(of[it] for it in chosen))
+        of = {it: deps for it, deps in of.items() if it in kept}
     names = "|".join(sorted(of, key=len, reverse=True))
     wanted = {"src/lib.rt": "// The libraries, as modules.\n#![tactic(auto)]\n\n" + "".join(f"pub mod {it};\n" for it in of)}
     for crate, deps in of.items():
         for path in glob.glob(f"crates/{crate}/src/*.rt"):
             name = os.path.basename(path)
             to = f"src/{crate}.rt" if name == "lib.rt" else f"src/{crate}/{name}"
-            wanted[to] = source(joined(read(path), names), deps)
+            wanted[to] = source(joined(read(path), names), [it for it in deps if it in of], crate)
         for part in PARTS:
             for path in files(crate, part):
                 wanted[place(crate, part, path)] = joined(read(f"crates/{crate}/{part}/{path}"), names)
@@ -101,7 +105,8 @@ def lay_out(folder):
                 os.remove(path)
     for path, text in wanted.items():
         write(f"{top}/{path}", text)
-    write(f"{folder}/crates.txt", "one:\n")
+    kit = sorted(set().union(*of.values()) - set(libraries()))
+    write(f"{folder}/crates.txt", " ".join(["one:", *kit]) + "\n")
 
 
 def take_back(folder):
@@ -118,8 +123,8 @@ def take_back(folder):
 def main(words):
     if len(words) == 2 and words[0] == "--back":
         take_back(words[1])
-    elif len(words) == 1 and not words[0].startswith("-"):
-        lay_out(words[0])
+    elif words and not words[0].startswith("-"):
+        lay_out(words[0], words[1:])
     else:
         sys.exit(__doc__)
 

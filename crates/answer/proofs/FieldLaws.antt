@@ -1,39 +1,31 @@
--- Texts written one behind another, where the whole has room: a field, which is a key, its value and LF, and fields in a row. Names as they
--- are spelled. Assumes nothing.
-use mathlib.Core.Path.{◌≡◌, refl, sym, ap, ◌∙◌}
-use mathlib.Core.List.{List, [], ◌∷◌, ◌++◌, flatten, append_assoc, append-nil}
-use Prim.Native.Nat.{ℕ, ◌+◌, ◌-◌, ◌≤◌}
-use native.Mathlib.Omega.{arith}
-use native.Mathlib.Nat.{add_assoc}
-use lib.ListN.{length, replicate, length-append}
-use lib.Seq.{take_at, take-take}
-use Rattle.type_info.specs.Names.{spelled}
-use Rattle.type_info.specs.declared.Name.{Name}
-use Rattle.model.specs.Numbers.{print_natural}
+-- Texts written one behind another, where the whole has room: a field, which is a key, its value and LF, and fields in a row. Assumes nothing.
+use Rattle.std.proofs.Common.{◌≡◌, ℕ, ◌+◌, ◌≤◌, List, [], ◌∷◌, ◌++◌, length, sym, ap, ◌∙◌, arith, append_assoc, append-nil, add_assoc, length-append}
+use mathlib.Core.List.{flatten}
 use Rattle.model.specs.Fields.{print_field}
 use Rattle.answer.specs.Writing.{patch, Room, Put}
-use Rattle.answer.specs.Text.{spelling}
+use Rattle.answer.specs.declared.Writer.{Writer}
 use Rattle.answer.proofs.PatchLaws.{patch_length, patch_patch}
 
 -- ---- two texts
 
-pub put_long : {out o v : List ℕ} {at r : ℕ} → Room out at v → Put out o at v r → length o ≡ length out
-put_long {out} {o} {v} {at} {r} room p = ap length p.is ∙ patch_length out at v room.fits
+pub put_long : {w v : Writer} {text : List ℕ} → Room w text → Put w v text → length v.out.now ≡ length w.out.now
+put_long {w} {v} {text} room p = ap length p.is ∙ patch_length w.out.now w.at text room.fits
 
-module _ {out : List ℕ} {at : ℕ} (a b : List ℕ) (room : Room out at (a ++ b)) where
-  both : at + length a + length b ≤ length out
+module _ {w : Writer} (a b : List ℕ) (room : Room w (a ++ b)) where
+  both : w.at + length a + length b ≤ length w.out.now
   both = omega (arith, room.fits, length-append a b)
 
-  pub two_first : Room out at a
+  pub two_first : Room w a
   two_first = record { fits = omega (arith, both) }
 
-  module _ {o : List ℕ} {p : ℕ} (first : Put out o at a p) where
-    pub two_rest : Room o p b
+  module _ {v : Writer} (first : Put w v a) where
+    pub two_rest : Room v b
     two_rest = record { fits = omega (arith, both, first.next, put_long two_first first) }
 
-    pub two_put : {o₂ : List ℕ} {r : ℕ} → Put o o₂ p b r → Put out o₂ at (a ++ b) r
-    two_put {o₂} {r} second = record {
-      is = second.is ∙ ap (λ x. patch x p b) first.is ∙ ap (λ k. patch (patch out at a) k b) first.next ∙ patch_patch out at a b both;
+    pub two_put : {u : Writer} → Put v u b → Put w u (a ++ b)
+    two_put {u} second = record {
+      same_buffer = second.same_buffer ∙ first.same_buffer;
+      is = second.is ∙ ap (λ x. patch x v.at b) first.is ∙ ap (λ k. patch (patch w.out.now w.at a) k b) first.next ∙ patch_patch w.out.now w.at a b both;
       next = omega (arith, second.next, first.next, length-append a b);
     }
 
@@ -43,24 +35,24 @@ pub field-length : (key v : List ℕ) → length (print_field key v) ≡ length 
 unfolding print_field
 field-length key v = length-append key (v ++ (10 ∷ [])) ∙ ap (λ n. length key + n) (length-append v (10 ∷ [])) ∙ sym (add_assoc (length key) (length v) 1)
 
-module _ {out : List ℕ} {at : ℕ} (key v : List ℕ) (room : Room out at (print_field key v)) where
-  pub field_key : Room out at key
+module _ {w : Writer} (key v : List ℕ) (room : Room w (print_field key v)) where
+  pub field_key : Room w key
   unfolding print_field
   field_key = two_first key (v ++ (10 ∷ [])) room
 
-  module _ {o : List ℕ} {p : ℕ} (first : Put out o at key p) where
-    field_rest : Room o p (v ++ (10 ∷ []))
+  module _ {w₁ : Writer} (first : Put w w₁ key) where
+    field_rest : Room w₁ (v ++ (10 ∷ []))
     unfolding print_field
     field_rest = two_rest key (v ++ (10 ∷ [])) room first
 
-    pub field_value : Room o p v
+    pub field_value : Room w₁ v
     field_value = two_first v (10 ∷ []) field_rest
 
-    module _ {o₂ : List ℕ} {q : ℕ} (second : Put o o₂ p v q) where
-      pub field_end : Room o₂ q (10 ∷ [])
+    module _ {w₂ : Writer} (second : Put w₁ w₂ v) where
+      pub field_end : Room w₂ (10 ∷ [])
       field_end = two_rest v (10 ∷ []) field_rest second
 
-      pub field_put : {o₃ : List ℕ} {r : ℕ} → Put o₂ o₃ q (10 ∷ []) r → Put out o₃ at (print_field key v) r
+      pub field_put : {w₃ : Writer} → Put w₂ w₃ (10 ∷ []) → Put w w₃ (print_field key v)
       unfolding print_field
       field_put third = two_put key (v ++ (10 ∷ [])) room first (two_put v (10 ∷ []) field_rest second third)
 
@@ -75,44 +67,21 @@ unfolding flatten
 flat_more [] v = append-nil v
 flat_more (f ∷ fs) v = ap (λ x. f ++ x) (flat_more fs v) ∙ sym (append_assoc f (flatten fs) v)
 
-module _ {out : List ℕ} {at : ℕ} (f : List ℕ) (fs : List (List ℕ)) (room : Room out at (flatten (f ∷ fs))) where
-  pub flat_first : Room out at f
+module _ {w : Writer} (f : List ℕ) (fs : List (List ℕ)) (room : Room w (flatten (f ∷ fs))) where
+  pub flat_first : Room w f
   unfolding flatten
   flat_first = two_first f (flatten fs) room
 
-  module _ {o : List ℕ} {p : ℕ} (first : Put out o at f p) where
-    pub flat_rest : Room o p (flatten fs)
+  module _ {v : Writer} (first : Put w v f) where
+    pub flat_rest : Room v (flatten fs)
     unfolding flatten
     flat_rest = two_rest f (flatten fs) room first
 
-    pub flat_put : {o₂ : List ℕ} {r : ℕ} → Put o o₂ p (flatten fs) r → Put out o₂ at (flatten (f ∷ fs)) r
+    pub flat_put : {u : Writer} → Put v u (flatten fs) → Put w u (flatten (f ∷ fs))
     unfolding flatten
     flat_put rest = two_put f (flatten fs) room first rest
 
 -- and no more
-pub flat_last : {out o f : List ℕ} {at r : ℕ} → Put out o at f r → Put out o at (flatten (f ∷ [])) r
+pub flat_last : {w v : Writer} {f : List ℕ} → Put w v f → Put w v (flatten (f ∷ []))
 unfolding flatten
-flat_last {out} {o} {f} {at} {r} p = rw (append-nil f) p
-
--- ---- values
-
-pub number_room : {out : List ℕ} {at : ℕ} (n : ℕ) {k : ℕ} → Room out at (print_natural n) → k ≡ length (print_natural n) → (length (print_natural n) ≤ at + k) × (at + k ≤ length out)
-number_room n room e = (omega arith, omega (arith, room.fits))
-
-pub number_put : {out o : List ℕ} {at : ℕ} (n : ℕ) {k : ℕ} → k ≡ length (print_natural n) → o ≡ patch out (at + k - length (print_natural n)) (print_natural n) → Put out o at (print_natural n) (at + k)
-number_put {out} {o} {at} n {k} e h =
-    let z : at + k - length (print_natural n) ≡ at = omega arith in record { is = h ∙ ap (λ j. patch out j (print_natural n)) z; next = ap (λ j. at + j) e }
-
--- a name spells the text
-pub record Spells (name : Name) (text : List ℕ) : Type 0 where
-  pub is : spelling name ≡ text
-  pub size : name.1 ≡ length text
-  pub short : name.1 ≤ 8
-
-pub spelled_name : (text : List ℕ) (name : Name) → length text ≤ 8 → name ≡ spelled text → Spells name text
-spelled_name text name h e =
-    rw e (record {
-      is = take-take (length text) 8 (text ++ replicate 8 0) h ∙ take_at text (replicate 8 0) (length text) refl;
-      size = refl;
-      short = h;
-    })
+flat_last {w} {v} {f} p = rw (append-nil f) p

@@ -1,13 +1,17 @@
 -- Laws of specs/Counts.antt: what raises a count, and that the cell where it lies tells it. Assumes nothing.
-use mathlib.Core.Path.{◌≡◌, refl, sym, ap, ◌∙◌}
+use mathlib.Core.Path.{◌≡◌, refl, sym, ap, subst, ◌∙◌}
 use mathlib.Core.List.{List}
-use Prim.Native.Nat.{ℕ, ◌+◌, ◌-◌, ◌*◌, ◌/◌, ◌%◌, ◌<◌}
+use Prim.Native.Nat.{ℕ, zero, suc, ◌+◌, ◌-◌, ◌*◌, ◌/◌, ◌%◌, ◌<◌, ◌≤◌}
 use native.Mathlib.Omega.{arith}
 use native.Mathlib.Decide.{dec_lt}
-use lib.ListN.{length, get_or, set, replicate, length-set}
-use lib.Seq.{get_or-set_same, get_or-set_other}
+use native.Mathlib.Numerals.{add-one}
+use lib.ListN.{length, get_or, set, replicate, length-set, length-replicate}
+use lib.Seq.{get_or-set_same, get_or-set_other, paste}
 use mir.Syntax.{w8}
 use mir.Val.{Fits}
+use borrow.Rule.Slice.PartMut.{put_mid}
+use Rattle.std.proofs.lemmas.List.Edits.{paste_none, fill_from_more}
+use Rattle.std.proofs.lemmas.Slice.{put_mid-paste}
 use Rattle.area.specs.Words.{words}
 use Rattle.area.specs.Cells.{blank, cell_of, cells, Inside, CellsNow}
 use Rattle.area.specs.Moves.{moved}
@@ -146,3 +150,16 @@ cleared_next xs ys from n inside h =
     by i lt (no ge) =
         let e : place from i ≡ place from n = omega arith in
         ap (λ k. get_or (set ys (place from n) 0) k 0) e ∙ get_or-set_same ys (place from n) 0 0 (omega (arith, h.bytes))
+
+-- all of them cleared
+pub cleared_all : (xs : List ℕ) (from n : ℕ) → place from n ≤ length xs → CountsCleared xs (paste xs (from * 16) (replicate n 0) n) from n
+cleared_all xs from zero fits = subst (λ ys. CountsCleared xs ys from 0) (paste_none xs (from * 16) (replicate 0 0)) (cleared_none xs from)
+cleared_all xs from (suc n) fits =
+    let more : CountsCleared xs (paste xs (from * 16) (replicate (n + 1) 0) (n + 1)) from (n + 1) =
+    subst (λ ys. CountsCleared xs ys from (n + 1)) (fill_from_more xs (from * 16) n 0 (omega arith)) (cleared_next xs _ from n (omega arith) (cleared_all xs from n (omega arith))) in
+    rw add-one at more
+
+-- by zeros in the place of their bytes
+pub cleared_part : (xs ys : List ℕ) (from n k : ℕ) → place from n ≤ length xs → k ≡ n → ys ≡ replicate k 0 → CountsCleared xs (put_mid (from * 16) (from * 16 + n - from * 16) xs ys) from n
+cleared_part xs ys from n k fits long e =
+    subst (λ zs. CountsCleared xs zs from n) (sym (put_mid-paste _ _ xs ys (replicate n 0) n (e ∙ ap (λ m. replicate m 0) long) (omega arith) (omega (arith, length-replicate {A = ℕ} n 0)))) (cleared_all xs from n fits)

@@ -4,7 +4,7 @@ use mathlib.Core.List.{List}
 use Prim.Native.Nat.{ℕ, zero, suc, ◌+◌, ◌-◌, ◌<◌, ◌≤◌}
 use native.Mathlib.Omega.{arith}
 use native.Mathlib.Decide.{ℕ_discrete}
-use native.Mathlib.Nat.{add-zero, add-suc, suc-add, sub-zero}
+use native.Mathlib.Nat.{add-zero, add-suc, suc-add}
 use native.Mathlib.Numerals.{add-one}
 use lib.ListN.{length, get_or, set, length-set}
 use lib.Seq.{get_or-set_same, get_or-set_other, set-get_or, set_comm}
@@ -107,8 +107,3 @@ turn_up xs ys zs c f t n i le lt most done read put =
       rest = λ j le. put.rest j (omega (arith, done.same)) ∙ done.rest j le;
       cells = put.cells ∙ ap₂ (λ l d. set l (t + (i - 1)) d) done.cells was ∙ rw (p, q, r) (first cs (f + (i - 1)) (t + (i - 1)) (n - i));
     }
-
--- none is left
-pub turn_last : (xs ys : List ℕ) (f t n i : ℕ) → i ≤ 0 → CellsNow xs ys (moved (cells xs) (f + i) (t + i) (n - i)) → CellsNow xs ys (moved (cells xs) f t n)
-turn_last xs ys f t n zero le done = simp (add-zero, sub-zero) at done
-turn_last xs ys f t n (suc i) le done = absurd (omega arith)

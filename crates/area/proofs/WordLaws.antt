@@ -1,13 +1,17 @@
 -- Laws of specs/Words.antt: how many words there are, and what a store of a word or of a byte does to each. Assumes nothing.
 use mathlib.Core.Path.{◌≡◌, refl, sym, ap, ap₂, ◌∙◌}
 use mathlib.Core.Logic.{◌⊎◌, inl, inr}
-use mathlib.Core.List.{List, ◌∷◌}
+use mathlib.Core.List.{List, [], ◌∷◌, ◌++◌, append_assoc}
 use Prim.Native.Nat.{ℕ, zero, suc, ◌+◌, ◌-◌, ◌*◌, ◌/◌, ◌%◌, ◌<◌, ◌≤◌}
 use native.Mathlib.Omega.{arith}
-use native.Mathlib.Nat.{add-zero}
+use native.Mathlib.Nat.{add-zero, div-div-eq-div-mul}
 use native.Mathlib.Decide.{dec_lt}
-use lib.ListN.{length, get_or, set, replicate, length-set, length-replicate, get_or-replicate, get_or-eq_default}
+use lib.ListN.{length, get_or, set, take, drop, replicate, length-set, length-replicate, get_or-replicate, get_or-eq_default}
 use lib.Seq.{get_or-set_same, get_or-set_other}
+use mir.Syntax.{w64}
+use borrow.Rule.Slice.PartMut.{put_mid, Post-is}
+use Rattle.std.specs.Int.{to_le_bytes}
+use Rattle.std.proofs.lemmas.List.{take-append-drop, take_more_set, drop-set-lt}
 use Rattle.area.specs.Words.{tabulate, number, eight, words, with_bytes, WordsNow}
 
 pub length-tabulate : {A : Type 0} (n : ℕ) (f : ℕ → A) → length (tabulate n f) ≡ n
@@ -155,16 +159,28 @@ with_bytes-number xs p (suc n) v fits small =
     ∙ with_bytes-number ys (p + 1) n (v / 256) (omega (arith, length-set xs p (v % 256))) (omega arith) in
     omega arith
 
--- a turn of the loop that writes the bytes
-pub with_bytes-turn : (xs : List ℕ) (p n v : ℕ) → 0 < n → with_bytes (set xs p (v % 256)) (p + 1) (n - 1) (v / 256) ≡ with_bytes xs p n v
-unfolding with_bytes
-with_bytes-turn xs p zero v lt = absurd (omega arith)
-with_bytes-turn xs p (suc n) v lt = let e : suc n - 1 ≡ n = omega arith in ap (λ m. with_bytes (set xs p (v % 256)) (p + 1) m (v / 256)) e
+-- n bytes of v, the least first
+low : ℕ → ℕ → List ℕ
+low zero v = []
+low (suc n) v = v % 256 ∷ low n (v / 256)
 
-pub with_bytes-none : (xs : List ℕ) (p n v : ℕ) → n ≤ 0 → with_bytes xs p n v ≡ xs
-unfolding with_bytes
-with_bytes-none xs p zero v le = refl
-with_bytes-none xs p (suc n) v le = absurd (omega arith)
+with_bytes_low : (xs : List ℕ) (p n v : ℕ) → p + n ≤ length xs → with_bytes xs p n v ≡ take p xs ++ (low n v ++ drop (p + n) xs)
+unfolding with_bytes low
+with_bytes_low xs p zero v fits = sym (ap (λ k. take p xs ++ drop k xs) (add-zero p) ∙ take-append-drop p xs)
+with_bytes_low xs p (suc n) v fits =
+    let b : ℕ = v % 256 in
+    let front : take (p + 1) (set xs p b) ≡ take p xs ++ b ∷ [] = take_more_set xs p b (omega arith) in
+    let back : drop (p + 1 + n) (set xs p b) ≡ drop (p + suc n) xs = drop-set-lt (p + 1 + n) xs p b (omega arith) ∙ ap (λ k. drop k xs) (omega arith) in
+    with_bytes_low (set xs p b) (p + 1) n (v / 256) (omega (arith, length-set xs p b))
+    ∙ ap₂ (λ l r. l ++ (low n (v / 256) ++ r)) front back
+    ∙ append_assoc (take p xs) (b ∷ []) (low n (v / 256) ++ drop (p + suc n) xs)
+
+-- the eight bytes that `to_le_bytes` gives, put from p on
+pub put-bytes : (xs ys : List ℕ) (p v : ℕ) → p + 8 ≤ length xs → ys ≡ to_le_bytes w64 v → put_mid p (p + 8 - p) xs ys ≡ with_bytes xs p 8 v
+unfolding low
+put-bytes xs ys p v fits e =
+    let same : low 8 v ≡ to_le_bytes w64 v = simp div-div-eq-div-mul in
+    ap₂ (λ l r. take p xs ++ (l ++ r)) (e ∙ sym same) (Post-is p (p + 8) xs (omega arith)) ∙ sym (with_bytes_low xs p 8 v fits)
 
 -- the eight bytes of v written make v the word there
 pub words-set : (xs ys : List ℕ) (i v : ℕ) → i < length (words xs) → v < 18446744073709551616 → ys ≡ with_bytes xs (i * 8) 8 v → WordsNow xs ys i v

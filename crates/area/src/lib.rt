@@ -8,57 +8,26 @@ ghost use Rattle.area.specs.Moves.{moved};
 ghost use Rattle.area.specs.Counts.{count, home, Raisable, Raised, HasCounts, CountsCleared};
 
 // Two words, 16 bytes.
-#[derive(Clone, Copy)]
+#[derive(Clone, Copy, Debug, PartialEq, Eq)]
 pub struct Cell {
     pub head: u64,
     pub payload: u64,
 }
 
-// The number of four bytes, least first.
-fn half_of(a: u8, b: u8, c: u8, d: u8) -> u64
-    ensures { result ≡ number (a ∷ b ∷ c ∷ d ∷ []) }
-{
-    a as u64 + 256 * (b as u64 + 256 * (c as u64 + 256 * (d as u64)))
-}
-
-// The word of eight bytes, least first. In this form the eight loads become one, or one of four bytes where a half is asked for.
-fn word_of(a: u8, b: u8, c: u8, d: u8, e: u8, f: u8, g: u8, h: u8) -> u64
-    ensures { result ≡ number (a ∷ b ∷ c ∷ d ∷ e ∷ f ∷ g ∷ h ∷ []) }
-{
-    half_of(a, b, c, d) + 4294967296 * half_of(e, f, g, h)
-}
-
-// The word of the eight bytes from p on.
+// The word of the eight bytes from p on, in one load.
 fn word_from(area: &[u8], p: usize) -> u64
     requires { p + 8 ≤ length area.now }
     ensures { result ≡ number (eight area.now p) }
 {
-    word_of(
-        area[p],
-        area[p + 1],
-        area[p + 2],
-        area[p + 3],
-        area[p + 4],
-        area[p + 5],
-        area[p + 6],
-        area[p + 7],
-    )
+    u64::from_le_bytes(area[p..p + 8].try_into().unwrap())
 }
 
-// Writes v to the eight bytes from p on. The eight stores become one.
+// Writes v to the eight bytes from p on, in one store.
 fn put_from(area: &mut [u8], p: usize, v: u64)
     requires { p + 8 ≤ length area.old }
     ensures { area.new ≡ with_bytes area.old p 8 v }
 {
-    let mut at = p;
-    let mut rest = v;
-    let mut left: usize = 8;
-    while 0 < left {
-        area[at] = (rest % 256) as u8;
-        rest = rest / 256;
-        at += 1;
-        left -= 1;
-    }
+    area[p..p + 8].copy_from_slice(&v.to_le_bytes());
 }
 
 // The word at i.
@@ -99,16 +68,14 @@ pub fn put_cell(area: &mut [u8], at: usize, c: Cell)
     put_word(area, i + 1, c.payload);
 }
 
-// Copies n cells down, the first first.
+// Copies n cells down, the first first. A loop over cells, since `copy_within` copies an overlap of less than two cells' distance byte by byte.
 fn move_down(area: &mut [u8], from: usize, to: usize, n: usize)
     requires { (to ≤ from) × Inside area.old from n }
     ensures { CellsNow area.old area.new (moved (cells area.old) from to n) }
 {
-    let mut i = 0;
-    while i < n {
+    for i in 0..n {
         let c = cell_at(area, from + i);
         put_cell(area, to + i, c);
-        i += 1;
     }
 }
 
@@ -117,9 +84,7 @@ fn move_up(area: &mut [u8], from: usize, to: usize, n: usize)
     requires { (from ≤ to) × Inside area.old to n }
     ensures { CellsNow area.old area.new (moved (cells area.old) from to n) }
 {
-    let mut i = n;
-    while 0 < i {
-        i -= 1;
+    for i in (0..n).rev() {
         let c = cell_at(area, from + i);
         put_cell(area, to + i, c);
     }
@@ -144,11 +109,7 @@ pub fn move_cells(area: &mut [u8], from: usize, to: usize, n: usize)
 pub fn clear(area: &mut [u8])
     ensures { area.new ≡ replicate (length area.old) 0 }
 {
-    let mut i = 0;
-    while i < area.len() {
-        area[i] = 0;
-        i += 1;
-    }
+    area.fill(0);
 }
 
 // The count i of those that begin at the cell `from`.
@@ -174,9 +135,5 @@ pub fn clear_counts(area: &mut [u8], from: usize, n: usize)
     ensures { CountsCleared area.old area.new from n }
 {
     let p = from * 16;
-    let mut i = 0;
-    while i < n {
-        area[p + i] = 0;
-        i += 1;
-    }
+    area[p..p + n].fill(0);
 }

@@ -1,11 +1,12 @@
 -- What `push` says: of a known state that it is dropped, of another that it is kept, where there is space. The new state lies at the top, a
 -- free link on the way of its hashes leads to it, and all others are as they were. Assumes nothing.
-use Rattle.std.proofs.Common.{◌≡◌, ℕ, ◌+◌, ◌-◌, ◌/◌, ◌%◌, ◌<◌, ◌≤◌, Bool, true, false, leb, ◌⊎◌, List, [], ◌∷◌, length, get_or, sym, refl, ap, ◌∙◌, subst, ap₂, inl, inr, arith, le-leb}
+use Rattle.std.proofs.Common.{◌≡◌, ℕ, ◌+◌, ◌-◌, ◌/◌, ◌%◌, ◌<◌, ◌≤◌, Bool, true, false, leb, ◌⊎◌, List, [], ◌∷◌, length, get_or, sym, refl, ap, ◌∙◌, subst, ap₂, inl, inr, arith, le-leb, None, Some, Ok, Err}
 use native.Mathlib.Decide.{ℕ_discrete}
 use borrow.Author.Tests.{lt-leb}
 use Rattle.model.specs.Walk.{◌∈◌, verdict, known, judge}
 use Rattle.model.specs.State.{MemoryState as Defined}
 use Rattle.model.specs.Equality.{eq_state}
+use Rattle.refusal.specs.declared.Refusal.TheVariants.{NoSpace}
 use Rattle.area.specs.Cells.{blank, cells}
 use Rattle.area.specs.declared.Cell.{Cell}
 use Rattle.area.proofs.CellLaws.{length-cells, cells-kept}
@@ -22,8 +23,6 @@ use Rattle.branches.specs.Lists.{units_for, Pushes}
 use Rattle.branches.specs.Search.{Ends, Searches}
 use Rattle.branches.specs.Changes.{Pushable, Savable, Saves, Linkable, Linked, Connects}
 use Rattle.branches.specs.declared.BranchList.{BranchList}
-use Rattle.branches.specs.declared.Pushed.TheVariants as pushed
-use Rattle.branches.specs.declared.Place.TheVariants as place
 use Rattle.branches.proofs.HeaderLaws.{child-same, child_alike, child-none, len_part, used_part, next_part, state_parts}
 use Rattle.branches.proofs.HashLaws.{hashes_equal}
 use Rattle.branches.proofs.BlockLaws.{end_at, Apart, blocks_low, blocks_span, blocks_apart, blocks_same, waiting_same, waiting_low}
@@ -49,7 +48,7 @@ judged n m ks space t u e f = ap₂ verdict e f
 
 module _ (limit n counts : ℕ) (xs : List ℕ) (b : BranchList) (s : MemoryState) (ok : Pushable limit n counts xs b s) where
   -- a known state
-  pub push_known : Searches xs b s place.Known → Pushes limit n counts xs xs b s (pushed.Done b)
+  pub push_known : Searches xs b s None → Pushes limit n counts xs xs b b s (Ok tt)
   push_known found =
       record {
         says = λ bound ks ws m past r held counted.
@@ -61,20 +60,20 @@ module _ (limit n counts : ℕ) (xs : List ℕ) (b : BranchList) (s : MemoryStat
         bytes = refl;
       }
 
-  module _ (at bits : ℕ) (found : Searches xs b s (place.Free at bits)) where
+  module _ (at bits : ℕ) (found : Searches xs b s (Some (record { at = at; bits = bits }))) where
     unknown : (bound : ℕ) (ks ws : List Kept) (m : Defined) → Remembers limit bound n xs b ks ws → HoldsState limit bound (cells xs) s m → known eq_state m (states ks) ≡ false
     unknown bound ks ws m r held =
         known-false m ks (λ k e h. (found.says limit bound n ks ws r).none k e (equal_at limit bound n xs s m k ok.offers.map held (r.kept k e) h))
 
     -- no space
-    pub push_full : length xs / 16 < end_of n b s → Pushes limit n counts xs xs b s pushed.Full
+    pub push_full : length xs / 16 < end_of n b s → Pushes limit n counts xs xs b b s (Err NoSpace)
     push_full over =
         record {
           says = λ bound ks ws m past r held counted.
               judged n m ks (length (cells xs) - b.top) false false (unknown bound ks ws m r held)
               (lt-leb (units_for n m) (length (cells xs) - b.top) (omega (arith, length-cells xs, held_used limit bound (cells xs) _ _ _ m held.map, r.inside)));
           below = record { long = refl; same = λ j lt. refl };
-          writes = refl;
+          writes = (refl, refl, refl);
           bytes = refl;
         }
 
@@ -293,7 +292,7 @@ module _
       under : Remembers limit bound n ys (grown n b s) (newest b m past ∷ ks) (newest b m past ∷ ws)
       under = assembled (λ j le. linked.elsewhere j (λ z. omega (arith, place_lies.1))) old_block adds_link leads_old way_new
 
-    pub added : Searches xs b s (place.Free at bits) → Remembers limit bound n ys (grown n b s) (newest b m past ∷ ks) (newest b m past ∷ ws)
+    pub added : Searches xs b s (Some (record { at = at; bits = bits })) → Remembers limit bound n ys (grown n b s) (newest b m past ∷ ks) (newest b m past ∷ ws)
     added found = elim (found.says limit bound n ks ws r).place [ inl z ↦ alone z.0 z.1 | inr e ↦ under e ]
 
 -- ---- what the parts ask for
@@ -315,7 +314,7 @@ module _ (limit n counts : ℕ) (xs : List ℕ) (b : BranchList) (s : MemoryStat
         room = fits;
       }
 
-  module _ (us : List ℕ) (h at bits : ℕ) (saves : Saves n xs us b.top s h b.last counts) (found : Searches xs b s (place.Free at bits)) where
+  module _ (us : List ℕ) (h at bits : ℕ) (saves : Saves n xs us b.top s h b.last counts) (found : Searches xs b s (Some (record { at = at; bits = bits }))) where
     -- where the link is
     pub record FreeLink : Type 0 where
       pub high : at + 2 ≤ b.top + 2
@@ -351,7 +350,7 @@ module _ (limit n counts : ℕ) (xs : List ℕ) (b : BranchList) (s : MemoryStat
         Bytes xs →
         Bytes us →
         Bytes ys →
-        Pushes limit n counts xs ys b s (pushed.Done (grown n b s))
+        Pushes limit n counts xs ys b (grown n b s) s (Ok tt)
     push_added ys is room links small less few =
         let fits : end_of n b s ≤ length (cells xs) = omega (arith, length-cells xs) in
         record {

@@ -1,6 +1,5 @@
--- Laws of specs/Hash.antt: a turn of the loop that takes a hash, that its products fit a word, and that a state's hashes are those of its row and cells.
--- Assumes nothing.
-use Rattle.std.proofs.Common.{◌≡◌, ℕ, zero, suc, ◌+◌, ◌-◌, ◌*◌, ◌/◌, ◌%◌, ◌<◌, ◌≤◌, List, get_or, sym, refl, ap, ◌∙◌, ap₂, mul-le-mul, arith}
+-- Laws of specs/Hash.antt: a turn of the loop that takes a hash, and that a state's hashes are those of its row and cells. Assumes nothing.
+use Rattle.std.proofs.Common.{◌≡◌, ℕ, zero, suc, ◌+◌, ◌-◌, ◌/◌, ◌<◌, ◌≤◌, List, get_or, sym, refl, ap, ◌∙◌, ap₂, arith}
 use mathlib.Core.List.{flatten}
 use Rattle.area.specs.Cells.{blank}
 use Rattle.area.specs.declared.Cell.{Cell}
@@ -9,7 +8,6 @@ use Rattle.intmap.specs.Map.{levels, runs_at, IsMap}
 use Rattle.intmap.specs.declared.IntMap.{IntMap}
 use Rattle.state.specs.declared.MemoryState.{MemoryState}
 use Rattle.encoding.proofs.Standing.{entries_flat}
-use Rattle.branches.specs.Header.{half}
 use Rattle.branches.specs.Hash.{mix, fold, mix_cells, hash_from}
 
 -- no cells are left
@@ -19,29 +17,13 @@ mixed_end cs h at zero le = refl
 mixed_end cs h at (suc left) le = absurd (omega arith)
 
 -- one cell goes in
-pub mixed_turn : (cs : List Cell) (h at left : ℕ) (c : Cell) (one two : ℕ) → 0 < left → c ≡ get_or cs at blank → one ≡ fold h c.head → two ≡ mix one c.payload → mix_cells two (span cs (at + 1) (left - 1)) ≡ mix_cells h (span cs at left)
+pub mixed_turn : (cs : List Cell) (h at end : ℕ) (c : Cell) (one two : ℕ) → at < end → c ≡ get_or cs at blank → one ≡ fold h c.head → two ≡ mix one c.payload → mix_cells two (span cs (at + 1) (end - (at + 1))) ≡ mix_cells h (span cs at (end - at))
 unfolding mix_cells span
-mixed_turn cs h at zero c one two lt e f g = absurd (omega arith)
-mixed_turn cs h at (suc left) c one two lt e f g = let z : suc left - 1 ≡ left = omega arith in rw (z, g, f, e)
+mixed_turn cs h at end c one two lt e f g = let z : end - at ≡ suc (end - (at + 1)) = omega arith in rw (z, g, f, e)
 
--- a step of the multiplication fits a word
-halves_fit : (a b : ℕ) → a < half → b < half → a * 4294967291 + b < 18446744073709551616
-halves_fit a b p q = omega arith
-
-pub stir_fits : (s x : ℕ) → s ≡ x % 18446744073709551616 → s % half * 4294967291 + s / half < 18446744073709551616
-stir_fits s x e = let lt : s < 18446744073709551616 = omega arith in halves_fit (s % half) (s / half) (omega arith) (omega arith)
-
--- and so does the product of a word's halves
-pub product_fits : (s x : ℕ) → s ≡ x % 18446744073709551616 → s % half * (s / half) < 18446744073709551616
-product_fits s x e =
-    let low : s % half ≤ 4294967295 = omega arith in
-    let high : s / half ≤ 4294967295 = omega arith in
-    let le : s % half * (s / half) ≤ 18446744065119617025 = mul-le-mul low high in
-    omega arith
-
-pub hash_whole : (cs : List Cell) (s : MemoryState) (start h : ℕ) → h ≡ mix start s.row → mix_cells h (span cs s.map.base s.map.used) ≡ hash_from cs s start
+pub hash_whole : (cs : List Cell) (s : MemoryState) (start h : ℕ) → h ≡ mix start s.row → mix_cells h (span cs s.map.base (s.map.base + s.map.used - s.map.base)) ≡ hash_from cs s start
 unfolding hash_from
-hash_whole cs s start h e = ap (λ x. mix_cells x (span cs s.map.base s.map.used)) e
+hash_whole cs s start h e = let z : s.map.base + s.map.used - s.map.base ≡ s.map.used = omega arith in rw (z, e)
 
 -- maps with equal entries have equal cells
 pub runs-span : (cs ds : List Cell) (a b : IntMap) → IsMap cs a → IsMap ds b → runs_at cs a ≡ runs_at ds b → span cs a.base a.used ≡ span ds b.base b.used

@@ -1,15 +1,15 @@
 -- The search: a state equals a remembered one exactly where it is the state there, and each turn goes down the way of its hashes, on which every
 -- place lies where the state is. Assumes nothing.
-use Rattle.std.proofs.Common.{◌≡◌, ℕ, ◌+◌, ◌<◌, ◌≤◌, Bool, true, false, ◌||◌, ◌⊎◌, List, [], ◌∷◌, length, get_or, sym, refl, ap, ◌∙◌, subst, inl, inr, arith}
+use Rattle.std.proofs.Common.{◌≡◌, ℕ, ◌+◌, ◌<◌, ◌≤◌, Bool, true, false, ◌||◌, ◌⊎◌, List, [], ◌∷◌, length, sym, refl, ap, ◌∙◌, subst, inl, inr, arith, None, Some}
 use mathlib.Core.Bool.{false≢true}
 use native.Mathlib.Decide.{dec_lt}
 use Rattle.model.specs.Walk.{◌∈◌, known}
 use Rattle.model.specs.State.{MemoryState as Defined}
 use Rattle.model.specs.Equality.{eq_state}
 use Rattle.model.proofs.Same.{state_decides}
-use Rattle.area.specs.Cells.{blank, cells}
+use Rattle.area.specs.Cells.{cells}
 use Rattle.area.specs.declared.Cell.{Cell}
-use Rattle.intmap.specs.Map.{runs_at, IsMap, Compares}
+use Rattle.intmap.specs.Map.{runs_at, IsMap}
 use Rattle.intmap.proofs.SignedLaws.{int_injective}
 use Rattle.intmap.specs.Signed.{int_of}
 use Rattle.encoding.specs.Encode.{runs_of}
@@ -21,7 +21,6 @@ use Rattle.branches.specs.Hash.{hash_from, hash_of}
 use Rattle.branches.specs.Entries.{Kept, states, IsKept, next_bits, here, OnPath, OnWay, Later, Remembers}
 use Rattle.branches.specs.Search.{HasMap, IsAt, Tests, Reaches, Searches, SomeRemembering}
 use Rattle.branches.specs.declared.BranchList.{BranchList}
-use Rattle.branches.specs.declared.Place.TheVariants as place
 use Rattle.branches.proofs.HashLaws.{hashes_equal}
 use Rattle.branches.proofs.BlockLaws.{blocks_span, blocks_root, blocks_none}
 use Rattle.branches.proofs.PathLaws.{path_more, on_next}
@@ -146,7 +145,7 @@ module _ (xs : List ℕ) (first top : ℕ) (s : MemoryState) where
           }
 
       module _ (b : BranchList) (f : b.first ≡ first) (t : b.top ≡ top) where
-        pub search_known : test ≡ true → Searches xs b s place.Known
+        pub search_known : test ≡ true → Searches xs b s None
         search_known is =
             record {
               says = λ limit bound n ks ws r.
@@ -154,7 +153,7 @@ module _ (xs : List ℕ) (first top : ℕ) (s : MemoryState) where
                   record { kept = d.kept; among = d.among; there = subst (IsAt (cells xs) s) (sym d.at) (tests.sound is) };
             }
 
-        pub search_free : test ≡ false → 0 ≡ child (cells xs) p bits → Searches xs b s (place.Free p bits)
+        pub search_free : test ≡ false → 0 ≡ child (cells xs) p bits → Searches xs b s (Some (record { at = p; bits = bits }))
         search_free not free =
             record {
               says = λ limit bound n ks ws r.
@@ -167,7 +166,7 @@ module _ (xs : List ℕ) (first top : ℕ) (s : MemoryState) where
             }
 
 -- nothing is remembered
-pub search_none : (xs : List ℕ) (b : BranchList) (s : MemoryState) (h : ℕ) → b.top ≤ b.first → Searches xs b s (place.Free 0 h)
+pub search_none : (xs : List ℕ) (b : BranchList) (s : MemoryState) (h : ℕ) → b.top ≤ b.first → Searches xs b s (Some (record { at = 0; bits = h }))
 search_none xs b s h le =
     record {
       says = λ limit bound n ks ws r.
@@ -176,28 +175,9 @@ search_none xs b s h le =
     }
 
 -- the way goes no further than the top
-pub search_end : (xs : List ℕ) (b : BranchList) (s : MemoryState) (h p bits : ℕ) → SomeRemembering xs b → b.top ≤ p → (b.first < b.top → Searching xs b.first b.top s p bits) → Searches xs b s (place.Free 0 h)
+pub search_end : (xs : List ℕ) (b : BranchList) (s : MemoryState) (h p bits : ℕ) → SomeRemembering xs b → b.top ≤ p → (b.first < b.top → Searching xs b.first b.top s p bits) → Searches xs b s (Some (record { at = 0; bits = h }))
 search_end xs b s h p bits some le so = go (dec_lt b.first b.top)
   where
-    go : Dec (b.first < b.top) → Searches xs b s (place.Free 0 h)
+    go : Dec (b.first < b.top) → Searches xs b s (Some (record { at = 0; bits = h }))
     go (yes lt) = absurd (omega (arith, (search_lies xs b.first b.top s p bits (so lt) b refl refl some).high))
     go (no ge) = search_none xs b s h (omega arith)
-
--- ---- the test of one place
-module _ (cs : List Cell) (s : MemoryState) (p h : ℕ) (c : Cell) (read : c ≡ get_or cs p blank) where
-  pub other_hash : h ≡ hash_of cs s → (c.head ≡ h → ⊥) → Tests cs s p false
-  other_hash e ne = record { sound = λ f. absurd (false≢true f); complete = λ t. absurd (ne (ap (λ (x : Cell). x.head) read ∙ t.hash ∙ sym e)) }
-
-  pub other_row : (c.payload ≡ s.row → ⊥) → Tests cs s p false
-  other_row ne = record { sound = λ f. absurd (false≢true f); complete = λ t. absurd (ne (ap (λ (x : Cell). x.payload) read ∙ t.row)) }
-
-  pub by_map : h ≡ hash_of cs s → c.head ≡ h → c.payload ≡ s.row → (there : MemoryState) → there ≡ state_at cs p → (r : Bool) → Compares cs s.map there.map r → Tests cs s p r
-  by_map e f g there is r compares =
-      record {
-        sound = λ t. record {
-          hash = ap (λ (x : Cell). x.head) (sym read) ∙ f ∙ e;
-          row = ap (λ (x : Cell). x.payload) (sym read) ∙ g;
-          runs = compares.sound t ∙ ap (λ (x : MemoryState). runs_at cs x.map) is;
-        };
-        complete = λ t. compares.complete (t.runs ∙ ap (λ (x : MemoryState). runs_at cs x.map) (sym is));
-      }

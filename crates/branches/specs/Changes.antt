@@ -1,6 +1,6 @@
 -- What the parts of `push` write: a state with its header and its counts at a place, and a link to it. What they and `load` and `pop` ask for.
 -- Assumes nothing.
-use Rattle.std.specs.Prelude.{◌≡◌, ℕ, ◌+◌, ◌%◌, ◌<◌, ◌≤◌, List, length, get_or, ◌≢◌}
+use Rattle.std.specs.Prelude.{◌≡◌, ℕ, ◌+◌, ◌%◌, ◌<◌, ◌≤◌, List, length, get_or, ◌≢◌, Option, None, Some}
 use Rattle.model.specs.State.{MemoryState as Defined}
 use Rattle.area.specs.Cells.{cell, blank, cells}
 use Rattle.area.specs.Counts.{count as count_at}
@@ -12,8 +12,6 @@ use Rattle.branches.specs.Header.{half, third, sizes_word, sizes_at, child, used
 use Rattle.branches.specs.Entries.{count_cells, Remembering}
 use Rattle.branches.specs.Lists.{Offers, Below, Above, Pops}
 use Rattle.branches.specs.declared.BranchList.{BranchList}
-use Rattle.branches.specs.declared.Popped.{Popped}
-use Rattle.branches.specs.declared.Popped.TheVariants as popped
 
 -- a state can be pushed, with the counts of n rows below the remembered states: cells that hold none are never offered, and each list of counts
 -- is that of some past
@@ -71,12 +69,12 @@ pub record Latest (xs : List ℕ) (b : BranchList) : Type 0 where
   pub header : (b.last ≢ 0) → b.last + 2 ≤ length (cells xs)
   pub small : length (cells xs) ≤ 1048576
 
--- what is popped is told by the link and the header of the latest alone; where states are remembered it is told of them, whatever the limit and
--- the number of rows
-pub record PopsAny (xs : List ℕ) (b : BranchList) (r : Popped) : Type 0 where
-  pub none : b.last ≡ 0 → r ≡ popped.Nothing
-  pub latest : (b.last ≢ 0) → r ≡ popped.At (record { first = b.first; top = b.top; last = next_at (cells xs) b.last }) b.last
-  pub pops : (limit n : ℕ) → Pops limit n xs b r
+-- what is popped, and the list then, is told by the link and the header of the latest alone; where states are remembered it is told of them,
+-- whatever the limit and the number of rows
+pub record PopsAny (xs : List ℕ) (b c : BranchList) (r : Option ℕ) : Type 0 where
+  pub none : b.last ≡ 0 → (r ≡ None) × (c ≡ b)
+  pub latest : (b.last ≢ 0) → (r ≡ Some b.last) × (c ≡ record { first = b.first; top = b.top; last = next_at (cells xs) b.last })
+  pub pops : (limit n : ℕ) → Pops limit n xs b c r
 
 -- the state at p and its counts can be copied below it, to `base` and to `counts`
 pub record Loadable (limit n : ℕ) (cs : List Cell) (p base counts : ℕ) : Type 0 where

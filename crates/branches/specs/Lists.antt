@@ -1,10 +1,12 @@
 -- What the functions of `BranchList` say: a branch that is pushed is dropped, kept or has no space, as the definition judges it; the latest that
 -- waits is taken; and a state is loaded with its lineage's counts. Assumes nothing.
-use Rattle.std.specs.Prelude.{◌≡◌, ℕ, ◌+◌, ◌-◌, ◌<◌, ◌≤◌, ◌⊎◌, List, [], ◌∷◌, length, get_or}
+use Rattle.std.specs.Prelude.{◌≡◌, ℕ, ◌+◌, ◌-◌, ◌<◌, ◌≤◌, ◌⊎◌, List, [], ◌∷◌, length, get_or, Option, None, Some, Result, Ok, Err}
 use Rattle.model.specs.Walk.{judge, dropped, kept, no_space}
 use Rattle.model.specs.State.{MemoryState as Defined}
 use Rattle.model.specs.Cells.{cells as cells_of}
 use Rattle.model.specs.Equality.{eq_state}
+use Rattle.refusal.specs.declared.Refusal.{Refusal}
+use Rattle.refusal.specs.declared.Refusal.TheVariants.{NoSpace}
 use Rattle.area.specs.Cells.{blank, cells}
 use Rattle.area.specs.declared.Cell.{Cell}
 use Rattle.intmap.specs.Runs.{Agree}
@@ -14,10 +16,6 @@ use Rattle.state.specs.declared.MemoryState.{MemoryState}
 use Rattle.branches.specs.Header.{row_at, len_at, used_at, state_at}
 use Rattle.branches.specs.Entries.{Kept, states, Counted, count_cells, Remembers, IsKept}
 use Rattle.branches.specs.declared.BranchList.{BranchList}
-use Rattle.branches.specs.declared.Pushed.{Pushed}
-use Rattle.branches.specs.declared.Pushed.TheVariants as pushed
-use Rattle.branches.specs.declared.Popped.{Popped}
-use Rattle.branches.specs.declared.Popped.TheVariants as popped
 
 -- cells outside two places are as they were
 pub record Outside (cs ds : List Cell) (a m b n : ℕ) : Type 0 where
@@ -54,24 +52,25 @@ pub record Added (limit bound n : ℕ) (ys : List ℕ) (b c : BranchList) (ks ws
   pub top : c.top ≡ b.top + units_for n m
   pub remembers : Remembers limit bound n ys c (record { at = b.top; mem = m; past = past } ∷ ks) (record { at = b.top; mem = m; past = past } ∷ ws)
 
-module _ (limit bound n : ℕ) (xs ys : List ℕ) (b : BranchList) (ks ws : List Kept) (m : Defined) (past : List ℕ) where
+module _ (limit bound n : ℕ) (xs ys : List ℕ) (b c : BranchList) (ks ws : List Kept) (m : Defined) (past : List ℕ) where
   -- by the definition's verdict, with the space that is left
-  abbrev pub TellsPush : Pushed → Type 0
-  TellsPush pushed.Full = judge eq_state (units_for n) m (states ks) (length (cells xs) - b.top) ≡ no_space
-  TellsPush (pushed.Done c) =
+  abbrev pub TellsPush : Result (Unit {0}) Refusal → Type 0
+  TellsPush (Err e) = judge eq_state (units_for n) m (states ks) (length (cells xs) - b.top) ≡ no_space
+  TellsPush (Ok u) =
       ((judge eq_state (units_for n) m (states ks) (length (cells xs) - b.top) ≡ dropped) × Dropped limit bound n ys b c ks ws)
       ⊎ ((judge eq_state (units_for n) m (states ks) (length (cells xs) - b.top) ≡ kept) × Added limit bound n ys b c ks ws m past)
 
--- whatever is held: no byte is written unless a state is added, and none from the new top on
-abbrev pub WritesPush : List ℕ → List ℕ → BranchList → Pushed → Type 0
-WritesPush xs ys b pushed.Full = ys ≡ xs
-WritesPush xs ys b (pushed.Done c) = (c ≡ b → ys ≡ xs) × Above (cells xs) (cells ys) c.top
+-- whatever is held: a refusal is for want of space and leaves list and area as they were; no byte is written unless a state is added, and none
+-- from the new top on
+abbrev pub WritesPush : List ℕ → List ℕ → BranchList → BranchList → Result (Unit {0}) Refusal → Type 0
+WritesPush xs ys b c (Err e) = (e ≡ NoSpace) × (c ≡ b) × (ys ≡ xs)
+WritesPush xs ys b c (Ok u) = (c ≡ b → ys ≡ xs) × Above (cells xs) (cells ys) c.top
 
--- the current lineage's counts are at the cell `counts`
-pub record Pushes (limit n counts : ℕ) (xs ys : List ℕ) (b : BranchList) (s : MemoryState) (r : Pushed) : Type 0 where
-  pub says : (bound : ℕ) (ks ws : List Kept) (m : Defined) (past : List ℕ) → Remembers limit bound n xs b ks ws → HoldsState limit bound (cells xs) s m → Counted xs n counts past → TellsPush limit bound n xs ys b ks ws m past r
+-- the current lineage's counts are at the cell `counts`; c is the list then
+pub record Pushes (limit n counts : ℕ) (xs ys : List ℕ) (b c : BranchList) (s : MemoryState) (r : Result (Unit {0}) Refusal) : Type 0 where
+  pub says : (bound : ℕ) (ks ws : List Kept) (m : Defined) (past : List ℕ) → Remembers limit bound n xs b ks ws → HoldsState limit bound (cells xs) s m → Counted xs n counts past → TellsPush limit bound n xs ys b c ks ws m past r
   pub below : Below (cells xs) (cells ys) b.first
-  pub writes : WritesPush xs ys b r
+  pub writes : WritesPush xs ys b c r
   pub bytes : length ys ≡ length xs
 
 -- the latest that waits, and the list without it
@@ -85,12 +84,12 @@ pub record Taken (limit bound n : ℕ) (xs : List ℕ) (ks ws : List Kept) (b c 
   pub last : c.last < b.last
   pub remembers : Remembers limit bound n xs c ks rest
 
-abbrev pub TellsPop : ℕ → ℕ → ℕ → List ℕ → List Kept → List Kept → BranchList → Popped → Type 0
-TellsPop limit bound n xs ks ws b popped.Nothing = ws ≡ []
-TellsPop limit bound n xs ks ws b (popped.At c p) = Taken limit bound n xs ks ws b c p
+abbrev pub TellsPop : ℕ → ℕ → ℕ → List ℕ → List Kept → List Kept → BranchList → BranchList → Option ℕ → Type 0
+TellsPop limit bound n xs ks ws b c None = ws ≡ []
+TellsPop limit bound n xs ks ws b c (Some p) = Taken limit bound n xs ks ws b c p
 
-pub record Pops (limit n : ℕ) (xs : List ℕ) (b : BranchList) (r : Popped) : Type 0 where
-  pub says : (bound : ℕ) (ks ws : List Kept) → Remembers limit bound n xs b ks ws → TellsPop limit bound n xs ks ws b r
+pub record Pops (limit n : ℕ) (xs : List ℕ) (b c : BranchList) (r : Option ℕ) : Type 0 where
+  pub says : (bound : ℕ) (ks ws : List Kept) → Remembers limit bound n xs b ks ws → TellsPop limit bound n xs ks ws b c r
 
 -- the state at p is at `base` too, and its counts at `counts`; no other cell is another
 pub record Loads (limit n base counts p : ℕ) (xs ys : List ℕ) (r : MemoryState) : Type 0 where

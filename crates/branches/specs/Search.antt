@@ -1,6 +1,6 @@
 -- Where a state is looked for among the remembered ones: from the root down the way of its hashes, until it is met or a link leads nowhere.
 -- Assumes nothing.
-use Rattle.std.specs.Prelude.{◌≡◌, ℕ, ◌+◌, ◌≤◌, Bool, true, ◌⊎◌, List, [], length}
+use Rattle.std.specs.Prelude.{◌≡◌, ℕ, ◌+◌, ◌≤◌, Bool, true, ◌⊎◌, List, [], length, Option, None, Some}
 use Rattle.model.specs.Walk.{◌∈◌}
 use Rattle.area.specs.Cells.{cells}
 use Rattle.area.specs.declared.Cell.{Cell}
@@ -10,8 +10,7 @@ use Rattle.branches.specs.Header.{hash_at, row_at, child, state_at}
 use Rattle.branches.specs.Hash.{hash_from, hash_of}
 use Rattle.branches.specs.Entries.{Kept, Stands, Path, Remembers, Remembering}
 use Rattle.branches.specs.declared.BranchList.{BranchList}
-use Rattle.branches.specs.declared.Place.{Place}
-use Rattle.branches.specs.declared.Place.TheVariants as place
+use Rattle.branches.specs.declared.FreeLink.{FreeLink}
 
 -- the header at p, and the map that it tells of, lie inside
 pub record HasMap (xs : List ℕ) (p : ℕ) : Type 0 where
@@ -49,11 +48,11 @@ pub record Unknown (cs : List Cell) (b : BranchList) (ks : List Kept) (s : Memor
   pub none : (k : Kept) → k ∈ ks → IsAt cs s k.at → ⊥
   pub place : ((p ≡ 0) × (ks ≡ [])) ⊎ Ends cs b ks (hash_from cs s) p bits
 
-abbrev pub TellsSearch : List Cell → BranchList → List Kept → MemoryState → Place → Type 0
-TellsSearch cs b ks s place.Known = Known cs ks s
-TellsSearch cs b ks s (place.Free p bits) = Unknown cs b ks s p bits
+abbrev pub TellsSearch : List Cell → BranchList → List Kept → MemoryState → Option FreeLink → Type 0
+TellsSearch cs b ks s None = Known cs ks s
+TellsSearch cs b ks s (Some free) = Unknown cs b ks s free.at free.bits
 
-pub record Searches (xs : List ℕ) (b : BranchList) (s : MemoryState) (r : Place) : Type 0 where
+pub record Searches (xs : List ℕ) (b : BranchList) (s : MemoryState) (r : Option FreeLink) : Type 0 where
   pub says : (limit bound n : ℕ) (ks ws : List Kept) → Remembers limit bound n xs b ks ws → TellsSearch (cells xs) b ks s r
 
 -- there are such, whatever the limit and the number of rows

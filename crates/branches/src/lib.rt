@@ -2,7 +2,7 @@
 // `visited_branch_state`.
 #![tactic(auto)]
 
-ghost use Rattle.std.specs.Prelude.{◌≡◌};
+ghost use Rattle.std.specs.Prelude.{◌≡◌, Some};
 ghost use Rattle.area.specs.Cells.{cells, Inside};
 ghost use Rattle.intmap.specs.Map.{IsMap};
 ghost use Rattle.branches.specs.Header.{shift, child, row_at, state_at};
@@ -10,11 +10,11 @@ ghost use Rattle.branches.specs.Hash.{mix, fold, hash_from, hash_of};
 ghost use Rattle.branches.specs.Entries.{next_bits, none};
 ghost use Rattle.branches.specs.Lists.{Pushes, Loads};
 ghost use Rattle.branches.specs.Search.{HasMap, Tests, Searches, SomeRemembering};
-ghost use Rattle.branches.specs.declared.Place.TheVariants as place;
 ghost use Rattle.branches.specs.Changes.{Pushable, Savable, Saves, Linkable, Connects, Latest, PopsAny, Loadable};
 
 use area::Cell;
 use intmap::IntMap;
+use refusal::Refusal;
 use state::MemoryState;
 
 // Half a word.
@@ -31,26 +31,20 @@ pub struct BranchList {
     pub last: usize,
 }
 
-// A branch that was pushed: there is no space for it, or it was known or is kept.
+// Where the current lineage's handled counts are, of how many rows, and how many cells a state may have.
 #[derive(Clone, Copy)]
-pub enum Pushed {
-    Full,
-    Done(BranchList),
+pub struct Layout {
+    pub counts: usize,
+    pub rows: usize,
+    pub limit: usize,
 }
 
-// What waits: nothing, or the state at this place, which waits no more.
+// The free link that would lead to a state that is not known: of the state at this place (0 where none is remembered), by the last digit of
+// these bits.
 #[derive(Clone, Copy)]
-pub enum Popped {
-    Nothing,
-    At(BranchList, usize),
-}
-
-// A state that is looked for: it is known, or the link that would lead to it is free, of the state at this place (0 where none is
-// remembered) by the last digit of these bits.
-#[derive(Clone, Copy)]
-enum Place {
-    Known,
-    Free(usize, u64),
+struct FreeLink {
+    at: usize,
+    bits: u64,
 }
 
 // A word goes into a hash.
@@ -74,14 +68,10 @@ fn hash(area: &[u8], s: MemoryState, start: u64) -> u64
     requires { IsMap (cells area.now) s.map }
     ensures { result ≡ hash_from (cells area.now) s start }
 {
-    let mut at = s.map.base;
-    let mut left = s.map.used;
     let mut h = mix(start, s.row);
-    while 0 < left {
+    for at in s.map.base..s.map.base + s.map.used {
         let c = area::cell_at(area, at);
         h = mix(fold(h, c.head), c.payload);
-        at += 1;
-        left -= 1;
     }
     h
 }
@@ -209,98 +199,75 @@ fn link(area: &mut [u8], p: usize, bits: u64, q: usize)
     );
 }
 
-// Copies the state at p to `base`, and its counts to `counts`.
-pub fn load(
-    area: &mut [u8],
-    p: usize,
-    base: usize,
-    counts: usize,
-    n: usize,
-    limit: usize,
-) -> MemoryState
-    requires { Loadable limit n (cells area.old) p base counts }
-    ensures { Loads limit n base counts p area.old area.new result }
+// Copies the state at p to `base`, and its counts to where the current ones are.
+pub fn load(area: &mut [u8], p: usize, base: usize, layout: Layout) -> MemoryState
+    requires { Loadable layout.limit layout.rows (cells area.old) p base layout.counts }
+    ensures { Loads layout.limit layout.rows base layout.counts p area.old area.new result }
 {
     let s = state_at(area, p);
-    let row = s.row;
-    let map = s.map;
-    let used = map.used;
-    let there = map.copy_to(area, base);
-    area::move_cells(area, p + 2 + used, counts, (n + 15) / 16);
-    MemoryState { row, map: there }
+    let map = s.map.copy_to(area, base);
+    let end = p + 2 + s.map.used;
+    area::move_cells(area, end, layout.counts, (layout.rows + 15) / 16);
+    MemoryState { row: s.row, map }
 }
 
 impl BranchList {
-    // Looks for a state, which has this hash.
-    fn search(self, area: &[u8], s: MemoryState, h: u64) -> Place
+    // Looks for a state, which has this hash: where it is not known, the link that would lead to it.
+    fn search(self, area: &[u8], s: MemoryState, h: u64) -> Option<FreeLink>
         requires { SomeRemembering area.now self × IsMap (cells area.now) s.map × (h ≡ hash_of (cells area.now) s) }
         ensures { Searches area.now self s result }
     {
         let top = self.top;
         let mut p = self.first;
         let mut bits = h;
+        // A `while`: the next place is read from the area, and no range counts it.
         while p < top {
             if is_at(area, p, s, h) {
-                return Place::Known;
+                return None;
             }
             let next = child(area, p, bits);
             if next == 0 {
-                return Place::Free(p, bits);
+                return Some(FreeLink { at: p, bits });
             }
             bits = next_bits(area, p, s, h, bits);
             p = next;
         }
-        Place::Free(0, h)
+        Some(FreeLink { at: 0, bits: h })
     }
 
     // Adds a state that is not known at the top, behind the link that is free.
     fn add(
-        self,
+        &mut self,
         area: &mut [u8],
         s: MemoryState,
         h: u64,
-        at: usize,
-        bits: u64,
-        counts: usize,
-        n: usize,
-        limit: usize,
-    ) -> Pushed
-        requires { Pushable limit n counts area.old self s × (h ≡ hash_of (cells area.old) s) × Searches area.old self s (place.Free at bits) }
-        ensures { Pushes limit n counts area.old area.new self s result }
+        free: FreeLink,
+        layout: Layout,
+    ) -> Result<(), Refusal>
+        requires { Pushable layout.limit layout.rows layout.counts area.old self.old s × (h ≡ hash_of (cells area.old) s) × Searches area.old self.old s (Some free) }
+        ensures { Pushes layout.limit layout.rows layout.counts area.old area.new self.old self.new s result }
     {
-        let first = self.first;
         let top = self.top;
-        let last = self.last;
-        let end = top + 2 + s.map.used + (n + 15) / 16;
+        let end = top + 2 + s.map.used + (layout.rows + 15) / 16;
         if area.len() / 16 < end {
-            return Pushed::Full;
+            return Err(Refusal::NoSpace);
         }
-        save(area, top, s, h, last, counts, n);
-        link(area, at, bits, top);
-        Pushed::Done(BranchList {
-            first,
-            top: end,
-            last: top,
-        })
+        save(area, top, s, h, self.last, layout.counts, layout.rows);
+        link(area, free.at, free.bits, top);
+        self.top = end;
+        self.last = top;
+        Ok(())
     }
 
-    // A branch: it is dropped where its state is known, else its state is kept with the counts at the cell `counts`, and waits.
-    pub fn push(
-        self,
-        area: &mut [u8],
-        s: MemoryState,
-        counts: usize,
-        n: usize,
-        limit: usize,
-    ) -> Pushed
-        requires { Pushable limit n counts area.old self s }
-        ensures { Pushes limit n counts area.old area.new self s result }
+    // A branch: it is dropped where its state is known, else its state is kept with the current counts, and waits.
+    pub fn push(&mut self, area: &mut [u8], s: MemoryState, layout: Layout) -> Result<(), Refusal>
+        requires { Pushable layout.limit layout.rows layout.counts area.old self.old s }
+        ensures { Pushes layout.limit layout.rows layout.counts area.old area.new self.old self.new s result }
     {
         let h = hash(area, s, 0);
-        let found = self.search(area, s, h);
-        match found {
-            Place::Known => Pushed::Done(self),
-            Place::Free(at, bits) => self.add(area, s, h, at, bits, counts, n, limit),
+        match self.search(area, s, h) {
+            None => Ok(()),
+            Some(free) => self.add(area, s, h, free, layout),
         }
     }
 
@@ -315,24 +282,17 @@ impl BranchList {
         }
     }
 
-    // The latest that waits is taken.
-    pub fn pop(self, area: &[u8]) -> Popped
-        requires { Latest area.now self }
-        ensures { PopsAny area.now self result }
+    // The latest that waits is taken: its place, and it waits no more.
+    pub fn pop(&mut self, area: &[u8]) -> Option<usize>
+        requires { Latest area.now self.old }
+        ensures { PopsAny area.now self.old self.new result }
     {
         let last = self.last;
         if last == 0 {
-            return Popped::Nothing;
+            return None;
         }
         let c = area::cell_at(area, last + 1);
-        let next = (c.payload / HALF) as usize;
-        Popped::At(
-            BranchList {
-                first: self.first,
-                top: self.top,
-                last: next,
-            },
-            last,
-        )
+        self.last = (c.payload / HALF) as usize;
+        Some(last)
     }
 }

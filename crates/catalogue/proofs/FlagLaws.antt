@@ -1,20 +1,18 @@
 -- A declared type and a flag, by their bytes. Assumes nothing.
 use mathlib.Core.Path.{◌≡◌, refl, sym, ap, ◌∙◌}
 use mathlib.Core.Bool.{Bool, true, false}
-use mathlib.Core.Option.{none, some}
+use Rattle.std.specs.Prelude.{None, Some}
 use mathlib.Core.List.{List, [], ◌∷◌}
-use Prim.Native.Nat.{ℕ, ◌-◌, ◌≤◌, ◌<◌}
+use Prim.Native.Nat.{ℕ, ◌≤◌, ◌<◌}
 use native.Mathlib.Omega.{arith}
 use lib.Dec.{eqb}
-use lib.ListN.{length, get_or, drop, length-drop}
-use lib.Seq.{drop-cons, length-take-le}
+use lib.ListN.{length, get_or}
 use borrow.Author.Tests.{le-leb, lt-leb, eq-eqb, ne_eqb}
 use Rattle.type_info.specs.Ascii.{ascii, equals}
 use Rattle.type_info.specs.DeclaredType.{all_printable}
 use Rattle.model.specs.Reader.{this_or, read_name}
 use Rattle.model.specs.CatalogueText.{is_declared, print_flag, read_flag}
 use Rattle.model.proofs.TestLaws.{cases}
-use Rattle.text.specs.ReadAt.{part}
 
 pub declared_long : (t : List ℕ) → 64 < length t → false ≡ is_declared t
 unfolding is_declared
@@ -29,11 +27,11 @@ two_bytes : (a b c : ℕ) (t : List ℕ) → equals (a ∷ []) (b ∷ c ∷ t) �
 unfolding equals
 two_bytes a b c t = cases (eqb a b) (λ e. rw e) (λ e. rw e)
 
-flag_as : (t : List ℕ) {x y : Bool} → equals (48 ∷ []) t ≡ x → equals (49 ∷ []) t ≡ y → this_or x false (this_or y true none) ≡ read_flag t
+flag_as : (t : List ℕ) {x y : Bool} → equals (48 ∷ []) t ≡ x → equals (49 ∷ []) t ≡ y → this_or x false (this_or y true None) ≡ read_flag t
 unfolding read_flag read_name print_flag ascii
-flag_as t {x} {y} e h = ap (λ b. this_or b false (this_or y true none)) (sym e) ∙ ap (λ b. this_or (equals (48 ∷ []) t) false (this_or b true none)) (sym h)
+flag_as t {x} {y} e h = ap (λ b. this_or b false (this_or y true None)) (sym e) ∙ ap (λ b. this_or (equals (48 ∷ []) t) false (this_or b true None)) (sym h)
 
-flag_size : (t : List ℕ) → (length t ≡ 1 → ⊥) → none ≡ read_flag t
+pub flag_size : (t : List ℕ) → (length t ≡ 1 → ⊥) → None ≡ read_flag t
 unfolding equals
 flag_size [] h = flag_as [] refl refl
 flag_size (b ∷ []) h = absurd (h refl)
@@ -43,19 +41,17 @@ one_byte : (b a : ℕ) {x : Bool} → eqb a b ≡ x → equals (a ∷ []) (b ∷
 unfolding equals
 one_byte b a e = cases (eqb a b) (λ h. rw h) (λ h. rw h) ∙ e
 
-module _ (t : List ℕ) (from to : ℕ) where
-  pub flag_long : from ≤ to → to < length t → (to - from ≡ 1 → ⊥) → none ≡ read_flag (part t from to)
-  flag_long o h n = flag_size (part t from to) (λ e. n (sym (length-take-le (to - from) (drop from t) (omega (arith, length-drop from t))) ∙ e))
+flag_byte : (t : List ℕ) → length t ≡ 1 → {x y : Bool} → eqb 48 (get_or t 0 0) ≡ x → eqb 49 (get_or t 0 0) ≡ y → this_or x false (this_or y true None) ≡ read_flag t
+flag_byte [] n e h = absurd (omega (arith, n))
+flag_byte (b ∷ []) n e h = flag_as (b ∷ []) (one_byte b 48 e) (one_byte b 49 h)
+flag_byte (b ∷ c ∷ t) n e h = absurd (omega (arith, n))
 
-  module _ (h : from < length t) (one : to - from ≡ 1) where
-    flag_byte : {x y : Bool} → eqb 48 (get_or t from 0) ≡ x → eqb 49 (get_or t from 0) ≡ y → this_or x false (this_or y true none) ≡ read_flag (part t from to)
-    flag_byte e e₁ = flag_as (get_or t from 0 ∷ []) (one_byte (get_or t from 0) 48 e) (one_byte (get_or t from 0) 49 e₁) ∙ ap read_flag (sym (rw (one, drop-cons t from 0 h)))
+module _ (t : List ℕ) (one : length t ≡ 1) where
+  pub flag_zero : get_or t 0 0 ≡ 48 → Some false ≡ read_flag t
+  flag_zero e = flag_byte t one (eq-eqb 48 (get_or t 0 0) (sym e)) refl
 
-    pub flag_zero : get_or t from 0 ≡ 48 → some false ≡ read_flag (part t from to)
-    flag_zero e = flag_byte (eq-eqb 48 (get_or t from 0) (sym e)) refl
+  pub flag_one : get_or t 0 0 ≡ 49 → Some true ≡ read_flag t
+  flag_one e = flag_byte t one (ne_eqb 48 (get_or t 0 0) (λ h. absurd (omega arith))) (eq-eqb 49 (get_or t 0 0) (sym e))
 
-    pub flag_one : get_or t from 0 ≡ 49 → some true ≡ read_flag (part t from to)
-    flag_one e = flag_byte (ne_eqb 48 (get_or t from 0) (λ h. absurd (omega arith))) (eq-eqb 49 (get_or t from 0) (sym e))
-
-    pub flag_other : (get_or t from 0 ≡ 48 → ⊥) → (get_or t from 0 ≡ 49 → ⊥) → none ≡ read_flag (part t from to)
-    flag_other n m = flag_byte (ne_eqb 48 (get_or t from 0) (λ e. n (sym e))) (ne_eqb 49 (get_or t from 0) (λ e. m (sym e)))
+  pub flag_other : (get_or t 0 0 ≡ 48 → ⊥) → (get_or t 0 0 ≡ 49 → ⊥) → None ≡ read_flag t
+  flag_other n m = flag_byte t one (ne_eqb 48 (get_or t 0 0) (λ e. n (sym e))) (ne_eqb 49 (get_or t 0 0) (λ e. m (sym e)))

@@ -2,26 +2,14 @@
 // Both files are in the folder that the program runs in; one that is missing is empty.
 #![tactic(auto)]
 
-ghost use Rattle.std.specs.Prelude.{◌≡◌, ◌%◌, ◌≤◌, length, IfOk};
+ghost use Rattle.std.specs.Prelude.{◌%◌, ◌≤◌, length, IfOk, IfSome};
 
 use reading::read_full;
+use refusal::Refusal;
 use std::fs::File;
 use std::io;
 use std::io::Read;
 use std::rt::Files;
-
-// A file that was read: how many of its bytes are in the buffer, and whether it has more.
-#[derive(Clone, Copy)]
-struct Contents {
-    len: usize,
-    longer: bool,
-}
-
-fn catalogue_buffer() -> [u8; 32768]
-    ensures { 32768 ≡ length result }
-{
-    [0; 32768]
-}
 
 // Whether there is a byte left to read.
 fn has_more<R: Read>(reader: &mut R) -> io::Result<bool> {
@@ -29,20 +17,18 @@ fn has_more<R: Read>(reader: &mut R) -> io::Result<bool> {
     Ok(read_full(reader, &mut byte)? > 0)
 }
 
-fn read_file(rt: &impl Files, name: &str, buf: &mut [u8]) -> io::Result<Contents>
-    ensures { IfOk result (λ contents. contents.len ≤ length buf.new) }
+// What a file holds, or none if it is longer than the buffer.
+fn read_file<'a>(rt: &impl Files, name: &str, buf: &'a mut [u8]) -> io::Result<Option<&'a [u8]>>
+    ensures { IfOk result (λ found. IfSome found (λ bytes. length bytes.now ≤ length buf.old)) }
 {
-    match File::open(rt, name) {
-        Err(_) => Ok(Contents {
-            len: 0,
-            longer: false,
-        }),
-        Ok(mut file) => {
-            let len = read_full(&mut file, buf)?;
-            let longer = has_more(&mut file)?;
-            Ok(Contents { len, longer })
-        }
+    let Ok(mut file) = File::open(rt, name) else {
+        return Ok(Some(&buf[..0]));
+    };
+    let len = read_full(&mut file, buf)?;
+    if has_more(&mut file)? {
+        return Ok(None);
     }
+    Ok(Some(&buf[..len]))
 }
 
 fn print_refusal(rt: &impl Print, number: u64) -> io::Result<()> {
@@ -71,10 +57,10 @@ fn print_kinds(rt: &impl Print, listing: &[u8], catalogue: &[u8]) -> io::Result<
 fn main(rt: HostRuntime) -> io::Result<()> {
     let mut listing = [0u8; 65536];
     let rows = read_file(&rt, "listing.txt", &mut listing)?;
-    let mut catalogue = catalogue_buffer();
+    let mut catalogue = [0u8; 32768];
     let records = read_file(&rt, "catalog.txt", &mut catalogue)?;
-    if rows.longer || records.longer {
-        return print_refusal(&rt, 3);
+    match (rows, records) {
+        (Some(rows), Some(records)) => print_kinds(&rt, rows, records),
+        _ => print_refusal(&rt, Refusal::TooManyLines.number()),
     }
-    print_kinds(&rt, &listing[..rows.len], &catalogue[..records.len])
 }

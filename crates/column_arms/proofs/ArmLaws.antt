@@ -1,6 +1,8 @@
 -- Column and RowData by what cursor P1 stands for: one of the columns behind a head, or all of them as a record. Assumes nothing.
+use Rattle.refusal.specs.declared.Refusal.{Refusal}
+use Rattle.intmap.specs.Store.{Stored}
 use mathlib.Core.Path.{◌≡◌, refl, sym, ap, ap₂, subst, ◌∙◌}
-use mathlib.Core.Option.{Option, none, some}
+use Rattle.std.specs.Prelude.{Option, None, Some, Ok, Err}
 use mathlib.Core.List.{List, ◌∷◌}
 use Prim.Native.Nat.{ℕ, ◌+◌, ◌-◌, ◌≤◌}
 use native.Mathlib.Omega.{arith}
@@ -20,18 +22,12 @@ use Rattle.model.specs.TextTable.{or_else}
 use Rattle.area.specs.Cells.{blank, cell}
 use Rattle.area.specs.declared.Cell.{Cell}
 use Rattle.intmap.specs.Entries.{span}
-use Rattle.intmap.specs.Get.{index_of, Judges}
+use Rattle.intmap.specs.Get.{index_of, Judges, Index, Slot}
 use Rattle.intmap.specs.Map.{levels, IsMap}
 use Rattle.intmap.specs.Pack.{tag_of}
 use Rattle.intmap.specs.Runs.{size}
 use Rattle.intmap.specs.Signed.{int_of}
-use Rattle.intmap.specs.declared.Index.{Index}
-use Rattle.intmap.specs.declared.Index.TheVariants as index_is
 use Rattle.intmap.specs.declared.IntMap.{IntMap}
-use Rattle.intmap.specs.declared.Slot.{Slot}
-use Rattle.intmap.specs.declared.Slot.TheVariants as slot
-use Rattle.intmap.specs.declared.Stored.{Stored}
-use Rattle.intmap.specs.declared.Stored.TheVariants as stored
 use Rattle.intmap.proofs.EntryLaws.{opened}
 use Rattle.intmap.proofs.RunLaws.{size-pos, size_record}
 use Rattle.encoding.specs.Encode.{run_column, run_columns}
@@ -39,11 +35,9 @@ use Rattle.rows.specs.Judged.{Judged}
 use Rattle.rows.specs.declared.Row.{Row}
 use Rattle.state.specs.Leads.{Current, HoldsMap, Tells, Leads}
 use Rattle.state.specs.Arms.{Standard, CursorArm}
-use Rattle.cursor_arms.specs.Cursors.{ReadsCursor}
-use Rattle.cursor_arms.specs.StandsFor.{TellsColumns, FindsColumns}
-use Rattle.cursor_arms.specs.declared.CursorDataType.{CursorDataType}
+use Rattle.cursor_arms.specs.StandsFor.{TellsColumns, FindsCursor}
 use Rattle.cursor_arms.proofs.DupLaws.{frame_same}
-use Rattle.cursor_arms.proofs.StandsLaws.{columns_led}
+use Rattle.cursor_arms.proofs.StandsLaws.{cursor_led, cursor_tells}
 use Rattle.column_arms.specs.Columns.{ColumnsAt, FindsColumn, StoresRun, store_column, store_row, LeadsWith}
 use Rattle.column_arms.proofs.ColumnLaws.{behind_size}
 
@@ -67,8 +61,8 @@ module _ {limit : ℕ} {cs es : List Cell} (same : es ≡ cs) (a : IntMap) (at :
 
 module _ (limit : ℕ) (cs : List Cell) (a : IntMap) (at : ℕ) (current : Current limit cs a) (above : a.base ≤ at) (below : at + size cs levels at ≤ a.base + a.used) where
   -- a column that was found
-  module _ (k : ℕ) (s : Slot) (finds : FindsColumn cs at k s) (q : ℕ) (f : s ≡ slot.At q) where
-    found : FindsColumn cs at k (slot.At q)
+  module _ (k : ℕ) (s : Slot) (finds : FindsColumn cs at k s) (q : ℕ) (f : s ≡ Ok (Some q)) where
+    found : FindsColumn cs at k (Ok (Some q))
     found = subst (FindsColumn cs at k) f finds
 
     pub column_inside : (a.base ≤ q) × (q + size cs levels q ≤ a.base + a.used)
@@ -81,33 +75,33 @@ module _ (limit : ℕ) (cs : List Cell) (a : IntMap) (at : ℕ) (current : Curre
     abbrev chosen : MemoryState → Columns → Tried ℕ → Tried MemoryState
     chosen m y t = (t >>= λ k. done (or_else default (get k (entries y)))) >>= λ v. store_register limit (int_of j) (Column v) m
 
-    pub column_index : (n : ℕ) → x ≡ index_is.Bad n → LeadsWith limit cs cs a at (stored.Refused n) (store_column limit (int_of i) (int_of j))
+    pub column_index : (n : Refusal) → x ≡ Err n → LeadsWith limit cs cs a at (Err n) (store_column limit (int_of i) (int_of j))
     unfolding store_column column_of
     column_index n e = record { says = λ bound m le h y behind. ap (chosen m y) (sym judges.answer ∙ ap index_of e); leaves = tt; frame = frame_same cs _ _ }
 
-    module _ (k : ℕ) (e : x ≡ index_is.At k) (s : Slot) (finds : FindsColumn cs at k s) where
-      is_column : (m : MemoryState) (y : Columns) (o : Option ColumnType) → get k (entries y) ≡ o → store_register limit (int_of j) (Column (or_else default o)) m ≡ store_column limit (int_of i) (int_of j) (some y) m
+    module _ (k : ℕ) (e : x ≡ Ok k) (s : Slot) (finds : FindsColumn cs at k s) where
+      is_column : (m : MemoryState) (y : Columns) (o : Option ColumnType) → get k (entries y) ≡ o → store_register limit (int_of j) (Column (or_else default o)) m ≡ store_column limit (int_of i) (int_of j) (Some y) m
       unfolding store_column column_of
       is_column m y o f = ap (λ u. store_register limit (int_of j) (Column (or_else default u)) m) (sym f) ∙ sym (ap (chosen m y) (sym judges.answer ∙ ap index_of e))
 
-      pub column_bad : (n : ℕ) → s ≡ slot.Bad n → LeadsWith limit cs cs a at (stored.Refused n) (store_column limit (int_of i) (int_of j))
+      pub column_bad : (n : Refusal) → s ≡ Err n → LeadsWith limit cs cs a at (Err n) (store_column limit (int_of i) (int_of j))
       column_bad n f = record { says = λ bound m le h y behind. absurd ((subst (FindsColumn cs at k) f finds).says y behind); leaves = tt; frame = frame_same cs _ _ }
 
-      pub column_absent : s ≡ slot.Absent → (ds : List Cell) (r : Stored) → Leads limit cs ds a r (store_register limit (int_of j) (Column default)) → LeadsWith limit cs ds a at r (store_column limit (int_of i) (int_of j))
+      pub column_absent : s ≡ (Ok None) → (ds : List Cell) (r : Stored) → Leads limit cs ds a r (store_register limit (int_of j) (Column default)) → LeadsWith limit cs ds a at r (store_column limit (int_of i) (int_of j))
       column_absent f ds r st =
           record {
             says = λ bound m le h y behind.
-                subst (Tells limit bound ds r) (is_column m y none ((subst (FindsColumn cs at k) f finds).says y behind)) (st.says bound m le h);
+                subst (Tells limit bound ds r) (is_column m y None ((subst (FindsColumn cs at k) f finds).says y behind)) (st.says bound m le h);
             leaves = st.leaves;
             frame = st.frame;
           }
 
-      pub column_there : (q : ℕ) → s ≡ slot.At q → (c : Cell) → c ≡ get_or cs q blank → (ds : List Cell) (r : Stored) → StoresRun limit cs ds a q c j r → LeadsWith limit cs ds a at r (store_column limit (int_of i) (int_of j))
+      pub column_there : (q : ℕ) → s ≡ Ok (Some q) → (c : Cell) → c ≡ get_or cs q blank → (ds : List Cell) (r : Stored) → StoresRun limit cs ds a q c j r → LeadsWith limit cs ds a at r (store_column limit (int_of i) (int_of j))
       column_there q f c ce ds r st =
           record {
             says = λ bound m le h y behind.
                 (let v = (found k s finds q f).says y behind in
-                subst (Tells limit bound ds r) (is_column m y (some v.column) v.answer)
+                subst (Tells limit bound ds r) (is_column m y (Some v.column) v.answer)
                 (st.says bound m h k v.column (omega (arith, v.depth)) v.sorted
                 (ap (λ (b : Cell). b ∷ span cs (q + 1) (size cs levels q - 1)) ce ∙ opened cs q (size cs levels q) (size-pos cs levels q) ∙ v.run)));
             leaves = st.leaves;
@@ -135,11 +129,11 @@ module _ (limit : ℕ) (cs : List Cell) (a : IntMap) (p j : ℕ) (tag : tag_of (
 -- ---- without columns
 
 module _ (limit : ℕ) (cs ds : List Cell) (a : IntMap) where
-  pub column_default : (i j : ℕ) (r : Stored) → Leads limit cs ds a r (store_register limit (int_of j) (Column default)) → Leads limit cs ds a r (store_column limit (int_of i) (int_of j) none)
+  pub column_default : (i j : ℕ) (r : Stored) → Leads limit cs ds a r (store_register limit (int_of j) (Column default)) → Leads limit cs ds a r (store_column limit (int_of i) (int_of j) None)
   unfolding store_column column_of
   column_default i j r led = led
 
-  pub row_empty : (j : ℕ) (r : Stored) → Leads limit cs ds a r (store_register limit (int_of j) (Column (Record end))) → Leads limit cs ds a r (store_row limit (int_of j) none)
+  pub row_empty : (j : ℕ) (r : Stored) → Leads limit cs ds a r (store_register limit (int_of j) (Column (Record end))) → Leads limit cs ds a r (store_row limit (int_of j) None)
   unfolding store_row
   row_empty j r led = led
 
@@ -170,57 +164,57 @@ row_goes limit row x meaning l st j m =
     ∙ ap (λ i. read_cursor l.p1 m >>= λ c. cursor_columns c m >>= λ cs. store_register limit i (Column (Record (or_else end cs))) m) j.p2
     ∙ ap (λ n. read_cursor l.p1 m >>= λ c. cursor_columns c m >>= λ cs. store_register n l.p2 (Column (Record (or_else end cs))) m) (sym st.cells)
 
-module _ (limit : ℕ) (cs : List Cell) (a : IntMap) (x : Row) (current : Current limit cs a) (c : CursorDataType) (reads : ReadsCursor cs a x.p1 c) (s : Slot) (finds : FindsColumns cs a c s) where
+module _ (limit : ℕ) (cs : List Cell) (a : IntMap) (x : Row) (current : Current limit cs a) (s : Slot) (found : FindsCursor cs a x.p1 s) where
   pub arm_map : IsMap cs a
   arm_map = record { used = current.room.used; inside = omega (arith, current.room.room, current.room.most); small = current.room.small }
 
   -- a head lies within the map, and so does its run
-  module _ (p : ℕ) (e : s ≡ slot.At p) where
+  module _ (p : ℕ) (e : s ≡ Ok (Some p)) where
     pub head_above : a.base ≤ p
-    head_above = (columns_led cs a arm_map p c s finds e).above
+    head_above = (cursor_led cs a arm_map p x.p1 s found e).above
 
     pub head_tag : tag_of (get_or cs p blank) ≡ 2
-    head_tag = (columns_led cs a arm_map p c s finds e).tag
+    head_tag = (cursor_led cs a arm_map p x.p1 s found e).tag
 
     pub head_below : p + size cs levels p ≤ a.base + a.used
-    head_below = omega (arith, (columns_led cs a arm_map p c s finds e).below, size_record cs 9 p (get_or cs p blank) refl (omega arith) head_tag)
+    head_below = omega (arith, (cursor_led cs a arm_map p x.p1 s found e).below, size_record cs 9 p (get_or cs p blank) refl (omega arith) head_tag)
 
     pub head_place : p + 1 ≤ length cs
     head_place = omega (arith, head_below, size-pos cs levels p, arm_map.inside)
 
   module _ (o : CursorOperation) (f : Option Columns → MemoryState → Tried MemoryState) (goes : (row : ℕ) → GoesOn limit row x o f) where
     told : (t : Slot) → s ≡ t → (bound : ℕ) (m : MemoryState) → HoldsMap limit bound cs a m → TellsColumns cs a t (read_cursor (int_of x.p1) m >>= λ c. cursor_columns c m)
-    told t e bound m h = subst (λ y. TellsColumns cs a y (read_cursor (int_of x.p1) m >>= λ c. cursor_columns c m)) e (finds.says limit bound m h (read_cursor (int_of x.p1) m) (reads.says limit bound m h))
+    told t e bound m h = subst (λ y. TellsColumns cs a y (read_cursor (int_of x.p1) m >>= λ c. cursor_columns c m)) e (cursor_tells h x.p1 s found)
 
-    pub arm_bad : (n : ℕ) → s ≡ slot.Bad n → (row : ℕ) → CursorArm limit cs cs a row x o (stored.Refused n)
+    pub arm_bad : (n : Refusal) → s ≡ Err n → (row : ℕ) → CursorArm limit cs cs a row x o (Err n)
     arm_bad n e row =
         record {
           leads = λ meaning l st j.
               record {
-                says = λ bound m le h. sym (goes row meaning l st j m) ∙ ap (λ t. t >>= λ y. f y m) (told (slot.Bad n) e bound m h);
+                says = λ bound m le h. sym (goes row meaning l st j m) ∙ ap (λ t. t >>= λ y. f y m) (told (Err n) e bound m h);
                 leaves = tt;
                 frame = frame_same cs _ _;
               };
         }
 
-    pub arm_absent : s ≡ slot.Absent → (ds : List Cell) (r : Stored) → Leads limit cs ds a r (f none) → (row : ℕ) → CursorArm limit cs ds a row x o r
+    pub arm_absent : s ≡ (Ok None) → (ds : List Cell) (r : Stored) → Leads limit cs ds a r (f None) → (row : ℕ) → CursorArm limit cs ds a row x o r
     arm_absent e ds r led row =
         record {
           leads = λ meaning l st j.
               record {
-                says = λ bound m le h. subst (Tells limit bound ds r) (sym (ap (λ t. t >>= λ y. f y m) (told slot.Absent e bound m h)) ∙ goes row meaning l st j m) (led.says bound m le h);
+                says = λ bound m le h. subst (Tells limit bound ds r) (sym (ap (λ t. t >>= λ y. f y m) (told (Ok None) e bound m h)) ∙ goes row meaning l st j m) (led.says bound m le h);
                 leaves = led.leaves;
                 frame = led.frame;
               };
         }
 
-    pub arm_there : (p : ℕ) → s ≡ slot.At p → (ds : List Cell) (r : Stored) → LeadsWith limit cs ds a p r f → (row : ℕ) → CursorArm limit cs ds a row x o r
+    pub arm_there : (p : ℕ) → s ≡ Ok (Some p) → (ds : List Cell) (r : Stored) → LeadsWith limit cs ds a p r f → (row : ℕ) → CursorArm limit cs ds a row x o r
     arm_there p e ds r led row =
         record {
           leads = λ meaning l st j.
               record {
                 says = λ bound m le h.
-                    (let y = told (slot.At p) e bound m h in
+                    (let y = told (Ok (Some p)) e bound m h in
                     subst (Tells limit bound ds r) (sym (ap (λ t. t >>= λ z. f z m) y.answer) ∙ goes row meaning l st j m)
                     (led.says bound m le h y.columns (record { depth = y.depth; sorted = y.sorted; number = y.number; stands = y.stands })));
                 leaves = led.leaves;

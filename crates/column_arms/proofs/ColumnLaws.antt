@@ -1,14 +1,16 @@
 -- The search for a column among those behind a head, and whether it nests within its levels. Assumes nothing.
+use Rattle.refusal.specs.declared.Refusal.TheVariants.{TooDeep}
 use mathlib.Core.Path.{◌≡◌, refl, sym, ap, subst, ◌∙◌}
 use mathlib.Core.Logic.{◌⊎◌}
 use mathlib.Core.Bool.{Bool, true, false}
-use mathlib.Core.Option.{Option, none, some, map, none-ne-some, some-injective}
+use Rattle.std.specs.Prelude.{Option, None, Some, option_map, Ok, Err}
+use Rattle.std.proofs.lemmas.Option.{none-some, same_Some}
 use mathlib.Core.List.{List}
 use Prim.Native.Nat.{ℕ, zero, suc, ◌+◌, ◌-◌, ◌<◌, ◌≤◌}
 use native.Mathlib.Omega.{arith}
 use lib.Dec.{eqb, ltb}
 use lib.ListN.{length, get_or}
-use borrow.Author.Tests.{eqb-true, eq-eqb, ne_eqb, lt-ltb, le-ltb, ltb-true, ltb-false}
+use borrow.Author.Tests.{eqb-true, lt-ltb, le-ltb, ltb-true, ltb-false}
 use Rattle.model.specs.IntMap.{get, Rising}
 use Rattle.model.specs.State.{ColumnType, Columns, end, entry, entries as column_entries}
 use Rattle.model.specs.Cells.{column_depth, columns_depth}
@@ -20,12 +22,10 @@ use Rattle.intmap.specs.Entries.{span, entries, total}
 use Rattle.intmap.specs.Find.{seek}
 use Rattle.intmap.specs.Map.{levels}
 use Rattle.intmap.specs.Pack.{tag_of, key_of}
-use Rattle.intmap.specs.Pick.{pick}
 use Rattle.intmap.specs.Runs.{size, sizes, IsColumn, AreColumns}
 use Rattle.intmap.specs.Swap.{lookup}
 use Rattle.intmap.specs.declared.Found.{Found}
 use Rattle.intmap.specs.declared.IntMap.{IntMap}
-use Rattle.intmap.specs.declared.Slot.TheVariants as slot
 use Rattle.intmap.proofs.EntryLaws.{length-span, total-sizes}
 use Rattle.intmap.proofs.FindLaws.{found_within, found-whole}
 use Rattle.intmap.proofs.RunLaws.{size-pos, size-single, size_record}
@@ -43,12 +43,6 @@ use Rattle.column_arms.specs.Columns.{columns_in, counted, ColumnsAt, DirectAt, 
 use Rattle.column_arms.proofs.WholeLaws.{counted_parts, counted_one, whole_size, counted_column}
 
 -- ---- the columns that a cell says it has
-
-pub in_record : (c : Cell) → tag_of c ≡ 2 → c.payload ≡ columns_in c
-in_record c t = sym (ap (λ b. pick b c.payload 0) (eq-eqb (tag_of c) 2 t))
-
-pub in_other : (c : Cell) → (tag_of c ≡ 2 → ⊥) → 0 ≡ columns_in c
-in_other c t = sym (ap (λ b. pick b c.payload 0) (ne_eqb (tag_of c) 2 t))
 
 -- a loop over cells: `left` are ahead, from p on, and there is room for fewer columns than `room`
 module _ (cs : List Cell) (p : ℕ) where
@@ -89,7 +83,7 @@ good_columns (entry k c xs) low d s = (s.0, (omega arith, s.2), good_columns xs 
 -- the column of these that has a key, and the run of its that stands at q
 record StandsAt (cs : List Cell) (key q : ℕ) (o : Option ColumnType) : Type 0 where
   column : ColumnType
-  answer : o ≡ some column
+  answer : o ≡ Some column
   depth : column_depth column ≤ 8
   sorted : SortedColumn column
   stands : Stands cs q (run_column key column)
@@ -105,24 +99,24 @@ module _ (cs : List Cell) (p : ℕ) (x : Columns) (at : ColumnsAt cs p x) where
       sym (size_record cs 9 p (get_or cs p blank) refl (omega arith) tag)
       ∙ ap (λ k. 1 + k) (total-sizes cs 8 (get_or cs p blank).payload (p + 1) ∙ ap total behind_runs ∙ sym (length-flatten (column_runs x)))
 
-  looked : (key : ℕ) → lookup key (entries cs 8 (get_or cs p blank).payload (p + 1)) ≡ map (run_column key) (get key (column_entries x))
+  looked : (key : ℕ) → lookup key (entries cs 8 (get_or cs p blank).payload (p + 1)) ≡ option_map (run_column key) (get key (column_entries x))
   looked key = ap (lookup key) behind_runs ∙ get_column x 0 key at.sorted
 
-  there : (key q : ℕ) → lookup key (entries cs 8 (get_or cs p blank).payload (p + 1)) ≡ some (span cs q (size cs 8 q)) → StandsAt cs key q (get key (column_entries x))
+  there : (key q : ℕ) → lookup key (entries cs 8 (get_or cs p blank).payload (p + 1)) ≡ Some (span cs q (size cs 8 q)) → StandsAt cs key q (get key (column_entries x))
   there key q e = go (get key (column_entries x)) (sym (looked key) ∙ e) (rising_get GoodColumn key 0 (column_entries x) (good_columns x 0 at.depth at.sorted))
     where
-      go : (o : Option ColumnType) → map (run_column key) o ≡ some (span cs q (size cs 8 q)) → OnSome (GoodColumn key) o → StandsAt cs key q o
-      go none f g = absurd (none-ne-some _ f)
-      go (some c) f g =
-          let run : run_column key c ≡ span cs q (size cs 8 q) = some-injective _ _ f in
+      go : (o : Option ColumnType) → option_map (run_column key) o ≡ Some (span cs q (size cs 8 q)) → OnSome (GoodColumn key) o → StandsAt cs key q o
+      go None f g = absurd (none-some _ f)
+      go (Some c) f g =
+          let run : run_column key c ≡ span cs q (size cs 8 q) = same_Some _ _ f in
           record { column = c; answer = refl; depth = g.0; sorted = g.1; stands = ap (span cs q) (ap length run ∙ length-span cs q (size cs 8 q)) ∙ sym run }
 
-  nowhere : (key : ℕ) → lookup key (entries cs 8 (get_or cs p blank).payload (p + 1)) ≡ none → get key (column_entries x) ≡ none
+  nowhere : (key : ℕ) → lookup key (entries cs 8 (get_or cs p blank).payload (p + 1)) ≡ None → get key (column_entries x) ≡ None
   nowhere key e = go (get key (column_entries x)) (sym (looked key) ∙ e)
     where
-      go : (o : Option ColumnType) → map (run_column key) o ≡ none → o ≡ none
-      go none f = refl
-      go (some c) f = absurd (none-ne-some _ (sym f))
+      go : (o : Option ColumnType) → option_map (run_column key) o ≡ None → o ≡ None
+      go None f = refl
+      go (Some c) f = absurd (none-some _ (sym f))
 
 -- however many levels are looked at, its run is as long
 module _ (cs : List Cell) (key q : ℕ) (o : Option ColumnType) (v : StandsAt cs key q o) where
@@ -153,7 +147,7 @@ module _ (cs : List Cell) (p : ℕ) (is : IsColumn cs levels p) (tag : tag_of (g
     sought : w ≡ seek cs 8 key (get_or cs p blank).payload (p + 1)
     sought = we ∙ ap (λ (y : Cell). seek cs 8 key y.payload (p + 1)) ce
 
-    pub column_none : w.present ≡ false → FindsColumn cs p key slot.Absent
+    pub column_none : w.present ≡ false → FindsColumn cs p key (Ok None)
     column_none t =
         record {
           says = λ x at. nowhere cs p x at key (seek_none cs 8 key (get_or cs p blank).payload (p + 1) (ap (λ (v : Found). v.present) (sym sought) ∙ t));
@@ -171,21 +165,21 @@ module _ (cs : List Cell) (p : ℕ) (is : IsColumn cs levels p) (tag : tag_of (g
       stands x at =
           there cs p x at key w.at
           (seek_some cs 8 key (get_or cs p blank).payload (p + 1) (ap (λ (v : Found). v.present) (sym sought) ∙ t)
-          ∙ ap (λ (v : Found). some (span cs v.at (size cs 8 v.at))) (sym sought))
+          ∙ ap (λ (v : Found). Some (span cs v.at (size cs 8 v.at))) (sym sought))
 
-      column_there : size cs levels w.at ≤ size cs 8 w.at → FindsColumn cs p key (slot.At w.at)
+      column_there : size cs levels w.at ≤ size cs 8 w.at → FindsColumn cs p key (Ok (Some w.at))
       column_there le = record { says = λ x at. is_there cs key w.at _ (stands x at); within = (within.0, omega (arith, within.1)) }
 
       -- a cell alone
-      pub column_alone : (b : Cell) → b ≡ get_or cs w.at blank → (tag_of b ≡ 2 → ⊥) → FindsColumn cs p key (slot.At w.at)
+      pub column_alone : (b : Cell) → b ≡ get_or cs w.at blank → (tag_of b ≡ 2 → ⊥) → FindsColumn cs p key (Ok (Some w.at))
       column_alone b be other = column_there (omega (arith, size-single cs 9 w.at b be other, size-pos cs 8 w.at))
 
       -- a run that is no longer, however many levels are looked at, or may be
       module _ (n : ℕ) (ne : n ≡ size cs 8 w.at) (b : Bool) (be : b ≡ ltb (counted (span cs w.at n)) n) where
-        pub column_record : b ≡ true → FindsColumn cs p key (slot.At w.at)
+        pub column_record : b ≡ true → FindsColumn cs p key (Ok (Some w.at))
         column_record e = column_there (omega (arith, whole_size cs 9 w.at n (ltb-true (counted (span cs w.at n)) n (sym be ∙ e)), ne))
 
-        pub too_deep : b ≡ false → FindsColumn cs p key (slot.Bad 9)
+        pub too_deep : b ≡ false → FindsColumn cs p key (Err TooDeep)
         too_deep e =
             record {
               says = λ x at.
@@ -218,12 +212,12 @@ module _ (cs : List Cell) (a : IntMap) (p key : ℕ) (is : IsColumn cs levels p)
       let found = direct cs 8 n (p + 1) 0 key (one_each x at) (subst (Rise 0) (sym (behind_runs cs p x at)) (rise_columns x 0 at.sorted)) (omega (arith, near.below, same_n)) in
       subst (λ k. ((seek cs 8 k n (p + 1)).at ≡ q) × ((seek cs 8 k n (p + 1)).present ≡ true)) near.is (found.at, found.present)
 
-  pub column_direct : FindsColumn cs p key (slot.At q)
+  pub column_direct : FindsColumn cs p key (Ok (Some q))
   column_direct =
       record {
         says = λ x at.
             (let w = sought_there x at in
-            is_there cs key q _ (there cs p x at key q (seek_some cs 8 key n (p + 1) w.1 ∙ ap (λ k. some (span cs k (size cs 8 k))) w.0)));
+            is_there cs key q _ (there cs p x at key q (seek_some cs 8 key n (p + 1) w.1 ∙ ap (λ k. Some (span cs k (size cs 8 k))) w.0)));
         within = (omega arith, omega (arith, own_size, behind cs p is tag c ce, sizes-many cs 8 c.payload (p + 1), near.below));
       }
 

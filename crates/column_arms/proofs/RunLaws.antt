@@ -1,5 +1,9 @@
 -- A run stored in a register: behind the map that of an entry, with another head, and an empty record; a cell alone; and a record of plain
 -- columns put over another where that stands. Assumes nothing.
+use Rattle.refusal.specs.declared.Refusal.TheVariants.{TooManyCells}
+use Rattle.refusal.specs.Numbers.{number_of}
+use Rattle.refusal.specs.declared.Refusal.{Refusal}
+use Rattle.std.specs.Prelude.{Ok, Err}
 use mathlib.Core.Path.{◌≡◌, refl, sym, ap, ap₂, subst, ◌∙◌}
 use mathlib.Core.Bool.{Bool, true, false}
 use mathlib.Core.List.{List, [], ◌∷◌, flatten}
@@ -21,18 +25,14 @@ use Rattle.area.specs.declared.Cell.{Cell}
 use Rattle.intmap.specs.Change.{on_head}
 use Rattle.intmap.specs.Depth.{nesting}
 use Rattle.intmap.specs.Entries.{span}
-use Rattle.intmap.specs.Get.{index_of, Judges}
+use Rattle.intmap.specs.Get.{index_of, Judges, Index}
 use Rattle.intmap.specs.Map.{levels, runs_at, HasRoom, Frame}
 use Rattle.intmap.specs.Over.{Plain}
 use Rattle.intmap.specs.Pack.{head, tag_of, with_nullable}
 use Rattle.intmap.specs.Runs.{size, Agree}
 use Rattle.intmap.specs.Signed.{int_of}
-use Rattle.intmap.specs.Store.{store_runs, stored_of, Stores, RunAbove}
-use Rattle.intmap.specs.declared.Index.{Index}
-use Rattle.intmap.specs.declared.Index.TheVariants as index_is
+use Rattle.intmap.specs.Store.{store_runs, stored_of, Stores, RunAbove, Stored}
 use Rattle.intmap.specs.declared.IntMap.{IntMap}
-use Rattle.intmap.specs.declared.Stored.{Stored}
-use Rattle.intmap.specs.declared.Stored.TheVariants as stored
 use Rattle.intmap.proofs.EntryLaws.{length-span, span_same, opened}
 use Rattle.intmap.proofs.MapLaws.{placed_room}
 use Rattle.intmap.proofs.RunLaws.{size-pos, size-single}
@@ -87,12 +87,12 @@ written limit cs es fs a c current some-room same framed is =
 
 -- an answer in runs is the definition's
 tells : (limit bound : ℕ) (ds : List Cell) (a : IntMap) (r : Stored) (t : Tried MemoryState) → Carried limit bound (stored_of ds r) t → Leaves limit ds a r → Tells limit bound ds r t
-tells limit bound ds a (stored.Refused n) t c l = c.refuses n refl
-tells limit bound ds a (stored.Done b) t c l = c.next ds b.base b.len b.used (runs_at ds b) refl refl l.room.used
+tells limit bound ds a (Err n) t c l = c.refuses (number_of n) refl
+tells limit bound ds a (Ok b) t c l = c.next ds b.base b.len b.used (runs_at ds b) refl refl l.room.used
 
 left : (fs ds : List Cell) (limit : ℕ) (a : IntMap) (j depth : ℕ) (run : List Cell) (r : Stored) → Stores fs ds limit a 0 j depth run r → Leaves limit ds a r
-left fs ds limit a j depth run (stored.Refused n) st = tt
-left fs ds limit a j depth run (stored.Done b) st = record { base = st.leaves.base; room = st.leaves.room }
+left fs ds limit a j depth run (Err n) st = tt
+left fs ds limit a j depth run (Ok b) st = record { base = st.leaves.base; room = st.leaves.room }
 
 above_room : (limit : ℕ) (fs : List Cell) (a : IntMap) → a.base + limit + size fs levels (a.base + limit) ≤ length fs → RunAbove fs limit a (a.base + limit) (size fs levels (a.base + limit))
 above_room limit fs a fits = record { whole = refl; above = omega arith; fits = fits }
@@ -245,7 +245,7 @@ plain_depth cs p n c flat key (Record x) e =
     let f : span cs p n ≡ run_columns x = cc in
     omega (arith, plain-columns x (subst AllPlain f (plain-span cs n p flat.1)))
 
-pub stores-over : (limit : ℕ) (cs ds : List Cell) (a : IntMap) (at : ℕ) (c : Cell) (j : ℕ) (r : Bool) → HasRoom cs limit a → OverRegister cs ds a at c j r → r ≡ true → StoresRun limit cs ds a at c j (stored.Done a)
+pub stores-over : (limit : ℕ) (cs ds : List Cell) (a : IntMap) (at : ℕ) (c : Cell) (j : ℕ) (r : Bool) → HasRoom cs limit a → OverRegister cs ds a at c j r → r ≡ true → StoresRun limit cs ds a at c j (Ok a)
 unfolding run_register register_depth
 stores-over limit cs ds a at c j r room over e =
     record {
@@ -254,7 +254,7 @@ stores-over limit cs ds a at c j r room over e =
           let st = over.yes e limit (column_depth v) room low in
           (held_register h (int_of j) key (Column v) (λ _. sorted) tt).next ds a.base a.len a.used (runs_at ds a)
           (ap (λ l. store_runs limit 0 (int_of j) (column_depth v) l (runs_at cs a)) (sym is) ∙ sym st.answer) refl st.leaves.room.used);
-      leaves = left cs ds limit a j 0 (c ∷ span cs (at + 1) (size cs levels at - 1)) (stored.Done a) (over.yes e limit 0 room (omega arith));
+      leaves = left cs ds limit a j 0 (c ∷ span cs (at + 1) (size cs levels at - 1)) (Ok a) (over.yes e limit 0 room (omega arith));
       frame = wider cs ds a.base limit (over.yes e limit 0 room (omega arith)).frame;
     }
 
@@ -267,12 +267,12 @@ module _ (limit : ℕ) (cs : List Cell) (a : IntMap) (j : ℕ) (x : Index) (judg
   abbrev judged : MemoryState → Tried ℕ → Tried MemoryState
   judged m t = t >>= λ k. judge_depth (register_depth nothing) nothing >>= λ v. judge_cells limit (with_registers (insert k v m.r) m)
 
-  pub empty_bad : (n : ℕ) → x ≡ index_is.Bad n → Leads limit cs cs a (stored.Refused n) (store_register limit (int_of j) (Column (Record end)))
+  pub empty_bad : (n : Refusal) → x ≡ Err n → Leads limit cs cs a (Err n) (store_register limit (int_of j) (Column (Record end)))
   unfolding store_register
   empty_bad n e = record { says = λ bound m le h. ap (judged m) (sym judges.answer ∙ ap index_of e); leaves = tt; frame = frame_same cs _ _ }
 
   -- there is no room for its one cell
-  pub empty_full : (k : ℕ) → x ≡ index_is.At k → limit ≡ 0 → Leads limit cs cs a (stored.Refused 8) (store_register limit (int_of j) (Column (Record end)))
+  pub empty_full : (k : ℕ) → x ≡ Ok k → limit ≡ 0 → Leads limit cs cs a (Err TooManyCells) (store_register limit (int_of j) (Column (Record end)))
   unfolding store_register judge_depth judge_cells cells register_cells column_cells register_depth column_depth
   empty_full k e z =
       record {

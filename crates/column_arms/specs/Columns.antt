@@ -1,7 +1,8 @@
 -- The columns that stand behind a head, as Column and RowData take them: one of them by its key, and a run stored in a register.
 -- Assumes nothing.
-use Rattle.std.specs.Prelude.{◌≡◌, true, List, [], ◌∷◌, ℕ, ◌+◌, ◌-◌, ◌<◌, ◌≤◌, eqb, ℤ, get_or}
-use Rattle.std.proofs.Math.Option.{Option, none, some}
+use Rattle.intmap.specs.Store.{Stored}
+use Rattle.intmap.specs.Get.{Slot}
+use Rattle.std.specs.Prelude.{◌≡◌, true, List, [], ◌∷◌, ℕ, ◌+◌, ◌-◌, ◌<◌, ◌≤◌, eqb, ℤ, get_or, Option, None, Some, Ok, Err}
 use Rattle.model.specs.Walk.{Tried}
 use Rattle.model.specs.IntMap.{get}
 use Rattle.model.specs.State.{ColumnType, Record, Columns, end, entries, Column, MemoryState}
@@ -19,9 +20,6 @@ use Rattle.intmap.specs.Pick.{pick}
 use Rattle.intmap.specs.Runs.{size}
 use Rattle.intmap.specs.Signed.{int_of}
 use Rattle.intmap.specs.declared.IntMap.{IntMap}
-use Rattle.intmap.specs.declared.Slot.{Slot}
-use Rattle.intmap.specs.declared.Slot.TheVariants as slot
-use Rattle.intmap.specs.declared.Stored.{Stored}
 use Rattle.encoding.specs.Encode.{count, run_column, run_columns}
 use Rattle.encoding.specs.Holds.{Stands}
 use Rattle.state.specs.Leads.{HoldsMap, Tells, Leaves, operands}
@@ -56,22 +54,22 @@ pub record DirectAt (cs : List Cell) (a : IntMap) (p n key : ℕ) : Type 0 where
 -- the column that has a key, and its run at q
 pub record IsColumnAt (cs : List Cell) (key q : ℕ) (o : Option ColumnType) : Type 0 where
   pub column : ColumnType
-  pub answer : o ≡ some column
+  pub answer : o ≡ Some column
   pub depth : column_depth column ≤ 8
   pub sorted : SortedColumn column
   pub run : span cs q (size cs levels q) ≡ run_column key column
 
 -- a state's columns are never refused
 abbrev pub TellsColumn : List Cell → ℕ → Slot → Option ColumnType → Type 0
-TellsColumn cs key (slot.Bad n) o = ⊥
-TellsColumn cs key slot.Absent o = o ≡ none
-TellsColumn cs key (slot.At q) o = IsColumnAt cs key q o
+TellsColumn cs key (Err n) o = ⊥
+TellsColumn cs key (Ok None) o = o ≡ None
+TellsColumn cs key (Ok (Some q)) o = IsColumnAt cs key q o
 
 -- its run is a part of the run at p
 abbrev pub ColumnWithin : List Cell → ℕ → Slot → Type 0
-ColumnWithin cs p (slot.Bad n) = Unit {0}
-ColumnWithin cs p slot.Absent = Unit {0}
-ColumnWithin cs p (slot.At q) = (p < q) × (q + size cs levels q ≤ p + size cs levels p)
+ColumnWithin cs p (Err n) = Unit {0}
+ColumnWithin cs p (Ok None) = Unit {0}
+ColumnWithin cs p (Ok (Some q)) = (p < q) × (q + size cs levels q ≤ p + size cs levels p)
 
 pub record FindsColumn (cs : List Cell) (p key : ℕ) (r : Slot) : Type 0 where
   pub says : (x : Columns) → ColumnsAt cs p x → TellsColumn cs key r (get key (entries x))
@@ -95,6 +93,6 @@ store_row limit j o m = store_register limit j (Column (Record (or_else end o)))
 
 -- the answer is what f gives, of every state that the map holds, with the columns behind the head at p
 pub record LeadsWith (limit : ℕ) (cs ds : List Cell) (a : IntMap) (p : ℕ) (r : Stored) (f : Option Columns → MemoryState → Tried MemoryState) : Type 0 where
-  pub says : (bound : ℕ) (m : MemoryState) → operands ≤ bound → HoldsMap limit bound cs a m → (x : Columns) → ColumnsAt cs p x → Tells limit bound ds r (f (some x) m)
+  pub says : (bound : ℕ) (m : MemoryState) → operands ≤ bound → HoldsMap limit bound cs a m → (x : Columns) → ColumnsAt cs p x → Tells limit bound ds r (f (Some x) m)
   pub leaves : Leaves limit ds a r
   pub frame : Frame cs ds a.base (limit + limit)

@@ -1,17 +1,25 @@
 -- The call in its parts: the refusals in their order, the rows in the area, the walk and its answer. Assumes nothing.
+use Rattle.refusal.specs.declared.Refusal.TheVariants.{AreaSize}
+use Rattle.refusal.specs.Numbers.{number_of}
 use mathlib.Core.Path.{◌≡◌, refl, sym, ap, subst, ◌∙◌}
 use mathlib.Core.Bool.{Bool, true, false, and-eq-true_iff}
-use mathlib.Core.Option.{Option, none, some}
+use Rattle.std.specs.Prelude.{Option, None, Some, Result, Ok, Err}
 use mathlib.Core.List.{List}
 use Prim.Native.Nat.{ℕ, ◌+◌, ◌-◌, ◌*◌, ◌/◌, ◌<◌, ◌≤◌}
 use native.Mathlib.Omega.{arith}
-use lib.Dec.{leb}
-use lib.ListN.{length, replicate, length-replicate}
-use borrow.Author.Tests.{leb-true}
+use lib.Dec.{leb, ltb}
+use lib.ListN.{length, take, get_or, replicate, length-replicate}
+use lib.Seq.{length-take-le}
+use borrow.Author.Tests.{leb-true, ltb-true, ltb-false}
+use Rattle.std.specs.Prelude.{Result}
+use Rattle.std.proofs.lemmas.List.{get_or-take, get_or_past}
+use Rattle.refusal.specs.declared.Refusal.{Refusal}
 use Rattle.model.specs.Walk.{Tried, refused, done, Notes}
 use Rattle.model.specs.Row.{Row as Listed}
 use Rattle.model.specs.State.{MemoryState as Defined}
-use Rattle.model.specs.Results.{ResultRow, columns_of}
+use Rattle.model.specs.Results.{ResultColumn, ResultRow, columns_of}
+use Rattle.model.proofs.TestLaws.{cases}
+use Rattle.merge.specs.Columns.{unsaid, column_byte, HasColumns}
 use Rattle.model.specs.Access.{◌>>=◌}
 use Rattle.model.specs.Answer.{answer_of, outcome_of}
 use Rattle.model.specs.Catalogue.{CatalogueRecord}
@@ -26,20 +34,13 @@ use Rattle.area.specs.Cells.{cells}
 use Rattle.area.specs.Counts.{HasCounts, CountsCleared}
 use Rattle.area.proofs.CellLaws.{length-cells}
 use Rattle.text.specs.Counts.{counted_as, length_of}
-use Rattle.text.specs.declared.Counted.{Counted}
-use Rattle.text.specs.declared.Counted.TheVariants as counted
 use Rattle.listing.specs.ListingRows.{Room, Loaded}
 use Rattle.answer.specs.Text.{answer_with, Small, called_of, Writes}
-use Rattle.answer.specs.declared.Written.{Written}
-use Rattle.answer.specs.declared.Written.TheVariants as written
 use Rattle.root_block.specs.Build.{Indexable, Indexed}
 use Rattle.rows.specs.Judged.{HaveRows}
 use Rattle.walk.proofs.BranchLaws.{rows_kept}
 use Rattle.walk.specs.Walks.{Counts, Few}
 use Rattle.walk.specs.declared.Walk.{Walk}
-use Rattle.walk.specs.declared.Progress.{Progress}
-use Rattle.walk.specs.declared.Progress.TheVariants as progress
-use Rattle.state.specs.declared.MemoryState.{MemoryState}
 use Rattle.column_kinds.specs.Inner.{serves, RowRoom, Prepared, TellsWalk, WalksRows, Writable, WritesWalk, MayWalk, Catalogued, AnswersRows, CallsInner}
 use Rattle.column_kinds.specs.Calls.{Calls}
 
@@ -60,42 +61,56 @@ refused_same {k = k} e = ap (λ t. elim t [ refused i ↦ i | done x ↦ k ]) e
 
 -- ---- the answer of a walk
 
-pub small_few : {w : Walk} → Few w → Small w.width w.counts.charged w.counts.loopstops w.counts.gasstops w.counts.repeats
+pub small_few : {w : Walk} → Few w → Small w.width w.counts
 small_few f = record { width_small = f.width; charged_small = f.charged; loopstops_small = f.loopstops; gasstops_small = f.gasstops; repeats_small = f.repeats }
 
-module _ (cols answer : List ℕ) (x : Progress) where
-  pub may_write : (w : Walk) → x ≡ progress.Ended w → Writable cols x → Small w.width w.counts.charged w.counts.loopstops w.counts.gasstops w.counts.repeats × (w.width ≤ length cols)
-  may_write w e h = let t = subst (Writable cols) e h in (small_few t.0, omega (arith, t.0.width, t.1))
+-- the bytes of the columns alone
+part_stands : (bytes : List ℕ) (width : ℕ) (columns : List ResultColumn) → width ≤ length bytes → HasColumns bytes width columns → HasColumns (take width bytes) (length (take width bytes)) columns
+unfolding column_byte
+part_stands bytes width columns fits has = record { wide = has.wide ∙ sym long; stand = λ j. cases (ltb j width) (λ e. within j (ltb-true j width e)) (λ e. past j (ltb-false j width e)) }
+  where
+    long : length (take width bytes) ≡ width
+    long = length-take-le width bytes fits
 
-  pub never_paused : (w : Walk) (s : MemoryState) → x ≡ progress.Paused w s → Writable cols x → ⊥
-  never_paused w s e h = subst (Writable cols) e h
+    within : (j : ℕ) → j < width → get_or (take width bytes) j 0 ≡ column_byte (get_or columns j unsaid)
+    within j lt = get_or-take width bytes j 0 lt ∙ has.stand j
 
-  pub writes_refused : (k : ℕ) → x ≡ progress.Refused k → WritesWalk cols x answer answer (written.Refused k)
+    past : (j : ℕ) → width ≤ j → get_or (take width bytes) j 0 ≡ column_byte (get_or columns j unsaid)
+    past j far = get_or_past (take width bytes) j 0 (omega (arith, long)) ∙ ap column_byte (sym (get_or_past columns j unsaid (omega (arith, has.wide))))
+
+module _ (cols answer : List ℕ) (x : Result Walk Refusal) where
+  pub part_fits : (w : Walk) → x ≡ Ok w → Writable cols x → w.width ≤ length cols
+  part_fits w e h = let t = subst (Writable cols) e h in omega (arith, t.0.width, t.1)
+
+  pub may_write : (w : Walk) → x ≡ Ok w → Writable cols x → Small (length (take w.width cols)) w.counts
+  may_write w e h = let t = subst (Writable cols) e h in rw (length-take-le w.width cols (part_fits w e h)) (small_few t.0)
+
+  pub writes_refused : (k : Refusal) → x ≡ Err k → WritesWalk cols x answer answer (Err k)
   unfolding outcome_of leave
   writes_refused k e =
-      subst (λ y. WritesWalk cols y answer answer (written.Refused k)) (sym e)
+      subst (λ y. WritesWalk cols y answer answer (Err k)) (sym e)
       (record { says = λ w t. sym (ap (λ v. leave answer (outcome_of v >>= λ a. print_into (length answer) a)) t.is) })
 
-  pub writes_ended : (w : Walk) (answer_then : List ℕ) (r : Written) → x ≡ progress.Ended w → Writes cols w.width w.counts.charged w.counts.loopstops w.counts.gasstops w.counts.repeats answer answer_then r → WritesWalk cols x answer answer_then r
+  pub writes_ended : (w : Walk) (answer_then : List ℕ) (r : Result ℕ Refusal) → x ≡ Ok w → w.width ≤ length cols → Writes (take w.width cols) w.counts answer answer_then r → WritesWalk cols x answer answer_then r
   unfolding outcome_of
-  writes_ended w answer_then r e writes =
+  writes_ended w answer_then r e fits writes =
       subst (λ y. WritesWalk cols y answer answer_then r) (sym e)
       (record {
         says = λ v t.
-            (writes.says (columns_of t.notes.counted) t.columns).is ∙
+            (writes.says (columns_of t.notes.counted) (part_stands cols w.width (columns_of t.notes.counted) fits t.columns)).is ∙
             ap (λ a. leave answer (print_into (length answer) a)) (same_answer t.notes t.counts) ∙
             sym (ap (λ u. leave answer (outcome_of u >>= λ a. print_into (length answer) a)) t.is);
       })
     where
-      same_answer : (n : Notes Defined ResultRow) → Counts w n → answer_with w.counts.charged w.counts.loopstops w.counts.gasstops w.counts.repeats (columns_of n.counted) ≡ answer_of n
+      same_answer : (n : Notes Defined ResultRow) → Counts w n → answer_with w.counts (columns_of n.counted) ≡ answer_of n
       same_answer n h = rw (h.charged, h.loopstops, h.gasstops, h.repeats)
 
 -- ---- the listing and the catalogue, read
 
 -- at most so many items, where more are refused
 few_items : {A : Type 0} (k most : ℕ) (o : Option (List A)) (items : List A) → (or_refused k o >>= λ xs. done_if 3 (leb (length xs) most) xs) ≡ done items → length items ≤ most
-few_items k most none items g = absurd (refused_done g)
-few_items {A} k most (some xs) items g = inner (leb (length xs) most) refl g
+few_items k most None items g = absurd (refused_done g)
+few_items {A} k most (Some xs) items g = inner (leb (length xs) most) refl g
   where
     inner : (b : Bool) → leb (length xs) most ≡ b → done_if 3 b xs ≡ done items → length items ≤ most
     inner true f h = subst (λ l. length l ≤ most) (done-same h) (leb-true (length xs) most f)
@@ -109,7 +124,7 @@ few_records : (catalogue : List ℕ) (records : List CatalogueRecord) → record
 unfolding records_of
 few_records catalogue records e = few_items 2 4096 (read_catalogue catalogue) records e
 
-catalogue_read : (catalogue : List ℕ) (records : List CatalogueRecord) → records_of catalogue ≡ done records → read_catalogue catalogue ≡ some records
+catalogue_read : (catalogue : List ℕ) (records : List CatalogueRecord) → records_of catalogue ≡ done records → read_catalogue catalogue ≡ Some records
 unfolding records_of
 catalogue_read catalogue records e = by (read_catalogue catalogue) e
   where
@@ -117,9 +132,9 @@ catalogue_read catalogue records e = by (read_catalogue catalogue) e
     inner xs true g = done-same g
     inner xs false g = absurd (refused_done g)
 
-    by : (o : Option (List CatalogueRecord)) → (or_refused 2 o >>= λ xs. done_if 3 (leb (length xs) 4096) xs) ≡ done records → o ≡ some records
-    by none g = absurd (refused_done g)
-    by (some xs) g = ap some (inner xs (leb (length xs) 4096) g)
+    by : (o : Option (List CatalogueRecord)) → (or_refused 2 o >>= λ xs. done_if 3 (leb (length xs) 4096) xs) ≡ done records → o ≡ Some records
+    by None g = absurd (refused_done g)
+    by (Some xs) g = ap Some (inner xs (leb (length xs) 4096) g)
 
 -- the call, where nothing is refused before the walk
 call_as : (listing catalogue area answer : List ℕ) (rows : List Listed) (records : List CatalogueRecord) → rows_of listing ≡ done rows → records_of catalogue ≡ done records → serves (length area) (length rows) ≡ true → call listing catalogue (length area) answer ≡ leave answer (outcome_of (walk_listing (standard records) rows (length area)) >>= λ a. print_into (length answer) a)
@@ -198,20 +213,19 @@ module _ {catalogue blocks area : List ℕ} {n : ℕ} (m : MayWalk area n) (i : 
           columns = zeros;
         }
 
-    module _ (ts cols : List ℕ) (x : Progress) (walks : WalksRows zs ys ts cols n x) where
-      told : (rows : List Listed) (records : List CatalogueRecord) → HaveRows (cells area) 1024 rows → length rows ≡ n → read_catalogue catalogue ≡ some records → TellsWalk cols x (walk_listing (standard records) rows (length area))
+    module _ (ts cols : List ℕ) (x : Result Walk Refusal) (walks : WalksRows zs ys ts cols n x) where
+      told : (rows : List Listed) (records : List CatalogueRecord) → HaveRows (cells area) 1024 rows → length rows ≡ n → read_catalogue catalogue ≡ Some records → TellsWalk cols x (walk_listing (standard records) rows (length area))
       told rows records h size read =
           subst (λ k. TellsWalk cols x (walk_listing (standard records) rows k)) cleared.bytes (walks.says rows records (kept rows size h) size (indexed.says records read))
 
       pub can_write : Writable cols x
       can_write = by x (told m.rows i.records m.listed m.size i.reads)
         where
-          by : (y : Progress) → TellsWalk cols y (walk_listing (standard i.records) m.rows (length area)) → Writable cols y
-          by (progress.Paused w s) t = t
-          by (progress.Refused k) t = tt
-          by (progress.Ended w) t = (t.few, walks.columns)
+          by : (y : Result Walk Refusal) → TellsWalk cols y (walk_listing (standard i.records) m.rows (length area)) → Writable cols y
+          by (Err k) t = tt
+          by (Ok w) t = (t.few, walks.columns)
 
-      pub answers_walk : (answer answer_then : List ℕ) (q : Written) → WritesWalk cols x answer answer_then q → AnswersRows catalogue area ts answer answer_then n q
+      pub answers_walk : (answer answer_then : List ℕ) (q : Result ℕ Refusal) → WritesWalk cols x answer answer_then q → AnswersRows catalogue area ts answer answer_then n q
       answers_walk answer answer_then q writes =
           record {
             says = λ rows records h size read. writes.says (walk_listing (standard records) rows (length area)) (told rows records h size read);
@@ -225,15 +239,15 @@ pub record Read {A : Type 0} (t : Tried (List A)) (n : ℕ) : Type 0 where
   pub is : t ≡ done items
   pub size : length items ≡ n
 
-module _ {A : Type 0} (t : Tried (List A)) (r : Counted) (count : counted_as r ≡ length_of t) where
-  counted_refused : (k : ℕ) → r ≡ counted.Refused k → t ≡ refused k
+module _ {A : Type 0} (t : Tried (List A)) (r : Result ℕ Refusal) (count : counted_as r ≡ length_of t) where
+  counted_refused : (k : Refusal) → r ≡ Err k → t ≡ refused (number_of k)
   counted_refused k e = by t (sym (ap counted_as e) ∙ count)
     where
-      by : (u : Tried (List A)) → refused k ≡ length_of u → u ≡ refused k
+      by : (u : Tried (List A)) → refused (number_of k) ≡ length_of u → u ≡ refused (number_of k)
       by (refused j) f = ap refused (sym (refused_same f))
       by (done xs) f = absurd (refused_done f)
 
-  counted_read : (n : ℕ) → r ≡ counted.Count n → Read t n
+  counted_read : (n : ℕ) → r ≡ Ok n → Read t n
   counted_read n e = by t refl (sym (ap counted_as e) ∙ count)
     where
       by : (u : Tried (List A)) → t ≡ u → done n ≡ length_of u → Read t n
@@ -242,36 +256,36 @@ module _ {A : Type 0} (t : Tried (List A)) (r : Counted) (count : counted_as r �
 
 -- ---- the refusals before the walk
 
-module _ (listing catalogue area ys answer : List ℕ) (room : ℕ) (r : Counted) (has : RowRoom (length area) room) (loaded : Loaded listing area ys 1024 room r) where
-  left_refused : (k : ℕ) → leave answer (refused k) ≡ called_of answer (written.Refused k)
+module _ (listing catalogue area ys answer : List ℕ) (room : ℕ) (r : Result ℕ Refusal) (has : RowRoom (length area) room) (loaded : Loaded listing area ys 1024 room r) where
+  left_refused : (k : Refusal) → leave answer (refused (number_of k)) ≡ called_of answer (Err k)
   unfolding leave
   left_refused k = refl
 
-  pub calls_unlisted : (k : ℕ) → r ≡ counted.Refused k → CallsInner listing catalogue area ys answer answer (written.Refused k)
-  calls_unlisted k e = record { is = sym (call_unlisted listing catalogue area answer k (counted_refused (rows_of listing) r loaded.count k e) ∙ left_refused k); bytes = loaded.bytes }
+  pub calls_unlisted : (k : Refusal) → r ≡ Err k → CallsInner listing catalogue area ys answer answer (Err k)
+  calls_unlisted k e = record { is = sym (call_unlisted listing catalogue area answer (number_of k) (counted_refused (rows_of listing) r loaded.count k e) ∙ left_refused k); bytes = loaded.bytes }
 
-  module _ (n : ℕ) (e : r ≡ counted.Count n) where
+  module _ (n : ℕ) (e : r ≡ Ok n) where
     rows_read : Read (rows_of listing) n
     rows_read = counted_read (rows_of listing) r loaded.count n e
 
     pub few_counted : n ≤ 2048
     few_counted = omega (arith, rows_read.size, few_rows listing rows_read.items rows_read.is)
 
-    module _ (c : Counted) (catalogued : counted_as c ≡ length_of (records_of catalogue)) where
-      pub calls_uncatalogued : (k : ℕ) → c ≡ counted.Refused k → CallsInner listing catalogue area ys answer answer (written.Refused k)
-      calls_uncatalogued k f = record { is = sym (call_uncatalogued listing catalogue area answer rows_read.items k rows_read.is (counted_refused (records_of catalogue) c catalogued k f) ∙ left_refused k); bytes = loaded.bytes }
+    module _ (c : Result ℕ Refusal) (catalogued : counted_as c ≡ length_of (records_of catalogue)) where
+      pub calls_uncatalogued : (k : Refusal) → c ≡ Err k → CallsInner listing catalogue area ys answer answer (Err k)
+      calls_uncatalogued k f = record { is = sym (call_uncatalogued listing catalogue area answer rows_read.items (number_of k) rows_read.is (counted_refused (records_of catalogue) c catalogued k f) ∙ left_refused k); bytes = loaded.bytes }
 
-      module _ (j : ℕ) (f : c ≡ counted.Count j) (b : Bool) (is : b ≡ serves (length ys) n) where
+      module _ (j : ℕ) (f : c ≡ Ok j) (b : Bool) (is : b ≡ serves (length ys) n) where
         records_read : Read (records_of catalogue) j
         records_read = counted_read (records_of catalogue) c catalogued j f
 
         tested : (x : Bool) → b ≡ x → serves (length area) n ≡ x
         tested x g = ap (λ k. serves k n) (sym loaded.bytes) ∙ sym is ∙ g
 
-        pub calls_unserved : b ≡ false → CallsInner listing catalogue area ys answer answer (written.Refused 4)
+        pub calls_unserved : b ≡ false → CallsInner listing catalogue area ys answer answer (Err AreaSize)
         calls_unserved g =
             record {
-              is = sym (call_unserved listing catalogue area answer rows_read.items records_read.items rows_read.is records_read.is (ap (λ k. serves (length area) k) rows_read.size ∙ tested false g) ∙ left_refused 4);
+              is = sym (call_unserved listing catalogue area answer rows_read.items records_read.items rows_read.is records_read.is (ap (λ k. serves (length area) k) rows_read.size ∙ tested false g) ∙ left_refused AreaSize);
               bytes = loaded.bytes;
             }
 
@@ -291,7 +305,7 @@ module _ (listing catalogue area ys answer : List ℕ) (room : ℕ) (r : Counted
                 few = omega (arith, records_read.size, few_records catalogue records_read.items records_read.is);
               }
 
-          pub calls_then : (zs answer_then : List ℕ) (q : Written) → AnswersRows catalogue ys zs answer answer_then n q → CallsInner listing catalogue area zs answer answer_then q
+          pub calls_then : (zs answer_then : List ℕ) (q : Result ℕ Refusal) → AnswersRows catalogue ys zs answer answer_then n q → CallsInner listing catalogue area zs answer answer_then q
           calls_then zs answer_then q inner =
               record {
                 is =
@@ -303,26 +317,26 @@ module _ (listing catalogue area ys answer : List ℕ) (room : ℕ) (r : Counted
 
 -- ---- the entry
 
-module _ (listing catalogue area ys answer answer_then : List ℕ) (q : Written) (inner : CallsInner listing catalogue area ys answer answer_then q) where
+module _ (listing catalogue area ys answer answer_then : List ℕ) (q : Result ℕ Refusal) (inner : CallsInner listing catalogue area ys answer answer_then q) where
   claims : CallClaims listing catalogue (length area) answer
   claims = call_claims listing catalogue (length area) answer
 
-  pub refusal_small : (k : ℕ) → q ≡ written.Refused k → k ≤ 12
+  pub refusal_small : (k : Refusal) → q ≡ Err k → number_of k ≤ 12
   refusal_small k e = subst (λ c. c.number ≤ 12) (sym inner.is ∙ ap (called_of answer_then) e) claims.number
 
   module _ (zs : List ℕ) (cleared : zs ≡ replicate (length ys) 0) where
     zeros : zs ≡ replicate (length area) 0
     zeros = cleared ∙ ap (λ k. replicate k 0) inner.bytes
 
-    pub calls_refused : (k : ℕ) → q ≡ written.Refused k → Calls listing catalogue area zs answer answer_then (k * 4294967296)
-    calls_refused k e =
-        let is : record { number = k; size = 0; answer = answer_then } ≡ call listing catalogue (length area) answer = ap (called_of answer_then) (sym e) ∙ inner.is in
-        record { result = no_size k ∙ ap (λ c. c.number * 4294967296 + c.size) is; bytes = ap (λ c. c.answer) is; zero = zeros; claims = claims }
+    pub calls_refused : (k : Refusal) (n : ℕ) → n ≡ number_of k → q ≡ Err k → Calls listing catalogue area zs answer answer_then (n * 4294967296)
+    calls_refused k n ne e =
+        let is : record { number = n; size = 0; answer = answer_then } ≡ call listing catalogue (length area) answer = ap (λ i. record { number = i; size = 0; answer = answer_then }) ne ∙ ap (called_of answer_then) (sym e) ∙ inner.is in
+        record { result = no_size n ∙ ap (λ c. c.number * 4294967296 + c.size) is; bytes = ap (λ c. c.answer) is; zero = zeros; claims = claims }
       where
         no_size : (i : ℕ) → i * 4294967296 ≡ i * 4294967296 + 0
         no_size i = omega arith
 
-    pub calls_answered : (n : ℕ) → q ≡ written.Length n → Calls listing catalogue area zs answer answer_then n
+    pub calls_answered : (n : ℕ) → q ≡ Ok n → Calls listing catalogue area zs answer answer_then n
     calls_answered n e =
         let is : record { number = 0; size = n; answer = answer_then } ≡ call listing catalogue (length area) answer = ap (called_of answer_then) (sym e) ∙ inner.is in
         record { result = no_number n ∙ ap (λ c. c.number * 4294967296 + c.size) is; bytes = ap (λ c. c.answer) is; zero = zeros; claims = claims }

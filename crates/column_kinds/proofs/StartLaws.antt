@@ -1,6 +1,7 @@
 -- The walk's fresh start in the area, and that a run with all the units is the whole walk. Assumes nothing.
+use Rattle.refusal.specs.declared.Refusal.{Refusal}
 use mathlib.Core.Path.{◌≡◌, refl, sym, ap, subst, ◌∙◌}
-use mathlib.Core.Option.{Option, none, some}
+use Rattle.std.specs.Prelude.{Option, None, Some, Result, Ok, Err}
 use mathlib.Core.List.{List, [], ◌∷◌}
 use Prim.Native.Nat.{ℕ, ◌+◌, ◌-◌, ◌<◌}
 use native.Mathlib.Omega.{arith}
@@ -31,16 +32,15 @@ use Rattle.state.specs.declared.MemoryState.{MemoryState}
 use Rattle.branches.specs.Entries.{none as no_branches}
 use Rattle.branches.specs.declared.BranchList.{BranchList}
 use Rattle.branches.proofs.RememberLaws.{remembers_none}
+use Rattle.counters.specs.declared.Counters.{Counters}
 use Rattle.merge.specs.Columns.{HasColumns}
 use Rattle.merge.proofs.ByteLaws.{no_columns}
 use Rattle.walk.specs.Walks.{Given, bound_of, HoldsList, HoldsWalk, HoldsRow, the_run, TellsRun}
 use Rattle.walk.specs.Loop.{Running, Runs}
 use Rattle.walk.specs.declared.Program.{Program}
 use Rattle.walk.specs.declared.Walk.{Walk}
-use Rattle.walk.specs.declared.Progress.{Progress}
-use Rattle.walk.specs.declared.Progress.TheVariants as progress
 use Rattle.walk.proofs.ListLaws.{element_within}
-use Rattle.column_kinds.specs.Inner.{Prepared, TellsWalk, WalksRows}
+use Rattle.column_kinds.specs.Inner.{Prepared, WalkAnswered, TellsWalk, WalksRows}
 
 zeros_long : length {A = ℕ} (replicate 2000 0) ≡ 2000
 zeros_long = length-replicate {A = ℕ} 2000 0
@@ -59,8 +59,18 @@ paused_ended e = subst IsEnded e tt
 abbrev program_of : ℕ → Program
 program_of n = record { limit = 512; size = n }
 
+abbrev walk_of : Counters → BranchList → Walk
+walk_of k b = record { gas = 100000; counts = k; width = 0; branches = b }
+
 abbrev walk_with : BranchList → Walk
-walk_with b = record { gas = 100000; counts = record { charged = 0; loopstops = 0; gasstops = 0; repeats = 0 }; width = 0; branches = b }
+walk_with b = walk_of (record { charged = 0; loopstops = 0; gasstops = 0; repeats = 0 }) b
+
+-- counts that are all 0
+abbrev None-counted : Counters → Type 0
+None-counted k = (k.charged ≡ 0) × ((k.loopstops ≡ 0) × ((k.gasstops ≡ 0) × (k.repeats ≡ 0)))
+
+none_counted : (k : Counters) → None-counted k → record { charged = 0; loopstops = 0; gasstops = 0; repeats = 0 } ≡ k
+none_counted k z = λ i. record { charged = sym z.0 i; loopstops = sym z.1.0 i; gasstops = sym z.1.1.0 i; repeats = sym z.1.1.1 i }
 
 abbrev state_with : IntMap → MemoryState
 state_with a = record { row = offset; map = a }
@@ -70,15 +80,15 @@ given_of rows records = record { rows = rows; records = records; units = 100000 
 
 -- where the fresh start stands
 module _ (rows : List Listed) (space : ℕ) where
-  start_on : 0 < length rows → row_of rows fresh ≡ some 0
+  start_on : 0 < length rows → row_of rows fresh ≡ Some 0
   unfolding row_of row_at
   start_on lt = let e = element_within rows 0 lt in ap (number_at fresh) e.is
 
-  start_off : length rows ≡ 0 → row_of rows fresh ≡ none
+  start_off : length rows ≡ 0 → row_of rows fresh ≡ None
   unfolding row_of row_at
   start_off e = by rows e
     where
-      by : (rs : List Listed) → length rs ≡ 0 → number_at fresh (row_at rs (pos 0)) ≡ none
+      by : (rs : List Listed) → length rs ≡ 0 → number_at fresh (row_at rs (pos 0)) ≡ None
       by [] e = refl
       by (r ∷ rs) e = absurd (omega (arith, e))
 
@@ -86,7 +96,7 @@ module _ (rows : List Listed) (space : ℕ) where
   notes = note_taken fresh (start_notes space)
 
   abbrev front_at : Option ℕ → Fronted Defined ResultRow
-  front_at o = elim o [ none ↦ take_up (row_of rows) [] notes | some row ↦ on_row row (record { mem = fresh; past = [] }) [] notes ]
+  front_at o = elim o [ None ↦ take_up (row_of rows) [] notes | Some row ↦ on_row row (record { mem = fresh; past = [] }) [] notes ]
 
   begins_on : 0 < length rows → begin {R = ResultRow} (row_of rows) fresh space ≡ on_row 0 (record { mem = fresh; past = [] }) [] notes
   unfolding begin take_up
@@ -165,7 +175,7 @@ module _ {blocks xs cols : List ℕ} {n : ℕ} (q : Prepared blocks xs cols n) (
         })
 
     -- no row
-    pub start_none : n ≡ 0 → TellsWalk cols (progress.Ended (walk_with b)) (walk_listing (standard records) rows (length xs))
+    pub start_none : n ≡ 0 → TellsWalk cols (Ok (walk_with b)) (walk_listing (standard records) rows (length xs))
     unfolding walk columns_of
     start_none z =
         record {
@@ -180,8 +190,8 @@ module _ {blocks xs cols : List ℕ} {n : ℕ} (q : Prepared blocks xs cols n) (
         none_walk = same-walk (sym (runs-whole rows records (length xs) (none_left (notes rows (space rows records (length xs)))) (begins_off rows (space rows records (length xs)) (size ∙ z))) ∙ run_none eq_state (row_of rows) (ways (standard records) rows) (units rows) 100000 100000 (notes rows (space rows records (length xs))))
 
   -- what the run asks, and what follows for the walk
-  pub may_run : 0 < n → (a : IntMap) → a ≡ empty 0 → Running (program_of n) blocks xs cols (walk_with b) (state_with a)
-  may_run lt a e =
+  runs_from : 0 < n → (a : IntMap) → a ≡ empty 0 → Running (program_of n) blocks xs cols (walk_with b) (state_with a)
+  runs_from lt a e =
       record {
         given = given_of q.rows q.records;
         front = front_is q.rows q.records q.listed q.size q.has;
@@ -190,22 +200,50 @@ module _ {blocks xs cols : List ℕ} {n : ℕ} (q : Prepared blocks xs cols n) (
         unclosed = refl;
       }
 
-  pub walks_none : n ≡ 0 → WalksRows blocks xs xs cols n (progress.Ended (walk_with b))
-  walks_none z = record { says = λ rows records listed size read. start_none rows records listed size read z; bytes = refl; columns = ap length q.columns ∙ zeros_long }
+  none_from : n ≡ 0 → WalksRows blocks xs xs cols n (Ok (walk_with b))
+  none_from z = record { says = λ rows records listed size read. start_none rows records listed size read z; bytes = refl; columns = ap length q.columns ∙ zeros_long }
 
-  pub walks_run : 0 < n → (a : IntMap) → a ≡ empty 0 → (ys dols : List ℕ) (r : Progress) → Runs (program_of n) blocks xs ys cols dols (walk_with b) (state_with a) 100000 r → WalksRows blocks xs ys dols n r
-  walks_run lt a e ys dols r runs =
-      record {
-        says = λ rows records listed size read.
-            whole r rows records
-            (subst (TellsRun (program_of n) (given_of rows records) blocks ys dols r)
-            (ap (λ k. the_run (program_of k) (given_of rows records) 100000 100000 (front_is rows records listed size read)) (sym size) ∙ runs-whole rows records (length xs) (front_is rows records listed size read) (begins_on rows (space rows records (length xs)) (omega (arith, size, lt))))
-            (runs.says (given_of rows records) (front_is rows records listed size read) (start_row rows records listed size read lt a e) refl));
-        bytes = runs.bytes;
-        columns = runs.columns ∙ ap length q.columns ∙ zeros_long;
-      }
-    where
-      whole : (x : Progress) (rows : List Listed) (records : List CatalogueRecord) → TellsRun (program_of n) (given_of rows records) blocks ys dols x (ended (walk_listing (standard records) rows (length xs))) → TellsWalk dols x (walk_listing (standard records) rows (length xs))
-      whole (progress.Paused w s) rows records t = paused_ended t.is
-      whole (progress.Refused k) rows records t = record { notes = t.notes; is = same-walk t.is }
-      whole (progress.Ended w) rows records t = record { notes = t.notes; is = same-walk t.is; counts = t.end.walk.counts; columns = t.end.walk.list.columns; few = t.end.few }
+  -- a run with all the units for its budget does not pause
+  module _ (lt : 0 < n) (a : IntMap) (e : a ≡ empty 0) (ys dols : List ℕ) (v : Walk) where
+    told : (r : Result (Option MemoryState) Refusal) → Runs (program_of n) blocks xs ys cols dols (walk_with b) v (state_with a) 100000 r → (rows : List Listed) (records : List CatalogueRecord) → HaveRows (cells xs) 1024 rows → length rows ≡ n → HasBlocks blocks records → TellsRun (program_of n) (given_of rows records) blocks ys dols v r (ended (walk_listing (standard records) rows (length xs)))
+    told r runs rows records listed size read =
+        subst (TellsRun (program_of n) (given_of rows records) blocks ys dols v r)
+        (ap (λ k. the_run (program_of k) (given_of rows records) 100000 100000 (front_is rows records listed size read)) (sym size) ∙ runs-whole rows records (length xs) (front_is rows records listed size read) (begins_on rows (space rows records (length xs)) (omega (arith, size, lt))))
+        (runs.says (given_of rows records) (front_is rows records listed size read) (start_row rows records listed size read lt a e) refl)
+
+    long : (r : Result (Option MemoryState) Refusal) → Runs (program_of n) blocks xs ys cols dols (walk_with b) v (state_with a) 100000 r → length dols ≡ 2000
+    long r runs = runs.columns ∙ ap length q.columns ∙ zeros_long
+
+    refused_from : (k : Refusal) → Runs (program_of n) blocks xs ys cols dols (walk_with b) v (state_with a) 100000 (Err k) → WalksRows blocks xs ys dols n (Err k)
+    refused_from k runs =
+        record {
+          says = λ rows records listed size read. let t = told (Err k) runs rows records listed size read in record { notes = t.notes; is = same-walk t.is };
+          bytes = runs.bytes;
+          columns = long (Err k) runs;
+        }
+
+    ended_from : (o : Option MemoryState) → Runs (program_of n) blocks xs ys cols dols (walk_with b) v (state_with a) 100000 (Ok o) → WalksRows blocks xs ys dols n (Ok v)
+    ended_from o runs = record { says = λ rows records listed size read. by o rows records (told (Ok o) runs rows records listed size read); bytes = runs.bytes; columns = long (Ok o) runs }
+      where
+        by : (o : Option MemoryState) (rows : List Listed) (records : List CatalogueRecord) → TellsRun (program_of n) (given_of rows records) blocks ys dols v (Ok o) (ended (walk_listing (standard records) rows (length xs))) → WalkAnswered dols v (walk_listing (standard records) rows (length xs))
+        by (Some m) rows records t = absurd (paused_ended t.is)
+        by None rows records t = record { notes = t.notes; is = same-walk t.is; counts = t.end.walk.counts; columns = t.end.walk.list.columns; few = t.end.few }
+
+-- the same with the counts as the code makes them
+module _ {blocks xs cols : List ℕ} {n : ℕ} (q : Prepared blocks xs cols n) (b : BranchList) (is_b : b ≡ no_branches (512 + 512 + n + n)) (k : Counters) (zero : None-counted k) where
+  pub walks_none : n ≡ 0 → WalksRows blocks xs xs cols n (Ok (walk_of k b))
+  walks_none z = subst (λ (x : Counters). WalksRows blocks xs xs cols n (Ok (walk_of x b))) (none_counted k zero) (none_from q b is_b z)
+
+  module _ (lt : 0 < n) (a : IntMap) (e : a ≡ empty 0) where
+    pub may_run : Running (program_of n) blocks xs cols (walk_of k b) (state_with a)
+    may_run = subst (λ (x : Counters). Running (program_of n) blocks xs cols (walk_of x b) (state_with a)) (none_counted k zero) (runs_from q b is_b lt a e)
+
+    module _ (ys dols : List ℕ) (v : Walk) where
+      run_as : (r : Result (Option MemoryState) Refusal) → Runs (program_of n) blocks xs ys cols dols (walk_of k b) v (state_with a) 100000 r → Runs (program_of n) blocks xs ys cols dols (walk_with b) v (state_with a) 100000 r
+      run_as r runs = subst (λ (x : Counters). Runs (program_of n) blocks xs ys cols dols (walk_of x b) v (state_with a) 100000 r) (sym (none_counted k zero)) runs
+
+      pub walks_refused : (i : Refusal) → Runs (program_of n) blocks xs ys cols dols (walk_of k b) v (state_with a) 100000 (Err i) → WalksRows blocks xs ys dols n (Err i)
+      walks_refused i runs = refused_from q b is_b lt a e ys dols v i (run_as (Err i) runs)
+
+      pub walks_ended : (o : Option MemoryState) → Runs (program_of n) blocks xs ys cols dols (walk_of k b) v (state_with a) 100000 (Ok o) → WalksRows blocks xs ys dols n (Ok v)
+      walks_ended o runs = ended_from q b is_b lt a e ys dols v o (run_as (Ok o) runs)

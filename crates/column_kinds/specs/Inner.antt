@@ -1,6 +1,7 @@
 -- What the parts of the call say. Assumes nothing.
-use Rattle.std.specs.Prelude.{◌≡◌, Bool, true, ◌&&◌, List, ℕ, ◌+◌, ◌*◌, ◌/◌, ◌<◌, ◌≤◌, leb, length, replicate}
-use Rattle.std.proofs.Math.Option.{some}
+use Rattle.refusal.specs.Numbers.{number_of}
+use Rattle.refusal.specs.declared.Refusal.{Refusal}
+use Rattle.std.specs.Prelude.{◌≡◌, Bool, true, ◌&&◌, List, ℕ, ◌+◌, ◌*◌, ◌/◌, ◌<◌, ◌≤◌, leb, length, replicate, Some, Result, Ok, Err}
 use Rattle.model.specs.Walk.{Notes, Walked, refused_with, answered}
 use Rattle.model.specs.Row.{Row as Listed}
 use Rattle.model.specs.State.{MemoryState as Defined}
@@ -18,11 +19,8 @@ use Rattle.area.specs.Counts.{count}
 use Rattle.rows.specs.Judged.{HaveRows}
 use Rattle.merge.specs.Columns.{HasColumns}
 use Rattle.answer.specs.Text.{called_of}
-use Rattle.answer.specs.declared.Written.{Written}
 use Rattle.walk.specs.Walks.{Counts, Few}
 use Rattle.walk.specs.declared.Walk.{Walk}
-use Rattle.walk.specs.declared.Progress.{Progress}
-use Rattle.walk.specs.declared.Progress.TheVariants as progress
 
 -- an area of so many bytes serves so many rows: not refusal 4
 abbrev pub serves : ℕ → ℕ → Bool
@@ -46,7 +44,7 @@ pub record Prepared (blocks xs cols : List ℕ) (n : ℕ) : Type 0 where
   pub zero : (i : ℕ) → i < n → count xs (1024 + n) i ≡ 0
   pub columns : cols ≡ replicate 2000 0
 
--- a walk is refused, or answered with these counts and columns; a run with all the units for its budget does not pause
+-- a walk is refused, or answered with these counts and columns
 pub record WalkRefused (k : ℕ) (w : Walked Defined ResultRow) : Type 0 where
   pub notes : Notes Defined ResultRow
   pub is : w ≡ refused_with k notes
@@ -58,29 +56,27 @@ pub record WalkAnswered (cols : List ℕ) (e : Walk) (w : Walked Defined ResultR
   pub columns : HasColumns cols e.width (columns_of notes.counted)
   pub few : Few e
 
-abbrev pub TellsWalk : List ℕ → Progress → Walked Defined ResultRow → Type 0
-TellsWalk cols (progress.Paused w s) x = ⊥
-TellsWalk cols (progress.Refused k) x = WalkRefused k x
-TellsWalk cols (progress.Ended w) x = WalkAnswered cols w x
+abbrev pub TellsWalk : List ℕ → Result Walk Refusal → Walked Defined ResultRow → Type 0
+TellsWalk cols (Err e) x = WalkRefused (number_of e) x
+TellsWalk cols (Ok w) x = WalkAnswered cols w x
 
-pub record WalksRows (blocks xs ys dols : List ℕ) (n : ℕ) (r : Progress) : Type 0 where
+pub record WalksRows (blocks xs ys dols : List ℕ) (n : ℕ) (r : Result Walk Refusal) : Type 0 where
   pub says : (rows : List Listed) (records : List CatalogueRecord) → HaveRows (cells xs) 1024 rows → length rows ≡ n → HasBlocks blocks records → TellsWalk dols r (walk_listing (standard records) rows (length xs))
   pub bytes : length ys ≡ length xs
   pub columns : length dols ≡ 2000
 
 -- the call, but for the area that is left
-pub record CallsInner (listing catalogue area area_then answer answer_then : List ℕ) (r : Written) : Type 0 where
+pub record CallsInner (listing catalogue area area_then answer answer_then : List ℕ) (r : Result ℕ Refusal) : Type 0 where
   pub is : called_of answer_then r ≡ call listing catalogue (length area) answer
   pub bytes : length area_then ≡ length area
 
 -- the numbers of a walk that ended can be printed
-abbrev pub Writable : List ℕ → Progress → Type 0
-Writable cols (progress.Paused w s) = ⊥
-Writable cols (progress.Refused k) = Unit {0}
-Writable cols (progress.Ended w) = Few w × (length cols ≡ 2000)
+abbrev pub Writable : List ℕ → Result Walk Refusal → Type 0
+Writable cols (Err k) = Unit {0}
+Writable cols (Ok w) = Few w × (length cols ≡ 2000)
 
 -- what is left of a buffer: of the walk, the definition's
-pub record WritesWalk (cols : List ℕ) (x : Progress) (answer answer_then : List ℕ) (r : Written) : Type 0 where
+pub record WritesWalk (cols : List ℕ) (x : Result Walk Refusal) (answer answer_then : List ℕ) (r : Result ℕ Refusal) : Type 0 where
   pub says : (w : Walked Defined ResultRow) → TellsWalk cols x w → called_of answer_then r ≡ leave answer (outcome_of w >>= λ a. print_into (length answer) a)
 
 -- n rows of a listing in an area that serves them
@@ -94,11 +90,11 @@ pub record MayWalk (area : List ℕ) (n : ℕ) : Type 0 where
 -- a catalogue of n records
 pub record Catalogued (catalogue : List ℕ) (n : ℕ) : Type 0 where
   pub records : List CatalogueRecord
-  pub read : read_catalogue catalogue ≡ some records
+  pub read : read_catalogue catalogue ≡ Some records
   pub size : length records ≡ n
   pub few : n ≤ 4096
 
 -- the answer of the walk over any rows that are in the area
-pub record AnswersRows (catalogue area area_then answer answer_then : List ℕ) (n : ℕ) (r : Written) : Type 0 where
-  pub says : (rows : List Listed) (records : List CatalogueRecord) → HaveRows (cells area) 1024 rows → length rows ≡ n → read_catalogue catalogue ≡ some records → called_of answer_then r ≡ leave answer (outcome_of (walk_listing (standard records) rows (length area)) >>= λ a. print_into (length answer) a)
+pub record AnswersRows (catalogue area area_then answer answer_then : List ℕ) (n : ℕ) (r : Result ℕ Refusal) : Type 0 where
+  pub says : (rows : List Listed) (records : List CatalogueRecord) → HaveRows (cells area) 1024 rows → length rows ≡ n → read_catalogue catalogue ≡ Some records → called_of answer_then r ≡ leave answer (outcome_of (walk_listing (standard records) rows (length area)) >>= λ a. print_into (length answer) a)
   pub bytes : length area_then ≡ length area

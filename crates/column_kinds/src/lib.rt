@@ -6,13 +6,12 @@ ghost use Rattle.column_kinds.specs.Calls.{Calls};
 ghost use Rattle.column_kinds.specs.Inner.{serves, RowRoom, Prepared, WalksRows, Writable, WritesWalk, MayWalk, Catalogued, AnswersRows, CallsInner};
 ghost use Rattle.root_block.specs.Build.{Indexable};
 
-use answer::Written;
 use branches::BranchList;
 use counters::Counters;
 use intmap::IntMap;
+use refusal::Refusal;
 use state::MemoryState;
-use text::Counted;
-use walk::{Program, Progress, Walk};
+use walk::{Program, Walk};
 
 // The limit of cells, and the units that a walk has.
 const LIMIT: usize = 512;
@@ -41,26 +40,19 @@ fn row_room(bytes: usize) -> usize
     (cells - 2 * LIMIT) / 2
 }
 
-// The walk over n rows that are in the area, from the fresh start.
-fn walk_rows(area: &mut [u8], columns: &mut [u8], blocks: &[u8], n: usize) -> Progress
+// The walk over n rows that are in the area, from the fresh start to its end: all its units are its budget, so that it does not pause.
+fn walk_rows(area: &mut [u8], columns: &mut [u8], blocks: &[u8], n: usize) -> Result<Walk, Refusal>
     requires { Prepared blocks.now area.old columns.old n }
     ensures { WalksRows blocks.now area.old area.new columns.new n result }
 {
-    let branches = BranchList::new(LIMIT + LIMIT + n + n);
-    let counts = Counters {
-        charged: 0,
-        loopstops: 0,
-        gasstops: 0,
-        repeats: 0,
-    };
-    let w = Walk {
+    let mut w = Walk {
         gas: GAS,
-        counts,
+        counts: Counters::default(),
         width: 0,
-        branches,
+        branches: BranchList::new(LIMIT + LIMIT + n + n),
     };
     if n == 0 {
-        return Progress::Ended(w);
+        return Ok(w);
     }
     let map = IntMap::new(0);
     let s = MemoryState {
@@ -71,27 +63,17 @@ fn walk_rows(area: &mut [u8], columns: &mut [u8], blocks: &[u8], n: usize) -> Pr
         limit: LIMIT,
         size: n,
     };
-    walk::run(w, s, area, columns, blocks, p, GAS)
+    w.run(s, area, columns, blocks, p, GAS)?;
+    Ok(w)
 }
 
 // The answer of a walk that was answered, or the refusal.
-fn write_walk(answer: &mut [u8], columns: &[u8], x: Progress) -> Written
+fn write_walk(answer: &mut [u8], columns: &[u8], x: Result<Walk, Refusal>) -> Result<usize, Refusal>
     requires { Writable columns.now x }
     ensures { WritesWalk columns.now x answer.old answer.new result }
 {
-    match x {
-        Progress::Paused(_, _) => Written::Refused(0),
-        Progress::Refused(k) => Written::Refused(k),
-        Progress::Ended(w) => answer::write_answer(
-            answer,
-            columns,
-            w.width,
-            w.counts.charged,
-            w.counts.loopstops,
-            w.counts.gasstops,
-            w.counts.repeats,
-        ),
-    }
+    let w = x?;
+    answer::write_answer(answer, &columns[..w.width], &w.counts)
 }
 
 // The walk over n rows that are in the area, and its answer. The catalogue's columns go into the blocks first.
@@ -101,7 +83,7 @@ fn answer_rows(
     work: &mut [u8],
     answer: &mut [u8],
     n: usize,
-) -> Written
+) -> Result<usize, Refusal>
     requires { MayWalk work.old n × Indexable catalogue.now blocks.old }
     ensures { AnswersRows catalogue.now work.old work.new answer.old answer.new n result }
 {
@@ -119,7 +101,7 @@ fn answer_with(
     work: &mut [u8],
     answer: &mut [u8],
     n: usize,
-) -> Written
+) -> Result<usize, Refusal>
     requires { MayWalk work.old n × Catalogued catalogue.now records }
     ensures { AnswersRows catalogue.now work.old work.new answer.old answer.new n result }
 {
@@ -136,36 +118,31 @@ fn answer_with(
 }
 
 // The refusals in their order, and then the walk. The rows are laid down in the area while they are read, as far as there is room.
-fn call(listing: &[u8], catalogue: &[u8], area: &mut [u8], answer: &mut [u8]) -> Written
+fn call(
+    listing: &[u8],
+    catalogue: &[u8],
+    area: &mut [u8],
+    answer: &mut [u8],
+) -> Result<usize, Refusal>
     ensures { CallsInner listing.now catalogue.now area.old area.new answer.old answer.new result }
 {
     let room = row_room(area.len());
-    let rows = listing::read_listing(listing, area, 2 * LIMIT, room);
-    match rows {
-        Counted::Refused(k) => Written::Refused(k),
-        Counted::Count(n) => {
-            let records = catalogue::count_records(catalogue);
-            match records {
-                Counted::Refused(k) => Written::Refused(k),
-                Counted::Count(k) => {
-                    if serves(area.len(), n) {
-                        return answer_with(catalogue, k, area, answer, n);
-                    }
-                    Written::Refused(4)
-                }
-            }
-        }
+    let rows = listing::read_listing(listing, area, 2 * LIMIT, room)?;
+    let records = catalogue::count_records(catalogue)?;
+    if serves(area.len(), rows) {
+        return answer_with(catalogue, records, area, answer, rows);
     }
+    Err(Refusal::AreaSize)
 }
 
 // The entry. Its number is 0 or a refusal; the result is number × 4,294,967,296 + length.
 pub fn column_kinds(listing: &[u8], catalogue: &[u8], area: &mut [u8], answer: &mut [u8]) -> u64
     ensures { Calls listing.now catalogue.now area.old area.new answer.old answer.new result }
 {
-    let x = call(listing, catalogue, area, answer);
+    let answered = call(listing, catalogue, area, answer);
     area::clear(area);
-    match x {
-        Written::Refused(k) => k * 4294967296,
-        Written::Length(n) => n as u64,
+    match answered {
+        Err(refusal) => refusal.number() * 4294967296,
+        Ok(length) => length as u64,
     }
 }

@@ -2,7 +2,7 @@
 -- carried from one cell to another. From encoding's changes in place. Assumes nothing.
 use mathlib.Core.Path.{◌≡◌, refl, sym, ap, subst, ◌∙◌}
 use mathlib.Core.Bool.{Bool, true, false}
-use mathlib.Core.Option.{some}
+use Rattle.std.specs.Prelude.{Some}
 use mathlib.Core.List.{List, [], ◌∷◌}
 use Prim.Native.Nat.{ℕ, ◌+◌, ◌<◌, ◌≤◌}
 use native.Mathlib.Omega.{arith}
@@ -80,7 +80,7 @@ module _ {limit bound : ℕ} {cs : List Cell} {a : IntMap} {m : MemoryState} (h 
   pub value_has : GoodRegister value × SmallRegister bound value
   value_has = there.has
 
-  pub value_read : read_register (int_of (offset + k)) m ≡ done (some value)
+  pub value_read : read_register (int_of (offset + k)) m ≡ done (Some value)
   unfolding read_register
   value_read = ap (λ t. t >>= λ k. done (get k m.r)) judged ∙ there.answer
 
@@ -176,7 +176,7 @@ module _ {cs : List Cell} {a : IntMap} (is : IsMap cs a) {p q k l : ℕ} (source
         let has = value_has h is source from in
         stored_there h is target to (value h is source from) c (class_key 0 k) has.0 has.1 (value_run h is source from ∙ ap (λ y. y ∷ []) (sym ce)) ds same
 
-    opened : {limit bound : ℕ} {m : MemoryState} (h : HoldsMap limit bound cs a m) → carry_one limit moves (int_of (offset + k)) (int_of (offset + l)) m ≡ carry_some limit moves (int_of (offset + k)) (int_of (offset + l)) (some (value h is source from)) m
+    opened : {limit bound : ℕ} {m : MemoryState} (h : HoldsMap limit bound cs a m) → carry_one limit moves (int_of (offset + k)) (int_of (offset + l)) m ≡ carry_some limit moves (int_of (offset + k)) (int_of (offset + l)) (Some (value h is source from)) m
     unfolding carry_one
     opened {limit} {m = m} h = ap (λ t. t >>= λ v. carry_some limit moves (int_of (offset + k)) (int_of (offset + l)) v m) (value_read h is source from)
 
@@ -188,7 +188,7 @@ module _ {cs : List Cell} {a : IntMap} (is : IsMap cs a) {p q k l : ℕ} (source
               record {
                 says = λ bound m le h.
                     subst (HeldNext limit bound ds a.base a.len a.used)
-                    (sym (opened h ∙ ap (λ b. carry_some limit b (int_of (offset + k)) (int_of (offset + l)) (some (value h is source from)) m) stays))
+                    (sym (opened h ∙ ap (λ b. carry_some limit b (int_of (offset + k)) (int_of (offset + l)) (Some (value h is source from)) m) stays))
                     (first h);
                 leaves = record { base = refl; room = alike_room like current.room };
                 frame = written_frame is target to c plain ds same limit current;
@@ -221,7 +221,7 @@ module _ {cs : List Cell} {a : IntMap} (is : IsMap cs a) {p q k l : ℕ} (source
 
       second : {limit bound : ℕ} {m : MemoryState} (h : HoldsMap limit bound ds a m) → HeldNext limit bound es a.base a.len a.used (store_register limit (int_of (offset + k)) (Column null) m)
       unfolding run_register run_column
-      second h = stored_there h is_then source_then from_then (Column null) n 0 (plain_good Null (some true)) tt (ap (λ z. z ∷ []) (sym ne)) es same_then
+      second h = stored_there h is_then source_then from_then (Column null) n 0 (plain_good Null (Some true)) tt (ap (λ z. z ∷ []) (sym ne)) es same_then
 
       pub cell_moved : moves ≡ true → CarriesCell cs es a moves k l
       cell_moved goes =
@@ -237,7 +237,7 @@ module _ {cs : List Cell} {a : IntMap} (is : IsMap cs a) {p q k l : ℕ} (source
                       record {
                         state = v.state;
                         answer =
-                            opened h ∙ ap (λ b. carry_some limit b (int_of (offset + k)) (int_of (offset + l)) (some (value h is source from)) m) goes
+                            opened h ∙ ap (λ b. carry_some limit b (int_of (offset + k)) (int_of (offset + l)) (Some (value h is source from)) m) goes
                             ∙ ap (λ t. t >>= store_register limit (int_of (offset + k)) (Column null)) w.answer ∙ v.answer;
                         holds = v.holds;
                       });

@@ -1,8 +1,10 @@
 -- A run that is stored from the room behind the map is the definition's store of its value; a register that is copied or moved, one or many of
 -- them, where absent ones are passed over; and the definition's arms in the words of a judged row. Assumes nothing.
+use Rattle.refusal.specs.Numbers.{number_of}
+use Rattle.refusal.specs.declared.Refusal.{Refusal}
 use mathlib.Core.Path.{◌≡◌, refl, sym, ap, ap₂, subst, ◌∙◌}
 use mathlib.Core.Bool.{Bool, true, false}
-use mathlib.Core.Option.{Option, none, some}
+use Rattle.std.specs.Prelude.{Option, None, Some, Ok, Err}
 use mathlib.Core.List.{List, [], ◌∷◌}
 use Prim.Native.Nat.{ℕ, zero, suc, ◌+◌, ◌-◌, ◌<◌, ◌≤◌}
 use native.Mathlib.Omega.{arith}
@@ -27,13 +29,9 @@ use Rattle.intmap.specs.Depth.{nesting}
 use Rattle.intmap.specs.Entries.{span}
 use Rattle.intmap.specs.Map.{levels, runs_at, Frame, HasRoom}
 use Rattle.intmap.specs.Signed.{int_of}
-use Rattle.intmap.specs.Store.{stored_of, store_runs, Stores}
-use Rattle.intmap.specs.Get.{Gets}
+use Rattle.intmap.specs.Store.{stored_of, store_runs, Stores, Stored}
+use Rattle.intmap.specs.Get.{Gets, Slot}
 use Rattle.intmap.specs.declared.IntMap.{IntMap}
-use Rattle.intmap.specs.declared.Slot.{Slot}
-use Rattle.intmap.specs.declared.Slot.TheVariants as slot
-use Rattle.intmap.specs.declared.Stored.{Stored}
-use Rattle.intmap.specs.declared.Stored.TheVariants as stored
 use Rattle.intmap.proofs.DepthLaws.{nesting-single}
 use Rattle.intmap.proofs.RunLaws.{size-pos, size-single}
 use Rattle.intmap.proofs.EntryLaws.{span_same, length-span}
@@ -54,7 +52,6 @@ use Rattle.state.specs.Arms.{Standard}
 use Rattle.state.specs.Own.{StoresCell}
 use Rattle.state.specs.Over.{headed, OverRegister}
 use Rattle.state.specs.Reads.{Reads}
-use Rattle.state.specs.declared.Register.TheVariants as register
 use Rattle.state.proofs.OverLaws.{headed_here}
 use Rattle.state.proofs.StoreLeads.{wider}
 use Rattle.state.proofs.ReadLaws.{read_bad, read_absent}
@@ -66,12 +63,12 @@ use Rattle.copy_arms.specs.Gaps.{gap_if, gap, Gap}
 
 -- an answer in runs is the definition's
 tells : (limit bound : ℕ) (ds : List Cell) (r : Stored) (t : Tried MemoryState) → Carried limit bound (stored_of ds r) t → (a : IntMap) → Leaves limit ds a r → Tells limit bound ds r t
-tells limit bound ds (stored.Refused n) t c a l = c.refuses n refl
-tells limit bound ds (stored.Done b) t c a l = c.next ds b.base b.len b.used (runs_at ds b) refl refl l.room.used
+tells limit bound ds (Err n) t c a l = c.refuses (number_of n) refl
+tells limit bound ds (Ok b) t c a l = c.next ds b.base b.len b.used (runs_at ds b) refl refl l.room.used
 
 left : (cs ds : List Cell) (limit : ℕ) (a : IntMap) (j depth : ℕ) (run : List Cell) (r : Stored) → Stores cs ds limit a 0 j depth run r → Leaves limit ds a r
-left cs ds limit a j depth run (stored.Refused n) st = tt
-left cs ds limit a j depth run (stored.Done b) st = record { base = st.leaves.base; room = st.leaves.room }
+left cs ds limit a j depth run (Err n) st = tt
+left cs ds limit a j depth run (Ok b) st = record { base = st.leaves.base; room = st.leaves.room }
 
 -- the entry at `at`, of n cells, stands behind the map too
 module _ (limit : ℕ) (cs es : List Cell) (a : IntMap) (at n : ℕ) (current : Current limit cs a)
@@ -114,7 +111,7 @@ module _ (limit : ℕ) (cs es : List Cell) (a : IntMap) (at n : ℕ) (current : 
 
 -- ---- a record put over another where that stands
 
-pub stores-over : (limit : ℕ) (cs ds : List Cell) (a : IntMap) (at j : ℕ) (c : Cell) (r : Bool) → HasRoom cs limit a → c ≡ get_or cs at blank → OverRegister cs ds a at c j r → r ≡ true → StoresFrom limit cs ds a at j (stored.Done a)
+pub stores-over : (limit : ℕ) (cs ds : List Cell) (a : IntMap) (at j : ℕ) (c : Cell) (r : Bool) → HasRoom cs limit a → c ≡ get_or cs at blank → OverRegister cs ds a at c j r → r ≡ true → StoresFrom limit cs ds a at j (Ok a)
 stores-over limit cs ds a at j c r room ce over e =
     record {
       says = λ bound m key v h good small is.
@@ -122,13 +119,9 @@ stores-over limit cs ds a at j c r room ce over e =
           let st = over.yes e limit (register_depth v) room good.depth in
           (held_register h (int_of j) key v (λ _. good.sorted) small).next ds a.base a.len a.used (runs_at ds a)
           (ap (λ l. store_runs limit 0 (int_of j) (register_depth v) l (runs_at cs a)) (sym run) ∙ sym st.answer) refl st.leaves.room.used);
-      leaves = left cs ds limit a j 0 (headed cs at c) (stored.Done a) (over.yes e limit 0 room (omega arith));
+      leaves = left cs ds limit a j 0 (headed cs at c) (Ok a) (over.yes e limit 0 room (omega arith));
       frame = wider cs ds a.base limit (over.yes e limit 0 room (omega arith)).frame;
     }
-
--- or it was not, and stored from behind the map
-pub stores_then : {limit : ℕ} {cs es ds : List Cell} {a : IntMap} {at j : ℕ} {r : Stored} → es ≡ cs → StoresFrom limit es ds a at j r → StoresFrom limit cs ds a at j r
-stores_then {limit} {ds = ds} {a} {at} {j} {r} same st = subst (λ l. StoresFrom limit l ds a at j r) same st
 
 -- ---- a cell alone
 
@@ -153,7 +146,7 @@ stores-alone limit cs ds a at j c r ce plain st =
 
 -- `next` is what the definition does with it
 module _ (limit : ℕ) (cs : List Cell) (a : IntMap) (i : ℕ) (next : Option RegDataType → MemoryState → Tried MemoryState) where
-  read_stop : (n : ℕ) → Reads cs a i (register.Bad n) → Leads limit cs cs a (stored.Refused n) (λ m. read_register (int_of i) m >>= λ v. next v m)
+  read_stop : (n : Refusal) → Reads cs a i (Err n) → Leads limit cs cs a (Err n) (λ m. read_register (int_of i) m >>= λ v. next v m)
   read_stop n reads =
       record {
         says = λ bound m le h. ap (λ t. t >>= λ v. next v m) (reads.says limit bound m h);
@@ -161,7 +154,7 @@ module _ (limit : ℕ) (cs : List Cell) (a : IntMap) (i : ℕ) (next : Option Re
         frame = frame_same cs cs a.base (limit + limit) refl;
       }
 
-  read_none : Current limit cs a → ((m : MemoryState) → next none m ≡ done m) → Reads cs a i register.Absent → Leads limit cs cs a (stored.Done a) (λ m. read_register (int_of i) m >>= λ v. next v m)
+  read_none : Current limit cs a → ((m : MemoryState) → next None m ≡ done m) → Reads cs a i (Ok None) → Leads limit cs cs a (Ok a) (λ m. read_register (int_of i) m >>= λ v. next v m)
   read_none current same reads =
       record {
         says = λ bound m le h. record { state = m; answer = ap (λ t. t >>= λ v. next v m) (reads.says limit bound m h) ∙ same m; holds = h };
@@ -170,36 +163,38 @@ module _ (limit : ℕ) (cs : List Cell) (a : IntMap) (i : ℕ) (next : Option Re
       }
 
 -- nothing is read
-carries_none : (limit : ℕ) (moves : Bool) (i j : ℤ) (m : MemoryState) → carry_some limit moves i j none m ≡ done m
+carries_none : (limit : ℕ) (moves : Bool) (i j : ℤ) (m : MemoryState) → carry_some limit moves i j None m ≡ done m
 carries_none limit false i j m = refl
 carries_none limit true i j m = refl
+
+-- what is read can't be stored
+carries_stop : (limit : ℕ) (moves : Bool) (i j : ℤ) (v : RegDataType) (m : MemoryState) (n : ℕ) → store_register limit j v m ≡ refused n → carry_some limit moves i j (Some v) m ≡ refused n
+carries_stop limit false i j v m n e = e
+carries_stop limit true i j v m n e = ap (λ t. t >>= store_register limit i (Column null)) e
 
 -- ---- by the place of its run
 
 module _ (limit : ℕ) (cs : List Cell) (a : IntMap) (i : ℕ) (current : Current limit cs a) (x : Slot) (g : Gets cs a 0 i x) where
-  module _ (p : ℕ) (e : x ≡ slot.At p) where
-    there : Gets cs a 0 i (slot.At p)
+  module _ (p : ℕ) (e : x ≡ Ok (Some p)) where
+    there : Gets cs a 0 i (Ok (Some p))
     there = subst (Gets cs a 0 i) e g
-
-    pub found_place : (a.base ≤ p) × (p + size cs levels p ≤ a.base + a.used)
-    found_place = there.place
 
     pub found_value : (bound : ℕ) (m : MemoryState) → HoldsMap limit bound cs a m → Value (λ v. GoodRegister v × SmallRegister bound v) (run_register (class_key 0 (turns (int_of i)))) (span cs p (size cs levels p)) (read_register (int_of i) m)
     found_value bound m h = (told_register h (int_of i)).present (span cs p (size cs levels p)) (sym there.answer)
 
   -- it is carried
   module _ (moves : Bool) (j : ℕ) where
-    pub carry_bad : (n : ℕ) → x ≡ slot.Bad n → Leads limit cs cs a (stored.Refused n) (carry_one limit moves (int_of i) (int_of j))
+    pub carry_bad : (n : Refusal) → x ≡ Err n → Leads limit cs cs a (Err n) (carry_one limit moves (int_of i) (int_of j))
     unfolding carry_one
     carry_bad n e = read_stop limit cs a i (carry_some limit moves (int_of i) (int_of j)) n (read_bad cs a i x g n e)
 
-    pub carry_absent : x ≡ slot.Absent → Leads limit cs cs a (stored.Done a) (carry_one limit moves (int_of i) (int_of j))
+    pub carry_absent : x ≡ Ok None → Leads limit cs cs a (Ok a) (carry_one limit moves (int_of i) (int_of j))
     unfolding carry_one
     carry_absent e = read_none limit cs a i (carry_some limit moves (int_of i) (int_of j)) current (carries_none limit moves (int_of i) (int_of j)) (read_absent cs a i x g e)
 
-    module _ (p : ℕ) (e : x ≡ slot.At p) (ds : List Cell) (s : Stored) (stores : StoresFrom limit cs ds a p j s) where
+    module _ (p : ℕ) (e : x ≡ Ok (Some p)) (ds : List Cell) (s : Stored) (stores : StoresFrom limit cs ds a p j s) where
       -- the definition, where there is a value
-      opened : (bound : ℕ) (m : MemoryState) (h : HoldsMap limit bound cs a m) → carry_one limit moves (int_of i) (int_of j) m ≡ carry_some limit moves (int_of i) (int_of j) (some (found_value p e bound m h).value) m
+      opened : (bound : ℕ) (m : MemoryState) (h : HoldsMap limit bound cs a m) → carry_one limit moves (int_of i) (int_of j) m ≡ carry_some limit moves (int_of i) (int_of j) (Some (found_value p e bound m h).value) m
       unfolding carry_one
       opened bound m h = ap (λ t. t >>= λ v. carry_some limit moves (int_of i) (int_of j) v m) (found_value p e bound m h).answer
 
@@ -210,25 +205,27 @@ module _ (limit : ℕ) (cs : List Cell) (a : IntMap) (i : ℕ) (current : Curren
       carry_copies q =
           record {
             says = λ bound m le h.
-                subst (Tells limit bound ds s) (sym (opened bound m h ∙ ap (λ b. carry_some limit b (int_of i) (int_of j) (some (found_value p e bound m h).value) m) q)) (told bound m h);
+                subst (Tells limit bound ds s) (sym (opened bound m h ∙ ap (λ b. carry_some limit b (int_of i) (int_of j) (Some (found_value p e bound m h).value) m) q)) (told bound m h);
             leaves = stores.leaves;
+            frame = stores.frame;
+          }
+
+      pub carry_stop : (n : Refusal) → s ≡ Err n → Leads limit cs ds a (Err n) (carry_one limit moves (int_of i) (int_of j))
+      carry_stop n r =
+          record {
+            says = λ bound m le h.
+                opened bound m h
+                ∙ carries_stop limit moves (int_of i) (int_of j) (found_value p e bound m h).value m (number_of n)
+                (subst (λ z. Tells limit bound ds z (store_register limit (int_of j) (found_value p e bound m h).value m)) r (told bound m h));
+            leaves = tt;
             frame = stores.frame;
           }
 
       module _ (q : moves ≡ true) where
         moved_as : (bound : ℕ) (m : MemoryState) (h : HoldsMap limit bound cs a m) → carry_one limit moves (int_of i) (int_of j) m ≡ store_register limit (int_of j) (found_value p e bound m h).value m >>= store_register limit (int_of i) (Column null)
-        moved_as bound m h = opened bound m h ∙ ap (λ b. carry_some limit b (int_of i) (int_of j) (some (found_value p e bound m h).value) m) q
+        moved_as bound m h = opened bound m h ∙ ap (λ b. carry_some limit b (int_of i) (int_of j) (Some (found_value p e bound m h).value) m) q
 
-        pub carry_stop : (n : ℕ) → s ≡ stored.Refused n → Leads limit cs ds a (stored.Refused n) (carry_one limit moves (int_of i) (int_of j))
-        carry_stop n r =
-            record {
-              says = λ bound m le h.
-                  moved_as bound m h ∙ ap (λ t. t >>= store_register limit (int_of i) (Column null)) (subst (λ z. Tells limit bound ds z (store_register limit (int_of j) (found_value p e bound m h).value m)) r (told bound m h));
-              leaves = tt;
-              frame = stores.frame;
-            }
-
-        pub carry_next : (b : IntMap) → s ≡ stored.Done b → Reached limit cs ds a b (carry_one limit moves (int_of i) (int_of j)) (store_register limit (int_of i) (Column null))
+        pub carry_next : (b : IntMap) → s ≡ Ok b → Reached limit cs ds a b (carry_one limit moves (int_of i) (int_of j)) (store_register limit (int_of i) (Column null))
         carry_next b r =
             let stays = subst (Leaves limit ds a) r stores.leaves in
             record {
@@ -275,7 +272,7 @@ module _ (limit : ℕ) where
       ap (λ z. carry_many limit moves z (int_of i) (int_of j) m) ne ∙ ap (λ z. carry_many limit moves k (int_of z) (int_of j) m) ie ∙ ap (λ z. carry_many limit moves k (int_of p) (int_of z) m) je
 
   -- one that reads nothing does nothing
-  carries_past : (moves : Bool) (n i j : ℕ) (m : MemoryState) → read_register (int_of i) m ≡ done none → carry_many limit moves (suc n) (int_of i) (int_of j) m ≡ carry_many limit moves n (int_of (i + 1)) (int_of (j + 1)) m
+  carries_past : (moves : Bool) (n i j : ℕ) (m : MemoryState) → read_register (int_of i) m ≡ done None → carry_many limit moves (suc n) (int_of i) (int_of j) m ≡ carry_many limit moves n (int_of (i + 1)) (int_of (j + 1)) m
   unfolding carry_one
   carries_past moves n i j m e =
       let less : suc n - 1 ≡ n = omega arith in
@@ -294,15 +291,15 @@ module _ (limit : ℕ) where
           → carry_many limit moves n (int_of (i + 1)) (int_of (j + 1)) m ≡ carry_many limit moves (n - gap n (int_of (i + 1)) m) (int_of (i + 1 + gap n (int_of (i + 1)) m)) (int_of (j + 1 + gap n (int_of (i + 1)) m)) m
           → carry_many limit moves (suc n) (int_of i) (int_of j) m ≡ carry_many limit moves (suc n - r) (int_of (i + r)) (int_of (j + r)) m
       go (refused k) read e ih = carries_same moves (suc n) i j (suc n - r) (i + r) (j + r) (omega arith) (omega arith) (omega arith) m
-      go (done (some v)) read e ih = carries_same moves (suc n) i j (suc n - r) (i + r) (j + r) (omega arith) (omega arith) (omega arith) m
-      go (done none) read e ih =
+      go (done (Some v)) read e ih = carries_same moves (suc n) i j (suc n - r) (i + r) (j + r) (omega arith) (omega arith) (omega arith) m
+      go (done None) read e ih =
           let long : r ≡ suc (gap n (int_of (i + 1)) m) = e ∙ ap (λ z. suc (gap n z m)) (int_suc i) in
           carries_past moves n i j m read ∙ ih
           ∙ carries_same moves (n - gap n (int_of (i + 1)) m) (i + 1 + gap n (int_of (i + 1)) m) (j + 1 + gap n (int_of (i + 1)) m) (suc n - r) (i + r) (j + r) (omega arith) (omega arith) (omega arith) m
 
   -- a turn of the loop, and the gap behind it
   pub carries_on : {cs ds es : List Cell} {a b : IntMap} (moves : Bool) (n i j k p q : ℕ) {whole : MemoryState → Tried MemoryState} → Reached limit cs ds a b whole (carry_many limit moves n (int_of i) (int_of j)) → 0 < n
-      → (s : Stored) → Leads limit ds es b s (carry_one limit moves (int_of i) (int_of j)) → (c : IntMap) → s ≡ stored.Done c
+      → (s : Stored) → Leads limit ds es b s (carry_one limit moves (int_of i) (int_of j)) → (c : IntMap) → s ≡ Ok c
       → (r : ℕ) → Gap es c (i + 1) (n - 1) r → k ≡ n - (1 + r) → p ≡ i + (1 + r) → q ≡ j + (1 + r)
       → Reached limit cs es a c whole (carry_many limit moves k (int_of p) (int_of q))
   carries_on {es = es} moves n i j k p q reached lt s led c e r gapped ke pe qe =

@@ -1,7 +1,10 @@
 -- Between a register and where a search for it leads there is no register, and what the map lacks the definition does not read. Assumes nothing.
+use Rattle.refusal.specs.Numbers.{number_of}
+use Rattle.refusal.specs.declared.Refusal.{Refusal}
 use mathlib.Core.Path.{◌≡◌, refl, sym, ap, subst, ◌∙◌}
 use mathlib.Core.Bool.{Bool, true, false}
-use mathlib.Core.Option.{Option, none, some, none-ne-some}
+use Rattle.std.specs.Prelude.{min, Option, None, Some, Ok, Err}
+use Rattle.std.proofs.lemmas.Option.{none-some}
 use mathlib.Core.List.{List}
 use Prim.Native.Nat.{ℕ, zero, suc, ◌+◌, ◌-◌, ◌<◌, ◌≤◌}
 use native.Mathlib.Omega.{arith}
@@ -16,7 +19,7 @@ use Rattle.model.specs.Access.{index, ◌>>=◌, read_register}
 use Rattle.area.specs.Cells.{blank}
 use Rattle.area.specs.declared.Cell.{Cell}
 use Rattle.intmap.specs.Find.{place, seek}
-use Rattle.intmap.specs.Get.{index_of, read_runs, Judges}
+use Rattle.intmap.specs.Get.{index_of, read_runs, Judges, Index}
 use Rattle.intmap.specs.Map.{levels, runs_at, IsMap}
 use Rattle.intmap.specs.Pack.{key_of, class_key}
 use Rattle.intmap.specs.Pick.{pick}
@@ -24,8 +27,6 @@ use Rattle.intmap.specs.Runs.{size, sizes}
 use Rattle.intmap.specs.Signed.{offset, int_of}
 use Rattle.intmap.specs.Swap.{lookup}
 use Rattle.intmap.specs.declared.Found.{Found}
-use Rattle.intmap.specs.declared.Index.{Index}
-use Rattle.intmap.specs.declared.Index.TheVariants as index_is
 use Rattle.intmap.specs.declared.IntMap.{IntMap}
 use Rattle.intmap.proofs.FindLaws.{seek_here, seek_on}
 use Rattle.intmap.proofs.RunLaws.{size-pos}
@@ -95,7 +96,7 @@ module _ (cs : List Cell) (a : IntMap) (k : ℕ) (few : k ≤ 65535) (sought : �
   led : Past cs levels sought a.len a.base w
   led = subst (Past cs levels sought a.len a.base) (sym we) (past cs levels sought a.len a.base)
 
-  lacks : (i : ℕ) → k ≤ i → (0 < w.left → class_key 0 i < key_of (get_or cs w.at blank)) → lookup (class_key 0 i) (runs_at cs a) ≡ none
+  lacks : (i : ℕ) → k ≤ i → (0 < w.left → class_key 0 i < key_of (get_or cs w.at blank)) → lookup (class_key 0 i) (runs_at cs a) ≡ None
   lacks i le h = seek_none cs levels (class_key 0 i) a.len a.base (led.absent (class_key 0 i) (omega arith) h)
 
   pub next_end : w.left ≡ 0 → Next cs a k 65536
@@ -124,7 +125,7 @@ module _ (cs : List Cell) (a : IntMap) (k : ℕ) (few : k ≤ 65535) (sought : �
             from = omega (arith, next_above);
             upto = omega arith;
             absent = λ i le lt. lacks i le (λ left. omega (arith, key_is));
-            present = λ lt lacked. none-ne-some _ (sym lacked ∙ ap (λ j. lookup j (runs_at cs a)) own ∙ seek_some cs levels key a.len a.base found);
+            present = λ lt lacked. none-some _ (sym lacked ∙ ap (λ j. lookup j (runs_at cs a)) own ∙ seek_some cs levels key a.len a.base found);
           }
 
 -- ---- the definition's registers
@@ -149,15 +150,15 @@ module _ (limit bound : ℕ) (cs : List Cell) (a : IntMap) (m : MemoryState) (h 
       let same : i - offset ≡ k = omega arith in
       ap (λ t. t >>= λ j. done (lookup (class_key 0 j) (runs_at cs a))) (index_within i (omega arith) (omega arith) ∙ ap done same)
 
-  reads_none : k ≤ 65535 → lookup (class_key 0 k) (runs_at cs a) ≡ none → read_register (int_of i) m ≡ done none
+  reads_none : k ≤ 65535 → lookup (class_key 0 k) (runs_at cs a) ≡ None → read_register (int_of i) m ≡ done None
   reads_none le e = (told_register h (int_of i)).absent (looks_up le ∙ ap done e)
 
-  stops_some : (n : ℕ) → k ≤ 65535 → (lookup (class_key 0 k) (runs_at cs a) ≡ none → ⊥) → gap_if (read_register (int_of i) m) n ≡ 0
+  stops_some : (n : ℕ) → k ≤ 65535 → (lookup (class_key 0 k) (runs_at cs a) ≡ None → ⊥) → gap_if (read_register (int_of i) m) n ≡ 0
   stops_some n le there = go (lookup (class_key 0 k) (runs_at cs a)) refl
     where
       go : (o : Option (List Cell)) → lookup (class_key 0 k) (runs_at cs a) ≡ o → gap_if (read_register (int_of i) m) n ≡ 0
-      go none e = absurd (there e)
-      go (some run) e = ap (λ t. gap_if t n) ((told_register h (int_of i)).present run (looks_up le ∙ ap done e)).answer
+      go None e = absurd (there e)
+      go (Some run) e = ap (λ t. gap_if t n) ((told_register h (int_of i)).present run (looks_up le ∙ ap done e)).answer
 
   stops_above : (n : ℕ) → 65535 < k → gap_if (read_register (int_of i) m) n ≡ 0
   unfolding read_register
@@ -200,22 +201,23 @@ unfolding gap
 gap-zero cs a i n e = record { most = omega arith; says = λ limit bound m h. sym (ap (λ k. gap k (int_of i) m) e) }
 
 module _ (cs : List Cell) (a : IntMap) (i n : ℕ) (x : Index) (judged : Judges i x) where
-  pub gap_bad : (t : ℕ) → x ≡ index_is.Bad t → Gap cs a i n 0
+  pub gap_bad : (t : Refusal) → x ≡ Err t → Gap cs a i n 0
   gap_bad t e = record { most = omega arith; says = λ limit bound m h. sym (go n m) }
     where
-      bad : index (int_of i) ≡ refused t
+      bad : index (int_of i) ≡ refused (number_of t)
       bad = sym judged.answer ∙ ap index_of e
 
       go : (n : ℕ) (m : MemoryState) → gap n (int_of i) m ≡ 0
       go zero m = unfold gap in refl
       go (suc n) m = unfold gap read_register in ap (λ u. gap_if (u >>= λ j. done (get j m.r)) (gap n (suc_ℤ (int_of i)) m)) bad
 
-  module _ (k r : ℕ) (e : x ≡ index_is.At k) (next : Next cs a k r) where
+  module _ (k r : ℕ) (e : x ≡ Ok k) (next : Next cs a k r) where
     here : i ≡ offset + k
     here = let p = index-place i k (sym judged.answer ∙ ap index_of e) in omega (arith, p.0, p.1)
 
-    pub gap_few : r - k < n → Gap cs a i n (r - k)
-    gap_few lt = record { most = omega arith; says = λ limit bound m h. sym ((gap_next limit bound cs a m h n i k r here next).0 lt) }
-
-    pub gap_all : n ≤ r - k → Gap cs a i n n
-    gap_all le = record { most = omega arith; says = λ limit bound m h. sym ((gap_next limit bound cs a m h n i k r here next).1 le) }
+    pub gap_least : (f : ℕ) → f ≡ min n (r - k) → Gap cs a i n f
+    gap_least f e = record { most = omega arith; says = λ limit bound m h. go (ltb (r - k) n) refl (gap_next limit bound cs a m h n i k r here next) }
+      where
+        go : {g : ℕ} (t : Bool) → ltb (r - k) n ≡ t → (r - k < n → g ≡ r - k) × (n ≤ r - k → g ≡ n) → f ≡ g
+        go true lt both = omega (arith, both.0 (ltb-true (r - k) n lt), ltb-true (r - k) n lt)
+        go false le both = omega (arith, both.1 (ltb-false (r - k) n le), ltb-false (r - k) n le)

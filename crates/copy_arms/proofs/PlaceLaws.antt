@@ -1,23 +1,22 @@
 -- From an entry of one cell the search for the next key leads to the next cell, if that has the key. Assumes nothing.
+use Rattle.std.specs.Prelude.{Some, Option}
 use mathlib.Core.Path.{◌≡◌, refl, sym, ap, subst, ◌∙◌}
-use mathlib.Core.Bool.{Bool, true, false, not, false≢true}
+use mathlib.Core.Bool.{Bool, true, false, false≢true}
 use mathlib.Core.List.{List}
-use Prim.Native.Nat.{ℕ, zero, suc, ◌+◌, ◌<◌, ◌≤◌}
+use Prim.Native.Nat.{ℕ, zero, suc, ◌+◌, ◌<◌}
 use native.Mathlib.Omega.{arith}
 use lib.Dec.{eqb, ltb}
 use lib.ListN.{get_or}
-use borrow.Author.Tests.{ltb-true, eqb-true, eqb-false, eq-eqb, not-true}
+use borrow.Author.Tests.{ltb-true, eqb-true, eq-eqb}
 use Rattle.area.specs.Cells.{blank}
 use Rattle.area.specs.declared.Cell.{Cell}
 use Rattle.intmap.specs.Find.{place, seek}
 use Rattle.intmap.specs.Map.{levels, IsMap}
-use Rattle.intmap.specs.Pack.{tag_of, key_of, class_key}
+use Rattle.intmap.specs.Pack.{key_of, class_key}
 use Rattle.intmap.specs.Pick.{pick}
 use Rattle.intmap.specs.Runs.{size, sizes}
 use Rattle.intmap.specs.declared.Found.{Found}
 use Rattle.intmap.specs.declared.IntMap.{IntMap}
-use Rattle.intmap.specs.declared.Slot.{Slot}
-use Rattle.intmap.specs.declared.Slot.TheVariants as slot
 use Rattle.intmap.proofs.FindLaws.{seek_here, seek_past}
 use Rattle.intmap.proofs.RunLaws.{size-single}
 use Rattle.intmap.proofs.StoreLaws.{found_in}
@@ -26,16 +25,6 @@ use Rattle.intmap.proofs.Overwritten.{alike_seek}
 use Rattle.state.specs.Own.{entry_slot}
 use Rattle.state.proofs.OwnLaws.{entry_led}
 use Rattle.copy_arms.specs.InPlace.{Alone, FoundAt, Leading}
-
--- what the tests of a cell tell
-pub alone_here : (cs : List Cell) (a : IntMap) (p k : ℕ) (c : Cell) → c ≡ get_or cs p blank → (key : ℕ) → key ≡ key_of c → (tag : ℕ) → tag ≡ tag_of c → p < a.base + a.used → k ≤ 65535 → key ≡ class_key 0 k → not (eqb tag 2) ≡ true → Alone cs a p k
-alone_here cs a p k c ce key ke tag te inside small same plain =
-    record {
-      inside = inside;
-      small = small;
-      key = sym (ke ∙ ap key_of ce) ∙ same;
-      plain = λ t. eqb-false tag 2 (not-true (eqb tag 2) plain) (te ∙ ap tag_of ce ∙ t);
-    }
 
 -- ---- what stays
 
@@ -100,7 +89,7 @@ leading_first cs a key k w is ke we there =
     }
 
 -- or an entry is
-pub leading_entry : {cs : List Cell} {a : IntMap} {k p : ℕ} {s : Slot} → IsMap cs a → s ≡ entry_slot cs a 0 k → s ≡ slot.At p → Leading cs a p k
+pub leading_entry : {cs : List Cell} {a : IntMap} {k p : ℕ} {s : Option ℕ} → IsMap cs a → s ≡ entry_slot cs a 0 k → s ≡ Some p → Leading cs a p k
 leading_entry {cs} {a} {k} {p} is se sp =
     let led = entry_led cs a 0 k p (sym se ∙ sp) in
     subst (λ z. Leading cs a z k) led.1 (leading_first cs a (class_key 0 k) k _ is refl refl led.0)

@@ -1,5 +1,8 @@
 -- Turns of the definition's loop, first some and then the rest; registers carried where they stand, one after the other; and the loop over all.
 -- Assumes nothing.
+use Rattle.refusal.specs.declared.Refusal.{Refusal}
+use Rattle.std.specs.Prelude.{Ok, Err}
+use Rattle.intmap.specs.Store.{Stored}
 use mathlib.Core.Path.{◌≡◌, refl, sym, ap, subst, ◌∙◌}
 use mathlib.Core.Bool.{Bool}
 use mathlib.Core.List.{List}
@@ -9,14 +12,10 @@ use Rattle.model.specs.Walk.{Tried, refused, done}
 use Rattle.model.specs.State.{MemoryState}
 use Rattle.model.specs.Access.{◌>>=◌}
 use Rattle.area.specs.declared.Cell.{Cell}
-use Rattle.intmap.specs.Get.{index_of, Judges}
+use Rattle.intmap.specs.Get.{index_of, Judges, Index}
 use Rattle.intmap.specs.Map.{IsMap}
 use Rattle.intmap.specs.Signed.{offset, int_of}
-use Rattle.intmap.specs.declared.Index.{Index}
-use Rattle.intmap.specs.declared.Index.TheVariants as index_is
 use Rattle.intmap.specs.declared.IntMap.{IntMap}
-use Rattle.intmap.specs.declared.Stored.{Stored}
-use Rattle.intmap.specs.declared.Stored.TheVariants as stored
 use Rattle.state.specs.Leads.{Current, Leads}
 use Rattle.state.proofs.LeadsLaws.{led_current, Reached, reached_first, reached_next, reached_as, reached_stop, reached_end, leads_then}
 use Rattle.state.proofs.StoreLeads.{leads_as}
@@ -76,7 +75,7 @@ module _ (limit : ℕ) (moves : Bool) where
 
 -- ---- registers carried where they stand
 
-no_turns : (limit : ℕ) (cs : List Cell) (a : IntMap) (moves : Bool) (i j : ℕ) → Current limit cs a → Leads limit cs cs a (stored.Done a) (carry_many limit moves 0 (int_of i) (int_of j))
+no_turns : (limit : ℕ) (cs : List Cell) (a : IntMap) (moves : Bool) (i j : ℕ) → Current limit cs a → Leads limit cs cs a (Ok a) (carry_many limit moves 0 (int_of i) (int_of j))
 no_turns limit cs a moves i j current = reached_end (reached_first limit cs a (carry_many limit moves 0 (int_of i) (int_of j)) current) (carries_end limit moves 0 i j (omega arith))
 
 -- d of them are carried from cs to ds, and the next are to be looked for at p + d and q + d
@@ -84,7 +83,7 @@ pub record Carrying (cs ds : List Cell) (a : IntMap) (moves : Bool) (p q k l d :
   pub map : IsMap ds a
   pub source : Leading ds a (p + d) (k + d)
   pub target : Leading ds a (q + d) (l + d)
-  pub leads : (limit : ℕ) → Current limit cs a → Leads limit cs ds a (stored.Done a) (carry_many limit moves d (int_of (offset + k)) (int_of (offset + l)))
+  pub leads : (limit : ℕ) → Current limit cs a → Leads limit cs ds a (Ok a) (carry_many limit moves d (int_of (offset + k)) (int_of (offset + l)))
 
 -- a place and a register, said otherwise
 leading_as : {ds : List Cell} {a : IntMap} (p k q l : ℕ) → p ≡ q → k ≡ l → Leading ds a p k → Leading ds a q l
@@ -107,8 +106,8 @@ carrying_on {cs} {ds} {es} {a} {moves} {p} {q} {k} {l} {d} c source target cell 
       target = leading_as (q + d + 1) (l + d + 1) (q + (d + 1)) (l + (d + 1)) (omega arith) (omega arith) (leading_next c.map target (c.target.found target) cell.alike);
       leads = λ limit current.
           (let led = c.leads limit current in
-          leads_as (stored.Done a) (carries_more limit moves d (offset + k) (offset + l) (offset + (k + d)) (offset + (l + d)) (omega arith) (omega arith))
-          (leads_then limit cs ds a (carry_many limit moves d (int_of (offset + k)) (int_of (offset + l))) (carry_one limit moves (int_of (offset + (k + d))) (int_of (offset + (l + d)))) current es a (stored.Done a) led (cell.leads limit (led_current current a led))));
+          leads_as (Ok a) (carries_more limit moves d (offset + k) (offset + l) (offset + (k + d)) (offset + (l + d)) (omega arith) (omega arith))
+          (leads_then limit cs ds a (carry_many limit moves d (int_of (offset + k)) (int_of (offset + l))) (carry_one limit moves (int_of (offset + (k + d))) (int_of (offset + (l + d)))) current es a (Ok a) led (cell.leads limit (led_current current a led))));
     }
 
 pub carrying_end : {cs ds : List Cell} {a : IntMap} {moves : Bool} {p q k l d : ℕ} (n : ℕ) → Carrying cs ds a moves p q k l d → d ≤ n → CarriesRun cs ds a moves (offset + k) (offset + l) n d
@@ -119,10 +118,10 @@ carrying_end n c le = record { most = le; leads = c.leads }
 pub run_none : (cs : List Cell) (a : IntMap) (moves : Bool) (i j n : ℕ) → CarriesRun cs cs a moves i j n 0
 run_none cs a moves i j n = record { most = omega arith; leads = λ limit current. no_turns limit cs a moves i j current }
 
-word : (i k : ℕ) (x : Index) → Judges i x → x ≡ index_is.At k → offset + k ≡ i
+word : (i k : ℕ) (x : Index) → Judges i x → x ≡ Ok k → offset + k ≡ i
 word i k x judged e = let p = index-place i k (sym judged.answer ∙ ap index_of e) in omega (arith, p.0, p.1)
 
-pub run_of : {cs ds : List Cell} {a : IntMap} {moves : Bool} {n r : ℕ} (i k : ℕ) (x : Index) → Judges i x → x ≡ index_is.At k → (j l : ℕ) (y : Index) → Judges j y → y ≡ index_is.At l
+pub run_of : {cs ds : List Cell} {a : IntMap} {moves : Bool} {n r : ℕ} (i k : ℕ) (x : Index) → Judges i x → x ≡ Ok k → (j l : ℕ) (y : Index) → Judges j y → y ≡ Ok l
     → CarriesRun cs ds a moves (offset + k) (offset + l) n r → CarriesRun cs ds a moves i j n r
 run_of {cs} {ds} {a} {moves} {n} {r} i k x ij xe j l y jj ye c =
     subst (λ z. CarriesRun cs ds a moves i z n r) (word j l y jj ye) (subst (λ z. CarriesRun cs ds a moves z (offset + l) n r) (word i k x ij xe) c)
@@ -134,22 +133,17 @@ module _ (limit : ℕ) (moves : Bool) (n i j : ℕ) where
   abbrev pub rest : ℕ → MemoryState → Tried MemoryState
   rest d = carry_many limit moves (n - d) (int_of (i + d)) (int_of (j + d))
 
-  pub turns_first : (cs : List Cell) (a : IntMap) → Current limit cs a → Reached limit cs cs a a (carry_many limit moves n (int_of i) (int_of j)) (carry_many limit moves (n - 0) (int_of (i + 0)) (int_of (j + 0)))
-  turns_first cs a current =
-      reached_as (reached_first limit cs a (carry_many limit moves n (int_of i) (int_of j)) current) (rest 0)
-      (λ bound m h. carries_same limit moves n i j (n - 0) (i + 0) (j + 0) (omega arith) (omega arith) (omega arith) m)
-
   module _ {cs ds : List Cell} {a b : IntMap} {whole : MemoryState → Tried MemoryState} (d : ℕ) (reached : Reached limit cs ds a b whole (carry_many limit moves (n - d) (int_of (i + d)) (int_of (j + d)))) where
     -- r more, where they stand
     pub turns_run : {es : List Cell} (r : ℕ) → CarriesRun ds es b moves (i + d) (j + d) (n - d) r → Reached limit cs es a b whole (carry_many limit moves (n - (d + r)) (int_of (i + (d + r))) (int_of (j + (d + r))))
     turns_run {es} r run =
         reached_as
-        (reached_next reached es (carry_many limit moves r (int_of (i + d)) (int_of (j + d))) (carry_many limit moves (n - d - r) (int_of (i + d + r)) (int_of (j + d + r))) (carries_split limit moves r (n - d) (i + d) (j + d) run.most) (stored.Done b) (run.leads limit reached.current) b refl)
+        (reached_next reached es (carry_many limit moves r (int_of (i + d)) (int_of (j + d))) (carry_many limit moves (n - d - r) (int_of (i + d + r)) (int_of (j + d + r))) (carries_split limit moves r (n - d) (i + d) (j + d) run.most) (Ok b) (run.leads limit reached.current) b refl)
         (rest (d + r))
         (λ bound m h. carries_same limit moves (n - d - r) (i + d + r) (j + d + r) (n - (d + r)) (i + (d + r)) (j + (d + r)) (omega arith) (omega arith) (omega arith) m)
 
     -- all of them
-    pub turns_end : n ≤ d → Leads limit cs ds a (stored.Done b) whole
+    pub turns_end : n ≤ d → Leads limit cs ds a (Ok b) whole
     turns_end le = reached_end reached (carries_end limit moves (n - d) (i + d) (j + d) (omega arith))
 
     module _ (lt : d < n) {es : List Cell} (s : Stored) (led : Leads limit ds es b s (carry_one limit moves (int_of (i + d)) (int_of (j + d)))) where
@@ -157,10 +151,10 @@ module _ (limit : ℕ) (moves : Bool) (n i j : ℕ) where
       opens = carries_open limit moves (n - d) (i + d) (j + d) (omega arith)
 
       -- one that is refused
-      pub turns_stop : (k : ℕ) → s ≡ stored.Refused k → Leads limit cs es a (stored.Refused k) whole
+      pub turns_stop : (k : Refusal) → s ≡ Err k → Leads limit cs es a (Err k) whole
       turns_stop k e = reached_stop reached es (carry_one limit moves (int_of (i + d)) (int_of (j + d))) (carry_many limit moves (n - d - 1) (int_of (i + d + 1)) (int_of (j + d + 1))) opens s led k e
 
       -- one that is stored, and the gap behind it
-      pub turns_on : (c : IntMap) → s ≡ stored.Done c → (r : ℕ) → Gap es c (i + d + 1) (n - d - 1) r → Reached limit cs es a c whole (carry_many limit moves (n - (d + (1 + r))) (int_of (i + (d + (1 + r)))) (int_of (j + (d + (1 + r)))))
+      pub turns_on : (c : IntMap) → s ≡ Ok c → (r : ℕ) → Gap es c (i + d + 1) (n - d - 1) r → Reached limit cs es a c whole (carry_many limit moves (n - (d + (1 + r))) (int_of (i + (d + (1 + r)))) (int_of (j + (d + (1 + r)))))
       turns_on c e r gap =
           carries_on limit moves (n - d) (i + d) (j + d) (n - (d + (1 + r))) (i + (d + (1 + r))) (j + (d + (1 + r))) reached (omega arith) s led c e r gap (omega arith) (omega arith) (omega arith)

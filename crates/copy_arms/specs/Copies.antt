@@ -1,6 +1,6 @@
 -- What a store of an entry that the map has leads to, and the turns of Copy and Move. Assumes nothing.
-use Rattle.std.specs.Prelude.{◌≡◌, Bool, true, false, List, ℕ, ◌+◌, ℤ}
-use Rattle.std.proofs.Math.Option.{Option}
+use Rattle.intmap.specs.Store.{Stored}
+use Rattle.std.specs.Prelude.{◌≡◌, Bool, true, false, List, ℕ, ◌+◌, ℤ, Option}
 use Rattle.model.specs.Walk.{Tried}
 use Rattle.model.specs.State.{RegDataType, MemoryState}
 use Rattle.model.specs.Access.{◌>>=◌, read_register, store_register}
@@ -12,7 +12,6 @@ use Rattle.intmap.specs.Runs.{size}
 use Rattle.intmap.specs.Entries.{span}
 use Rattle.intmap.specs.Signed.{int_of}
 use Rattle.intmap.specs.declared.IntMap.{IntMap}
-use Rattle.intmap.specs.declared.Stored.{Stored}
 use Rattle.encoding.specs.Encode.{run_register}
 use Rattle.encoding.specs.Holds.{SmallRegister}
 use Rattle.state.specs.Leads.{HoldsMap, Tells, Leaves}

@@ -1,6 +1,5 @@
 -- Registers that are absent, side by side: a copy or a move of them does nothing. Assumes nothing.
-use Rattle.std.specs.Prelude.{◌≡◌, List, ℕ, zero, suc, ◌<◌, ◌≤◌, ℤ}
-use Rattle.std.proofs.Math.Option.{Option, none, some}
+use Rattle.std.specs.Prelude.{◌≡◌, List, ℕ, zero, suc, ◌<◌, ◌≤◌, ℤ, Option, None, Some}
 use Rattle.std.proofs.Math.IntN.{suc_ℤ}
 use Rattle.model.specs.Walk.{Tried, refused, done}
 use Rattle.model.specs.State.{RegDataType, MemoryState}
@@ -17,14 +16,14 @@ use Rattle.state.specs.Leads.{HoldsMap}
 pub record Next (cs : List Cell) (a : IntMap) (k r : ℕ) : Type 0 where
   pub from : k ≤ r
   pub upto : r ≤ 65536
-  pub absent : (i : ℕ) → k ≤ i → i < r → lookup (class_key 0 i) (runs_at cs a) ≡ none
-  pub present : r < 65536 → lookup (class_key 0 r) (runs_at cs a) ≡ none → ⊥
+  pub absent : (i : ℕ) → k ≤ i → i < r → lookup (class_key 0 i) (runs_at cs a) ≡ None
+  pub present : r < 65536 → lookup (class_key 0 r) (runs_at cs a) ≡ None → ⊥
 
 -- how many of n registers from i on are absent before the first that is present or whose read is refused
 abbrev pub gap_if : Tried (Option RegDataType) → ℕ → ℕ
 gap_if (refused k) rest = 0
-gap_if (done none) rest = suc rest
-gap_if (done (some v)) rest = 0
+gap_if (done None) rest = suc rest
+gap_if (done (Some v)) rest = 0
 
 unfoldable pub gap : ℕ → ℤ → MemoryState → ℕ
 gap zero i m = 0

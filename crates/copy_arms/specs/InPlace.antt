@@ -1,5 +1,5 @@
 -- Registers that are one cell each, one after the other: they are carried where they stand, with no search for each. Assumes nothing.
-use Rattle.std.specs.Prelude.{◌≡◌, Bool, true, List, ℕ, ◌+◌, ◌<◌, ◌≤◌, get_or}
+use Rattle.std.specs.Prelude.{◌≡◌, Bool, true, List, ℕ, ◌+◌, ◌<◌, ◌≤◌, get_or, Ok}
 use Rattle.area.specs.Cells.{blank}
 use Rattle.area.specs.declared.Cell.{Cell}
 use Rattle.intmap.specs.Alike.{Alike}
@@ -8,7 +8,6 @@ use Rattle.intmap.specs.Map.{levels}
 use Rattle.intmap.specs.Pack.{tag_of, key_of, class_key}
 use Rattle.intmap.specs.Signed.{offset, int_of}
 use Rattle.intmap.specs.declared.IntMap.{IntMap}
-use Rattle.intmap.specs.declared.Stored.TheVariants as stored
 use Rattle.state.specs.Leads.{Current, Leads}
 use Rattle.copy_arms.specs.Copies.{carry_one, carry_many}
 
@@ -31,10 +30,10 @@ pub record Leading (cs : List Cell) (a : IntMap) (p k : ℕ) : Type 0 where
 
 -- the same map then holds what a turn gives, from register k to register l
 pub record CarriesCell (cs ds : List Cell) (a : IntMap) (moves : Bool) (k l : ℕ) : Type 0 where
-  pub leads : (limit : ℕ) → Current limit cs a → Leads limit cs ds a (stored.Done a) (carry_one limit moves (int_of (offset + k)) (int_of (offset + l)))
+  pub leads : (limit : ℕ) → Current limit cs a → Leads limit cs ds a (Ok a) (carry_one limit moves (int_of (offset + k)) (int_of (offset + l)))
   pub alike : Alike cs ds
 
 -- and what r turns give, of n
 pub record CarriesRun (cs ds : List Cell) (a : IntMap) (moves : Bool) (i j n r : ℕ) : Type 0 where
   pub most : r ≤ n
-  pub leads : (limit : ℕ) → Current limit cs a → Leads limit cs ds a (stored.Done a) (carry_many limit moves r (int_of i) (int_of j))
+  pub leads : (limit : ℕ) → Current limit cs a → Leads limit cs ds a (Ok a) (carry_many limit moves r (int_of i) (int_of j))

@@ -16,64 +16,81 @@ ghost use Rattle.copy_arms.specs.Copies.{StoresFrom, carry_one, carry_many};
 ghost use Rattle.copy_arms.specs.Gaps.{Next, Gap};
 ghost use Rattle.copy_arms.specs.InPlace.{Alone, FoundAt, Leading, CarriesCell, CarriesRun};
 
-use intmap::{Index, IntMap, Slot, Stored};
+use intmap::IntMap;
+use refusal::Refusal;
 use rows::Row;
 use type_info::DataType;
 
 // Stores the entry at `at` of the map in register j too. A cell alone is stored as it is. A store may move a longer run, so that goes to the room
 // behind the map first.
-fn store_behind(map: IntMap, area: &mut [u8], at: usize, j: u64, limit: usize) -> Stored
+fn store_behind(
+    map: IntMap,
+    area: &mut [u8],
+    at: usize,
+    j: u64,
+    limit: usize,
+) -> Result<IntMap, Refusal>
     requires { Current limit (cells area.old) map × (map.base ≤ at) × (at + size (cells area.old) levels at ≤ map.base + map.used) }
     ensures { StoresFrom limit (cells area.old) (cells area.new) map at j result }
 {
     let c = area::cell_at(area, at);
     if intmap::tag_of(c) != intmap::RECORD {
-        return state::store_cell(map, area, state::REGISTERS, j, c, limit);
+        return state::store_cell(map, area, intmap::Class::Registers, j, c, limit);
     }
     let to = map.base + limit;
     let n = intmap::count(area, at, intmap::LEVELS);
     area::move_cells(area, at, to, n);
-    map.store_run(area, state::REGISTERS, j, to, limit)
+    map.store_run(area, intmap::Class::Registers, j, to, limit)
 }
 
 // The same, at once where both are records of as many columns, of one cell each.
-fn store_from(map: IntMap, area: &mut [u8], at: usize, j: u64, limit: usize) -> Stored
+fn store_from(
+    map: IntMap,
+    area: &mut [u8],
+    at: usize,
+    j: u64,
+    limit: usize,
+) -> Result<IntMap, Refusal>
     requires { Current limit (cells area.old) map × (map.base ≤ at) × (at + size (cells area.old) levels at ≤ map.base + map.used) }
     ensures { StoresFrom limit (cells area.old) (cells area.new) map at j result }
 {
     let c = area::cell_at(area, at);
     if state::over_register(map, area, at, c, j) {
-        return Stored::Done(map);
+        return Ok(map);
     }
     store_behind(map, area, at, j, limit)
 }
 
 // Stores what register i holds, if there is something, in register j; then null in register i, if it moves.
-fn carry_register(map: IntMap, area: &mut [u8], i: u64, j: u64, moves: bool, limit: usize) -> Stored
+fn carry_register(
+    map: IntMap,
+    area: &mut [u8],
+    i: u64,
+    j: u64,
+    moves: bool,
+    limit: usize,
+) -> Result<IntMap, Refusal>
     requires { Current limit (cells area.old) map }
     ensures { Leads limit (cells area.old) (cells area.new) map result (carry_one limit moves (int_of i) (int_of j)) }
 {
-    let x = state::get(map, area, state::REGISTERS, i);
-    match x {
-        Slot::Bad(n) => Stored::Refused(n),
-        Slot::Absent => Stored::Done(map),
-        Slot::At(at) => {
-            let y = store_from(map, area, at, j, limit);
-            if !moves {
-                return y;
-            }
-            match y {
-                Stored::Refused(k) => Stored::Refused(k),
-                Stored::Done(b) => {
-                    state::store_single(b, area, i, DataType::Null, state::NULLABLE, limit)
-                }
-            }
-        }
+    let Some(at) = state::get(map, area, intmap::Class::Registers, i)? else {
+        return Ok(map);
+    };
+    let b = store_from(map, area, at, j, limit)?;
+    if !moves {
+        return Ok(b);
     }
+    state::store_single(b, area, i, DataType::Null, state::NULLABLE, limit)
 }
 
 // Stores what register i holds, if there is something, in register j.
-pub fn copy_register(map: IntMap, area: &mut [u8], i: u64, j: u64, limit: usize) -> Stored
+pub fn copy_register(
+    map: IntMap,
+    area: &mut [u8],
+    i: u64,
+    j: u64,
+    limit: usize,
+) -> Result<IntMap, Refusal>
     requires { Current limit (cells area.old) map }
     ensures { Leads limit (cells area.old) (cells area.new) map result (copy_to limit (int_of i) (int_of j) (λ v. v)) }
 {
@@ -81,21 +98,11 @@ pub fn copy_register(map: IntMap, area: &mut [u8], i: u64, j: u64, limit: usize)
 }
 
 // SCopy, IntCopy, Not: r[P2] = r[P1].
-pub fn scopy(map: IntMap, area: &mut [u8], x: Row, limit: usize) -> Stored
+pub fn scopy(map: IntMap, area: &mut [u8], x: Row, limit: usize) -> Result<IntMap, Refusal>
     requires { Current limit (cells area.old) map × IsRow x }
     ensures { RegisterArm limit (cells area.old) (cells area.new) map x op_copy_one result }
 {
     copy_register(map, area, x.p1, x.p2, limit)
-}
-
-// How many times a loop turns that an operand's word tells: never, if the operand is negative.
-fn turns(w: u64) -> u64
-    ensures { result ≡ w - 9223372036854775808 }
-{
-    if w < intmap::ZERO {
-        return 0;
-    }
-    w - intmap::ZERO
 }
 
 // The first register from k on that the map has, or 65,536 if it has none. The keys of registers are those from 65,536 on and below 131,072.
@@ -103,7 +110,7 @@ fn next_register(map: IntMap, area: &[u8], k: u64) -> u64
     requires { IsMap (cells area.now) map × (k ≤ 65535) }
     ensures { Next (cells area.now) map k result }
 {
-    let found = map.find(area, intmap::class_key(state::REGISTERS, k));
+    let found = map.find(area, intmap::class_key(intmap::Class::Registers, k));
     if found.left == 0 {
         return 65536;
     }
@@ -122,17 +129,10 @@ fn absent(map: IntMap, area: &[u8], i: u64, n: u64) -> u64
     if n == 0 {
         return 0;
     }
-    let x = intmap::judge_index(i);
-    match x {
-        Index::Bad(_) => 0,
-        Index::At(k) => {
-            let few = next_register(map, area, k) - k;
-            if few < n {
-                return few;
-            }
-            n
-        }
-    }
+    let Ok(k) = intmap::judge_index(i) else {
+        return 0;
+    };
+    n.min(next_register(map, area, k) - k)
 }
 
 // Whether the cell at `at` is register k, and no record.
@@ -147,7 +147,7 @@ fn is_alone(map: IntMap, area: &[u8], at: usize, k: u64) -> bool
         return false;
     }
     let c = area::cell_at(area, at);
-    if intmap::key_of(c) != intmap::class_key(state::REGISTERS, k) {
+    if intmap::key_of(c) != intmap::class_key(intmap::Class::Registers, k) {
         return false;
     }
     intmap::tag_of(c) != intmap::RECORD
@@ -162,7 +162,7 @@ fn carry_cell(map: IntMap, area: &mut [u8], p: usize, q: usize, k: u64, l: u64, 
     area::put_cell(
         area,
         q,
-        intmap::with_key(c, intmap::class_key(state::REGISTERS, l)),
+        intmap::with_key(c, intmap::class_key(intmap::Class::Registers, l)),
     );
     if !moves {
         return;
@@ -171,7 +171,7 @@ fn carry_cell(map: IntMap, area: &mut [u8], p: usize, q: usize, k: u64, l: u64, 
     area::put_cell(
         area,
         p,
-        intmap::with_key(null, intmap::class_key(state::REGISTERS, k)),
+        intmap::with_key(null, intmap::class_key(intmap::Class::Registers, k)),
     );
 }
 
@@ -190,8 +190,7 @@ fn carry_cells(
     requires { IsMap (cells area.old) map × Leading (cells area.old) map p k × Leading (cells area.old) map q l × (k ≤ 65535) × (l ≤ 65535) }
     ensures { CarriesRun (cells area.old) (cells area.new) map moves (offset + k) (offset + l) n result }
 {
-    let mut done = 0;
-    while done < n {
+    for done in 0..n {
         let at = p + done as usize;
         let to = q + done as usize;
         if !is_alone(map, area, at, k + done) {
@@ -201,9 +200,8 @@ fn carry_cells(
             return done;
         }
         carry_cell(map, area, at, to, k + done, l + done, moves);
-        done += 1;
     }
-    done
+    n
 }
 
 // Carries registers from i on to those from j on where they stand, as long as each is there and one cell, and at most n. Gives how many. The two
@@ -212,20 +210,16 @@ fn carry_run(map: IntMap, area: &mut [u8], i: u64, j: u64, n: u64, moves: bool) 
     requires { Held (cells area.old) map }
     ensures { CarriesRun (cells area.old) (cells area.new) map moves i j n result }
 {
-    let x = intmap::judge_index(i);
-    let Index::At(k) = x else {
+    let Ok(k) = intmap::judge_index(i) else {
         return 0;
     };
-    let y = intmap::judge_index(j);
-    let Index::At(l) = y else {
+    let Ok(l) = intmap::judge_index(j) else {
         return 0;
     };
-    let target = state::entry_at(map, area, state::REGISTERS, l);
-    let Slot::At(q) = target else {
+    let Some(q) = state::entry_at(map, area, intmap::Class::Registers, l) else {
         return 0;
     };
-    let source = state::entry_at(map, area, state::REGISTERS, k);
-    let Slot::At(p) = source else {
+    let Some(p) = state::entry_at(map, area, intmap::Class::Registers, k) else {
         return 0;
     };
     carry_cells(map, area, p, q, k, l, n, moves)
@@ -242,43 +236,38 @@ fn carry_many(
     n: u64,
     moves: bool,
     limit: usize,
-) -> Stored
+) -> Result<IntMap, Refusal>
     requires { Current limit (cells area.old) map × (i + n < 18446744073709551616) × (j + n < 18446744073709551616) }
     ensures { Leads limit (cells area.old) (cells area.new) map result (carry_many limit moves n (int_of i) (int_of j)) }
 {
     let mut m = map;
     let mut done = 0;
+    // Not a range: a turn carries as many as it can.
     while done < n {
         done += carry_run(m, area, i + done, j + done, n - done, moves);
         if done == n {
-            return Stored::Done(m);
+            return Ok(m);
         }
-        let x = carry_register(m, area, i + done, j + done, moves, limit);
-        match x {
-            Stored::Refused(k) => {
-                return Stored::Refused(k);
-            }
-            Stored::Done(b) => {
-                m = b;
-            }
-        }
+        m = carry_register(m, area, i + done, j + done, moves, limit)?;
         done += 1 + absent(m, area, i + done + 1, n - done - 1);
     }
-    Stored::Done(m)
+    Ok(m)
 }
 
-// Copy: P3 + 1 registers from P1 on to those from P2 on.
-pub fn copy(map: IntMap, area: &mut [u8], x: Row, limit: usize) -> Stored
+// Copy: P3 + 1 registers from P1 on to those from P2 on, none if P3 is negative.
+pub fn copy(map: IntMap, area: &mut [u8], x: Row, limit: usize) -> Result<IntMap, Refusal>
     requires { Current limit (cells area.old) map × IsRow x }
     ensures { RegisterArm limit (cells area.old) (cells area.new) map x op_copy result }
 {
-    carry_many(map, area, x.p1, x.p2, turns(x.p3 + 1), false, limit)
+    let n = (x.p3 + 1).saturating_sub(intmap::ZERO);
+    carry_many(map, area, x.p1, x.p2, n, false, limit)
 }
 
-// Move: P3 registers from P1 on to those from P2 on.
-pub fn move_(map: IntMap, area: &mut [u8], x: Row, limit: usize) -> Stored
+// Move: P3 registers from P1 on to those from P2 on, none if P3 is negative.
+pub fn move_(map: IntMap, area: &mut [u8], x: Row, limit: usize) -> Result<IntMap, Refusal>
     requires { Current limit (cells area.old) map × IsRow x }
     ensures { RegisterArm limit (cells area.old) (cells area.new) map x op_move result }
 {
-    carry_many(map, area, x.p1, x.p2, turns(x.p3), true, limit)
+    let n = x.p3.saturating_sub(intmap::ZERO);
+    carry_many(map, area, x.p1, x.p2, n, true, limit)
 }

@@ -1,6 +1,9 @@
 -- EndCoroutine and Yield, by what their register is known to hold. Assumes nothing.
+use Rattle.refusal.specs.Numbers.{number_of}
+use Rattle.refusal.specs.declared.Refusal.{Refusal}
+use Rattle.intmap.specs.Store.{Stored}
 use mathlib.Core.Path.{◌≡◌, refl, sym, ap, ap₂, subst, ◌∙◌}
-use mathlib.Core.Option.{Option, none}
+use Rattle.std.specs.Prelude.{Option, None, Ok, Err, Some, option_map}
 use mathlib.Core.List.{List}
 use Prim.Native.Nat.{ℕ}
 use lib.IntN.{ℤ}
@@ -15,30 +18,24 @@ use Rattle.model.specs.JumpArms.{known_int, yield_target, row_after_yield, end_c
 use Rattle.model.proofs.InPlace.{to_int}
 use Rattle.area.specs.declared.Cell.{Cell}
 use Rattle.intmap.specs.Signed.{int_of}
-use Rattle.intmap.specs.declared.Stored.{Stored}
 use Rattle.encoding.proofs.Updates.{update_stored}
 use Rattle.rows.specs.Judged.{Judged, HaveRows}
 use Rattle.rows.specs.declared.Row.{Row}
 use Rattle.state.specs.Leads.{Tells, Leads}
-use Rattle.state.specs.Steps.{HoldsState, Offered, TellsStep}
+use Rattle.state.specs.Steps.{HoldsState, Offered, TellsStep, offered}
 use Rattle.state.specs.declared.MemoryState.{MemoryState}
-use Rattle.state.specs.declared.Way.TheVariants as way
-use Rattle.state.specs.declared.Step.TheVariants as step
 use Rattle.jump_arms.specs.Arms.{step_after, Knows}
-use Rattle.jump_arms.specs.declared.Known.TheVariants as known
 use Rattle.jump_arms.proofs.StepLaws.{unchanged, held_at, ends_here}
 use Rattle.jump_arms.proofs.StoreSteps.{goes_after, leaves_after}
 use Rattle.jump_arms.proofs.ReturnLaws.{remove-row}
 use Rattle.jump_arms.proofs.NullLaws.{update-row}
-use Rattle.coroutine_arms.specs.Arms.{target_of, Targets, Follows, RowsArm}
-use Rattle.coroutine_arms.specs.declared.Target.{Target}
-use Rattle.coroutine_arms.specs.declared.Target.TheVariants as target
+use Rattle.coroutine_arms.specs.Arms.{Targets, Follows, RowsArm}
 
 -- the arms read register P1, and end where no number is known
 pub record NumberArm (limit : ℕ) (o : JumpOperation) : Type 0 where
   pub after : List Listed → Listed → Defined → Option ℤ → Offer
   pub is : (rows : List Listed) (l : Listed) (m : Defined) → jump_arm limit rows l m o ≡ (read_register l.p1 m >>= λ v. after rows l m (known_int v))
-  pub unknown : (rows : List Listed) (l : Listed) (m : Defined) → after rows l m none ≡ ends
+  pub unknown : (rows : List Listed) (l : Listed) (m : Defined) → after rows l m None ≡ ends
 
 pub end_coroutine_arm_lem : (limit : ℕ) → NumberArm limit op_end_coroutine
 unfolding jump_arm end_coroutine_arm
@@ -54,20 +51,20 @@ module _ (limit : ℕ) (cs : List Cell) (s : MemoryState) (x : Row) (from n : �
     read_is rows l m j t e =
         arm.is rows l m ∙ ap (λ u. u >>= λ v. arm.after rows l m (known_int v)) (ap (λ i. read_register i m) (sym j.p1) ∙ e)
 
-    pub number_bad : (k : ℕ) → Knows cs s.map x.p1 (known.Bad k) → RowsArm limit cs cs s x from n o (step.Refused k)
+    pub number_bad : (k : Refusal) → Knows cs s.map x.p1 (Err k) → RowsArm limit cs cs s x from n o (Err k)
     number_bad k knows =
         record {
-          says = λ rows have len l j bound m le h. read_is rows l m j (refused k) (knows.says limit bound m h.map);
+          says = λ rows have len l j bound m le h. read_is rows l m j (refused (number_of k)) (knows.says limit bound m h.map);
           leaves = tt;
           frame = unchanged cs _ _;
         }
 
-    pub number_unknown : Knows cs s.map x.p1 known.Unknown → RowsArm limit cs cs s x from n o (step.Ways way.Nowhere way.Nowhere)
+    pub number_unknown : Knows cs s.map x.p1 (Ok None) → RowsArm limit cs cs s x from n o (offered None None)
     number_unknown knows =
         record {
           says = λ rows have len l j bound m le h.
               (let u = knows.says limit bound m h.map in
-              subst (Offered limit bound cs way.Nowhere way.Nowhere)
+              subst (Offered limit bound cs None None)
               (sym (read_is rows l m j _ u.answer ∙ ap (arm.after rows l m) u.is ∙ arm.unknown rows l m))
               ends_here);
           leaves = (tt, tt);
@@ -75,30 +72,30 @@ module _ (limit : ℕ) (cs : List Cell) (s : MemoryState) (x : Row) (from n : �
         }
 
   -- where the number is that of the word w
-  module _ (w : ℕ) (knows : Knows cs s.map x.p1 (known.Int w)) where
+  module _ (w : ℕ) (knows : Knows cs s.map x.p1 (Ok (Some w))) where
     -- ---- EndCoroutine
 
-    end_is : (t : Target) → Targets cs from n w t → (rows : List Listed) → HaveRows cs from rows → length rows ≡ n → (l : Listed) → Judged l x → (bound : ℕ) (m : Defined) → HoldsState limit bound cs s m → jump_arm limit rows l m op_end_coroutine ≡ end_coroutine_to l m (target_of t)
+    end_is : (t : Option ℕ) → Targets cs from n w t → (rows : List Listed) → HaveRows cs from rows → length rows ≡ n → (l : Listed) → Judged l x → (bound : ℕ) (m : Defined) → HoldsState limit bound cs s m → jump_arm limit rows l m op_end_coroutine ≡ end_coroutine_to l m (option_map int_of t)
     unfolding end_coroutine_arm end_coroutine_arm_lem
     end_is t told rows have len l j bound m h =
         read_is op_end_coroutine (end_coroutine_arm_lem limit) rows l m j _ (knows.says limit bound m h.map).answer
         ∙ ap (end_coroutine_to l m) (sym (told.says rows have len))
 
-    pub end_here : (t : Target) → Targets cs from n w t → t ≡ target.NoYield → RowsArm limit cs cs s x from n op_end_coroutine (step.Ways way.Nowhere way.Nowhere)
+    pub end_here : (t : Option ℕ) → Targets cs from n w t → t ≡ None → RowsArm limit cs cs s x from n op_end_coroutine (offered None None)
     end_here t told e =
         record {
           says = λ rows have len l j bound m le h.
-              subst (Offered limit bound cs way.Nowhere way.Nowhere) (sym (end_is t told rows have len l j bound m h ∙ ap (λ y. end_coroutine_to l m (target_of y)) e)) ends_here;
+              subst (Offered limit bound cs None None) (sym (end_is t told rows have len l j bound m h ∙ ap (λ y. end_coroutine_to l m (option_map int_of y)) e)) ends_here;
           leaves = (tt, tt);
           frame = unchanged cs _ _;
         }
 
-    pub end_to : (t : Target) (row : ℕ) → Targets cs from n w t → t ≡ target.To row → (ds : List Cell) (r : Stored) → Leads limit cs ds s.map r (remove_register (int_of x.p1)) → RowsArm limit cs ds s x from n op_end_coroutine (step_after row r)
+    pub end_to : (t : Option ℕ) (row : ℕ) → Targets cs from n w t → t ≡ Some row → (ds : List Cell) (r : Stored) → Leads limit cs ds s.map r (remove_register (int_of x.p1)) → RowsArm limit cs ds s x from n op_end_coroutine (step_after row r)
     end_to t row told e ds r leads =
         record {
           says = λ rows have len l j bound m le h.
               subst (TellsStep limit bound ds (step_after row r))
-              (sym (end_is t told rows have len l j bound m h ∙ ap (λ y. end_coroutine_to l m (target_of y)) e ∙ ap (λ i. remove_register i (go_to (int_of row) m) >>= λ k. goes_on k) (sym j.p1)))
+              (sym (end_is t told rows have len l j bound m h ∙ ap (λ y. end_coroutine_to l m (option_map int_of y)) e ∙ ap (λ i. remove_register i (go_to (int_of row) m) >>= λ k. goes_on k) (sym j.p1)))
               (goes_after r row bound (go_to (int_of row) m) le leads (remove-row (int_of x.p1) (go_to (int_of row) m)) (held_at row (int_of row) refl h.map));
           leaves = leaves_after s r row leads;
           frame = leads.frame;

@@ -1,12 +1,12 @@
 -- A judged row has Yield's number exactly when its name is "Yield"; the row that a number names, and where it goes. Assumes nothing.
 use mathlib.Core.Path.{◌≡◌, refl, sym, ap, subst, ◌∙◌}
 use mathlib.Core.Bool.{Bool, true, false, not, ◌&&◌, ◌||◌, false≢true, and-eq-true_iff}
-use mathlib.Core.Option.{Option, none, some}
+use Rattle.std.specs.Prelude.{Option, None, Some, slice_get, option_map}
 use mathlib.Core.List.{List, [], ◌∷◌}
 use Prim.Native.Nat.{ℕ, zero, suc, ◌+◌, ◌-◌, ◌<◌, ◌≤◌}
 use native.Mathlib.Omega.{arith}
 use lib.Dec.{eqb, ltb}
-use lib.ListN.{length, get_or, get_elem?}
+use lib.ListN.{length, get_or}
 use borrow.Author.Tests.{eq-eqb, ne_eqb, eqb-true, ltb-true, ltb-false}
 use Rattle.type_info.specs.Ascii.{ascii, equals}
 use Rattle.type_info.proofs.Tables.{passes, passes_at}
@@ -27,9 +27,7 @@ use Rattle.rows.specs.Rows.{row_in}
 use Rattle.rows.specs.Judged.{Judged, HaveRows}
 use Rattle.rows.specs.declared.Row.{Row}
 use Rattle.jump_arms.specs.Arms.{RowAfter}
-use Rattle.coroutine_arms.specs.Arms.{RowsInside, target_of, Targets, Follows}
-use Rattle.coroutine_arms.specs.declared.Target.{Target}
-use Rattle.coroutine_arms.specs.declared.Target.TheVariants as target
+use Rattle.coroutine_arms.specs.Arms.{RowsInside, Targets, Follows}
 
 -- ---- the number and the name
 
@@ -107,65 +105,65 @@ yield_number l x j =
 
 -- ---- the row that a word names
 
-past_none : {A : Type 0} (xs : List A) (k : ℕ) → length xs ≤ k → get_elem? xs k ≡ none
+past_none : {A : Type 0} (xs : List A) (k : ℕ) → length xs ≤ k → slice_get xs k ≡ None
 past_none [] k h = refl
 past_none (a ∷ xs) zero h = absurd (omega arith)
 past_none (a ∷ xs) (suc k) h = past_none xs k (omega arith)
 
-within-some : {A : Type 0} (xs : List A) (k : ℕ) → k < length xs → get_elem? xs k ≡ none → ⊥
+within-some : {A : Type 0} (xs : List A) (k : ℕ) → k < length xs → slice_get xs k ≡ None → ⊥
 within-some [] k h e = absurd (omega arith)
 within-some (a ∷ xs) zero h e = never (sym e)
 within-some (a ∷ xs) (suc k) h e = within-some xs k (omega arith) e
 
-abbrev found : Bool → ℕ → Target
-found true p = target.To p
-found false p = target.NoYield
+abbrev found : Bool → ℕ → Option ℕ
+found true p = Some p
+found false p = None
 
 module _ (cs : List Cell) (from n w : ℕ) where
-  pub target_below : w < offset → Targets cs from n w target.NoYield
+  pub target_below : w < offset → Targets cs from n w None
   target_below h = record { says = λ rows have len. sym (ap yield_target (row_below w rows h)) }
 
   module _ (above : offset ≤ w) where
-    pub target_past : n ≤ w - offset → Targets cs from n w target.NoYield
+    pub target_past : n ≤ w - offset → Targets cs from n w None
     target_past h = record { says = λ rows have len. sym (ap yield_target (row_above w rows above ∙ past_none rows (w - offset) (omega (arith, len)))) }
 
     module _ (x : Row) (lt : w - offset < n) (is : x ≡ row_in (get_or cs (from + (w - offset)) blank)) where
       -- a row of the listing stands there
-      row_told : (t : Bool) → eqb x.op 12 ≡ t → (rows : List Listed) → HaveRows cs from rows → length rows ≡ n → target_of (found t x.p2) ≡ yield_target (row_at rows (int_of w))
-      row_told t e rows have len = go (get_elem? rows (w - offset)) refl
+      row_told : (t : Bool) → eqb x.op 12 ≡ t → (rows : List Listed) → HaveRows cs from rows → length rows ≡ n → option_map int_of (found t x.p2) ≡ yield_target (row_at rows (int_of w))
+      row_told t e rows have len = go (slice_get rows (w - offset)) refl
         where
-          goes : (t : Bool) (l : Listed) → Judged l x → target_if t l ≡ target_of (found t x.p2)
-          goes true l j = ap some (sym j.p2)
+          goes : (t : Bool) (l : Listed) → Judged l x → target_if t l ≡ option_map int_of (found t x.p2)
+          goes true l j = ap Some (sym j.p2)
           goes false l j = refl
 
-          go : (o : Option Listed) → get_elem? rows (w - offset) ≡ o → target_of (found t x.p2) ≡ yield_target (row_at rows (int_of w))
-          go none q = absurd (within-some rows (w - offset) (omega (arith, len)) q)
-          go (some l) q =
+          go : (o : Option Listed) → slice_get rows (w - offset) ≡ o → option_map int_of (found t x.p2) ≡ yield_target (row_at rows (int_of w))
+          go None q = absurd (within-some rows (w - offset) (omega (arith, len)) q)
+          go (Some l) q =
               let j : Judged l x = subst (Judged l) (sym is) (have (w - offset) l q) in
               sym (ap yield_target (row_above w rows above ∙ q) ∙ ap (λ b. target_if b l) (yield_number l x j ∙ e) ∙ goes t l j)
 
-      pub target_yield : x.op ≡ 12 → Targets cs from n w (target.To x.p2)
+      pub target_yield : x.op ≡ 12 → Targets cs from n w (Some x.p2)
       target_yield e = record { says = row_told true (eq-eqb x.op 12 e) }
 
-      pub target_other : (x.op ≡ 12 → ⊥) → Targets cs from n w target.NoYield
+      pub target_other : (x.op ≡ 12 → ⊥) → Targets cs from n w None
       target_other e = record { says = row_told false (ne_eqb x.op 12 e) }
 
   -- the row after it
-  pub follows_it : (t : Target) → Targets cs from n w t → t ≡ target.NoYield → Follows cs from n w w
+  pub follows_it : (t : Option ℕ) → Targets cs from n w t → t ≡ None → Follows cs from n w w
   follows_it t told e =
-      record { says = λ rows have len. ap (λ o. row_after_yield o (int_of w)) (ap target_of (sym e) ∙ told.says rows have len) }
+      record { says = λ rows have len. ap (λ o. row_after_yield o (int_of w)) (ap (option_map int_of) (sym e) ∙ told.says rows have len) }
 
   -- a word that names a Yield row is not the last word
-  named_low : RowsInside cs from n → (t : Target) (p : ℕ) → Targets cs from n w t → t ≡ target.To p → (rows : List Listed) → HaveRows cs from rows → length rows ≡ n → w < 18446744073709551615
+  named_low : RowsInside cs from n → (t : Option ℕ) (p : ℕ) → Targets cs from n w t → t ≡ Some p → (rows : List Listed) → HaveRows cs from rows → length rows ≡ n → w < 18446744073709551615
   named_low inside t p told e rows have len =
       cases (ltb w 18446744073709551615) (ltb-true w 18446744073709551615)
       (λ f.
       let high = ltb-false w 18446744073709551615 f in
-      absurd (never (sym (ap target_of (sym e) ∙ told.says rows have len ∙ ap yield_target (row_above w rows (omega (arith, high)) ∙ past_none rows (w - offset) (omega (arith, high, len, inside.small, inside.held.inside)))))))
+      absurd (never (sym (ap (option_map int_of) (sym e) ∙ told.says rows have len ∙ ap yield_target (row_above w rows (omega (arith, high)) ∙ past_none rows (w - offset) (omega (arith, high, len, inside.small, inside.held.inside)))))))
 
-  pub follows_next : RowsInside cs from n → (t : Target) (p r : ℕ) → Targets cs from n w t → t ≡ target.To p → RowAfter w r → Follows cs from n w r
+  pub follows_next : RowsInside cs from n → (t : Option ℕ) (p r : ℕ) → Targets cs from n w t → t ≡ Some p → RowAfter w r → Follows cs from n w r
   follows_next inside t p r told e after =
       record {
         says = λ rows have len.
-            ap int_of (after.next (named_low inside t p told e rows have len)) ∙ sym (int_suc w) ∙ ap (λ o. row_after_yield o (int_of w)) (ap target_of (sym e) ∙ told.says rows have len);
+            ap int_of (after.next (named_low inside t p told e rows have len)) ∙ sym (int_suc w) ∙ ap (λ o. row_after_yield o (int_of w)) (ap (option_map int_of) (sym e) ∙ told.says rows have len);
       }

@@ -1,7 +1,6 @@
 -- The arms of `explain` that look at another row of the listing, EndCoroutine and Yield: the listing's n rows lie in the cells from `from` on.
 -- And where the Yield row that a number names goes, and which row follows a Yield. Assumes nothing.
-use Rattle.std.specs.Prelude.{◌≡◌, List, ℕ, ◌+◌, ◌≤◌, ℤ, length}
-use Rattle.std.proofs.Math.Option.{Option, none, some}
+use Rattle.std.specs.Prelude.{◌≡◌, List, ℕ, ◌+◌, ◌≤◌, ℤ, length, Option, None, Some, option_map}
 use Rattle.model.specs.Row.{Row as Listed}
 use Rattle.model.specs.State.{MemoryState as Defined}
 use Rattle.model.specs.Operation.{JumpOperation}
@@ -13,24 +12,17 @@ use Rattle.intmap.specs.Signed.{int_of}
 use Rattle.rows.specs.Judged.{Judged, HaveRows, SomeRows}
 use Rattle.rows.specs.declared.Row.{Row}
 use Rattle.state.specs.Leads.{operands}
-use Rattle.state.specs.Steps.{HoldsState, TellsStep, LeavesStep}
+use Rattle.state.specs.Steps.{HoldsState, TellsStep, LeavesStep, Step}
 use Rattle.state.specs.declared.MemoryState.{MemoryState}
-use Rattle.state.specs.declared.Step.{Step}
-use Rattle.coroutine_arms.specs.declared.Target.{Target}
-use Rattle.coroutine_arms.specs.declared.Target.TheVariants as target
 
 -- the listing's rows lie within the area
 pub record RowsInside (cs : List Cell) (from n : ℕ) : Type 0 where
   pub held : SomeRows cs from n
   pub small : length cs ≤ 1048576
 
-abbrev pub target_of : Target → Option ℤ
-target_of target.NoYield = none
-target_of (target.To w) = some (int_of w)
-
 -- where the Yield row goes that the word w names
-pub record Targets (cs : List Cell) (from n w : ℕ) (r : Target) : Type 0 where
-  pub says : (rows : List Listed) → HaveRows cs from rows → length rows ≡ n → target_of r ≡ yield_target (row_at rows (int_of w))
+pub record Targets (cs : List Cell) (from n w : ℕ) (r : Option ℕ) : Type 0 where
+  pub says : (rows : List Listed) → HaveRows cs from rows → length rows ≡ n → option_map int_of r ≡ yield_target (row_at rows (int_of w))
 
 -- the row that follows a Yield, where its register says w
 pub record Follows (cs : List Cell) (from n w r : ℕ) : Type 0 where

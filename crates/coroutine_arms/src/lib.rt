@@ -8,34 +8,27 @@ ghost use Rattle.rows.specs.Judged.{SomeRows};
 ghost use Rattle.jump_arms.specs.Arms.{Ready};
 ghost use Rattle.coroutine_arms.specs.Arms.{RowsInside, Targets, Follows, RowsArm};
 
-use jump_arms::Known;
+use refusal::Refusal;
 use rows::Row;
-use state::{MemoryState, Step, Way};
-
-// Where a row goes, if it is a Yield.
-#[derive(Clone, Copy)]
-pub enum Target {
-    NoYield,
-    To(u64),
-}
+use state::{MemoryState, Ways};
 
 // Where the Yield row goes that the word w names. A word below the first row's or past the last's names no row.
-fn yield_target(area: &[u8], from: usize, n: usize, w: u64) -> Target
+fn yield_target(area: &[u8], from: usize, n: usize, w: u64) -> Option<u64>
     requires { RowsInside (cells area.now) from n }
     ensures { Targets (cells area.now) from n w result }
 {
     if w < intmap::ZERO {
-        return Target::NoYield;
+        return None;
     }
     let k = (w - intmap::ZERO) as usize;
     if n <= k {
-        return Target::NoYield;
+        return None;
     }
     let x = rows::row_at(area, from, k);
     if x.op == opcode::OP_YIELD as u64 {
-        return Target::To(x.p2);
+        return Some(x.p2);
     }
-    Target::NoYield
+    None
 }
 
 // EndCoroutine
@@ -46,25 +39,22 @@ pub fn end_coroutine(
     from: usize,
     n: usize,
     limit: usize,
-) -> Step
+) -> Result<Ways, Refusal>
     requires { Ready limit (cells area.old) s x × SomeRows (cells area.old) from n }
     ensures { RowsArm limit (cells area.old) (cells area.new) s x from n op_end_coroutine result }
 {
     let map = s.map;
-    let v = jump_arms::known_int(map, area, x.p1);
-    match v {
-        Known::Bad(k) => Step::Refused(k),
-        Known::Unknown => Step::Ways(Way::Nowhere, Way::Nowhere),
-        Known::Int(w) => {
-            let t = yield_target(area, from, n, w);
-            match t {
-                Target::NoYield => Step::Ways(Way::Nowhere, Way::Nowhere),
-                Target::To(row) => {
-                    jump_arms::go_on(jump_arms::remove_register(map, area, x.p1, limit), row)
-                }
-            }
-        }
-    }
+    let none = Ways {
+        branch: None,
+        stays: None,
+    };
+    let Some(w) = jump_arms::known_int(map, area, x.p1)? else {
+        return Ok(none);
+    };
+    let Some(row) = yield_target(area, from, n, w) else {
+        return Ok(none);
+    };
+    jump_arms::go_on(jump_arms::remove_register(map, area, x.p1, limit), row)
 }
 
 // Where a Yield goes whose register says w: to that row, or past it if it is a Yield too.
@@ -72,26 +62,31 @@ fn row_after_yield(area: &[u8], from: usize, n: usize, w: u64) -> u64
     requires { RowsInside (cells area.now) from n }
     ensures { Follows (cells area.now) from n w result }
 {
-    let t = yield_target(area, from, n, w);
-    match t {
-        Target::NoYield => w,
-        Target::To(_) => jump_arms::row_after(w),
+    match yield_target(area, from, n, w) {
+        None => w,
+        Some(_) => jump_arms::row_after(w),
     }
 }
 
 // Yield. The store refuses nothing that the read did not, since the register has a number already.
-pub fn yield_(s: MemoryState, area: &mut [u8], x: Row, from: usize, n: usize, limit: usize) -> Step
+pub fn yield_(
+    s: MemoryState,
+    area: &mut [u8],
+    x: Row,
+    from: usize,
+    n: usize,
+    limit: usize,
+) -> Result<Ways, Refusal>
     requires { Ready limit (cells area.old) s x × SomeRows (cells area.old) from n }
     ensures { RowsArm limit (cells area.old) (cells area.new) s x from n op_yield result }
 {
     let map = s.map;
-    let v = jump_arms::known_int(map, area, x.p1);
-    match v {
-        Known::Bad(k) => Step::Refused(k),
-        Known::Unknown => Step::Ways(Way::Nowhere, Way::Nowhere),
-        Known::Int(w) => {
-            let row = row_after_yield(area, from, n, w);
-            jump_arms::go_on(state::store_int(map, area, x.p1, s.row, limit), row)
-        }
-    }
+    let Some(w) = jump_arms::known_int(map, area, x.p1)? else {
+        return Ok(Ways {
+            branch: None,
+            stays: None,
+        });
+    };
+    let row = row_after_yield(area, from, n, w);
+    jump_arms::go_on(state::store_int(map, area, x.p1, s.row, limit), row)
 }

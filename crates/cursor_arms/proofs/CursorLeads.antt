@@ -1,4 +1,6 @@
 -- A store in the map leads to the definition's store of a cursor. Assumes nothing.
+use Rattle.refusal.specs.Numbers.{number_of}
+use Rattle.std.specs.Prelude.{Ok, Err}
 use mathlib.Core.Path.{◌≡◌, refl, sym, ap, ap₂, subst, ◌∙◌}
 use mathlib.Core.List.{List, [], ◌∷◌}
 use Prim.Native.Nat.{ℕ, ◌≤◌}
@@ -12,11 +14,10 @@ use Rattle.model.specs.CursorArms.{cursor_arm}
 use Rattle.area.specs.Cells.{cell}
 use Rattle.area.specs.declared.Cell.{Cell}
 use Rattle.intmap.specs.Map.{runs_at}
+use Rattle.intmap.specs.Pack.{tag_of}
 use Rattle.intmap.specs.Signed.{int_of}
-use Rattle.intmap.specs.Store.{store_runs, stored_of, Stores}
+use Rattle.intmap.specs.Store.{store_runs, stored_of, Stores, Stored}
 use Rattle.intmap.specs.declared.IntMap.{IntMap}
-use Rattle.intmap.specs.declared.Stored.{Stored}
-use Rattle.intmap.specs.declared.Stored.TheVariants as stored
 use Rattle.encoding.specs.Encode.{run_cursor}
 use Rattle.encoding.specs.Holds.{SmallCursor, HeldNext}
 use Rattle.intmap.proofs.SignedLaws.{word_int, small_int}
@@ -25,6 +26,9 @@ use Rattle.rows.specs.declared.Row.{Row}
 use Rattle.encoding.proofs.HeldAfter.{held_cursor}
 use Rattle.state.specs.Leads.{HoldsMap, operands, Leads}
 use Rattle.state.specs.Arms.{CursorArm}
+use Rattle.cursor_arms.specs.Cursors.{cell_of}
+use Rattle.cursor_arms.specs.declared.CursorDataType.{CursorDataType}
+use Rattle.cursor_arms.specs.declared.CursorDataType.TheVariants as cursor
 use Rattle.state.proofs.StoreLeads.{wider, leads_as}
 
 -- t is what storing v gives, and v may be stored
@@ -40,19 +44,19 @@ module _ (limit : ℕ) (cs ds : List Cell) (a : IntMap) (i : ℕ) (v : Cursor) (
     answered r st = ap (λ w. store_runs limit 1 (int_of i) 0 w (runs_at cs a)) (sym is) ∙ sym st.answer
 
     pub cursor_leads : (r : Stored) → Stores cs ds limit a 1 i 0 run r → Leads limit cs ds a r f
-    cursor_leads (stored.Refused n) st =
+    cursor_leads (Err n) st =
         record {
           says = λ bound m le h.
-              (let s = may bound m le h in sym s.same ∙ (held_cursor h (int_of i) 0 v s.good s.small).refuses n (answered (stored.Refused n) st));
+              (let s = may bound m le h in sym s.same ∙ (held_cursor h (int_of i) 0 v s.good s.small).refuses (number_of n) (answered (Err n) st));
           leaves = tt;
           frame = wider cs ds a.base limit st.frame;
         }
-    cursor_leads (stored.Done b) st =
+    cursor_leads (Ok b) st =
         record {
           says = λ bound m le h.
               (let s = may bound m le h in
               subst (HeldNext limit bound ds b.base b.len b.used) s.same
-              ((held_cursor h (int_of i) 0 v s.good s.small).next ds b.base b.len b.used (runs_at ds b) (answered (stored.Done b) st) refl
+              ((held_cursor h (int_of i) 0 v s.good s.small).next ds b.base b.len b.used (runs_at ds b) (answered (Ok b) st) refl
               st.leaves.room.used));
           leaves = record { base = st.leaves.base; room = st.leaves.room };
           frame = wider cs ds a.base limit st.frame;
@@ -68,15 +72,20 @@ unfolding run_cursor
 pseudo_run w = ap (λ x. cell 5 x ∷ []) (sym (word_int w))
 
 module _ (limit : ℕ) (cs ds : List Cell) (a : IntMap) (i : ℕ) (r : Stored) where
-  pub normal_leads : (row : ℕ) → row ≤ 65535 → Stores cs ds limit a 1 i 0 (cell 4 row ∷ []) r → Leads limit cs ds a r (store_cursor limit (int_of i) (Normal row))
-  normal_leads row h st =
-      cursor_leads limit cs ds a i (Normal row) (cell 4 row ∷ []) (normal_run row) (store_cursor limit (int_of i) (Normal row))
+  pub normal_leads : (row : ℕ) → row ≤ 65535 → (c : Cell) → c ≡ cell 4 row → Stores cs ds limit a 1 i 0 (c ∷ []) r → Leads limit cs ds a r (store_cursor limit (int_of i) (Normal row))
+  normal_leads row h c e st =
+      cursor_leads limit cs ds a i (Normal row) (c ∷ []) (ap (λ y. y ∷ []) e ∙ normal_run row) (store_cursor limit (int_of i) (Normal row))
       (λ bound m le x. record { good = h; small = tt; same = refl }) r st
 
-  pub pseudo_leads : (w : ℕ) → Operand w → Stores cs ds limit a 1 i 0 (cell 5 w ∷ []) r → Leads limit cs ds a r (store_cursor limit (int_of i) (Pseudo (int_of w)))
-  pseudo_leads w o st =
-      cursor_leads limit cs ds a i (Pseudo (int_of w)) (cell 5 w ∷ []) (pseudo_run w) (store_cursor limit (int_of i) (Pseudo (int_of w)))
+  pub pseudo_leads : (w : ℕ) → Operand w → (c : Cell) → c ≡ cell 5 w → Stores cs ds limit a 1 i 0 (c ∷ []) r → Leads limit cs ds a r (store_cursor limit (int_of i) (Pseudo (int_of w)))
+  pseudo_leads w o c e st =
+      cursor_leads limit cs ds a i (Pseudo (int_of w)) (c ∷ []) (ap (λ y. y ∷ []) e ∙ pseudo_run w) (store_cursor limit (int_of i) (Pseudo (int_of w)))
       (λ bound m le x. record { good = tt; small = small_int bound w (omega (arith, o.above)) (omega (arith, o.below)); same = refl }) r st
+
+-- the cell of a cursor is no record's
+pub cell_plain : (p : CursorDataType) (c : Cell) → c ≡ cell_of p → tag_of c ≡ 2 → ⊥
+cell_plain (cursor.Normal k) c ce e = omega (arith, ap (λ (y : Cell). y.head) ce, e)
+cell_plain (cursor.Pseudo w) c ce e = omega (arith, ap (λ (y : Cell). y.head) ce, e)
 
 -- OpenPseudo
 module _ (limit : ℕ) (cs ds : List Cell) (a : IntMap) (x : Row) (r : Stored) where

@@ -1,6 +1,9 @@
 -- OpenDup by the cursor that was read. Assumes nothing.
+use Rattle.refusal.specs.Numbers.{number_of}
+use Rattle.refusal.specs.declared.Refusal.{Refusal}
+use Rattle.intmap.specs.Store.{Stored}
 use mathlib.Core.Path.{◌≡◌, refl, sym, ap, subst, ◌∙◌}
-use mathlib.Core.Option.{Option, none, some}
+use Rattle.std.specs.Prelude.{Option, None, Some, Ok, Err}
 use mathlib.Core.List.{List, [], ◌∷◌}
 use Prim.Native.Nat.{ℕ}
 use Rattle.model.specs.Walk.{Tried, refused, done}
@@ -10,20 +13,17 @@ use Rattle.model.specs.Access.{◌>>=◌, read_cursor}
 use Rattle.model.specs.Meaning.{Meaning}
 use Rattle.model.specs.Operation.{op_open_dup}
 use Rattle.model.specs.CursorArms.{store_some_cursor, cursor_arm}
-use Rattle.area.specs.Cells.{cell}
 use Rattle.area.specs.declared.Cell.{Cell}
 use Rattle.intmap.specs.Map.{Frame}
 use Rattle.intmap.specs.Signed.{int_of}
 use Rattle.intmap.specs.declared.IntMap.{IntMap}
-use Rattle.intmap.specs.declared.Stored.{Stored}
-use Rattle.intmap.specs.declared.Stored.TheVariants as stored
 use Rattle.rows.specs.Judged.{Judged}
 use Rattle.rows.specs.declared.Row.{Row}
 use Rattle.state.specs.Own.{StoresCell}
 use Rattle.state.proofs.OwnLaws.{cell_leads}
 use Rattle.state.specs.Leads.{Current}
 use Rattle.state.specs.Arms.{Standard, CursorArm}
-use Rattle.cursor_arms.specs.Cursors.{ReadsCursor}
+use Rattle.cursor_arms.specs.Cursors.{cell_of, Reading, ReadsCursor}
 use Rattle.cursor_arms.specs.declared.CursorDataType.{CursorDataType}
 use Rattle.cursor_arms.specs.declared.CursorDataType.TheVariants as cursor
 use Rattle.cursor_arms.proofs.CursorLeads.{cursor_leads, normal_run, pseudo_run}
@@ -41,19 +41,19 @@ module _ (limit row : ℕ) (x : Row) (meaning : Meaning) (l : Listed) (standard 
 pub frame_same : (cs : List Cell) (base n : ℕ) → Frame cs cs base n
 frame_same cs base n = record { long = refl; below = λ j h. refl; above = λ j h. refl }
 
-module _ (limit : ℕ) (cs : List Cell) (a : IntMap) (x : Row) (p : CursorDataType) (reads : ReadsCursor cs a x.p2 p) where
-  pub dup_bad : (n : ℕ) → p ≡ cursor.Bad n → (row : ℕ) → CursorArm limit cs cs a row x op_open_dup (stored.Refused n)
+module _ (limit : ℕ) (cs : List Cell) (a : IntMap) (x : Row) (r : Reading) (reads : ReadsCursor cs a x.p2 r) where
+  pub dup_bad : (n : Refusal) → r ≡ Err n → (row : ℕ) → CursorArm limit cs cs a row x op_open_dup (Err n)
   dup_bad n e row =
       record {
         leads = λ meaning l st j.
             record {
-              says = λ bound m le h. sym (dup_is limit row x meaning l st j m (refused n) ((subst (ReadsCursor cs a x.p2) e reads).says limit bound m h));
+              says = λ bound m le h. sym (dup_is limit row x meaning l st j m (refused (number_of n)) ((subst (ReadsCursor cs a x.p2) e reads).says limit bound m h));
               leaves = tt;
               frame = frame_same cs _ _;
             };
       }
 
-  pub dup_absent : Current limit cs a → p ≡ cursor.Absent → (row : ℕ) → CursorArm limit cs cs a row x op_open_dup (stored.Done a)
+  pub dup_absent : Current limit cs a → r ≡ Ok None → (row : ℕ) → CursorArm limit cs cs a row x op_open_dup (Ok a)
   dup_absent current e row =
       record {
         leads = λ meaning l st j.
@@ -61,7 +61,7 @@ module _ (limit : ℕ) (cs : List Cell) (a : IntMap) (x : Row) (p : CursorDataTy
               says = λ bound m le h.
                   record {
                     state = m;
-                    answer = sym (dup_is limit row x meaning l st j m (done none) ((subst (ReadsCursor cs a x.p2) e reads).says limit bound m h));
+                    answer = sym (dup_is limit row x meaning l st j m (done None) ((subst (ReadsCursor cs a x.p2) e reads).says limit bound m h));
                     holds = h;
                   };
               leaves = record { base = refl; room = current.room };
@@ -69,23 +69,20 @@ module _ (limit : ℕ) (cs : List Cell) (a : IntMap) (x : Row) (p : CursorDataTy
             };
       }
 
-  module _ (ds : List Cell) (r : Stored) where
-    pub dup_normal : (k : ℕ) → p ≡ cursor.Normal k → StoresCell limit cs ds a 1 x.p1 (cell 4 k) r → (row : ℕ) → CursorArm limit cs ds a row x op_open_dup r
-    dup_normal k e st row =
-        record {
-          leads = λ meaning l standard j.
-              cell_leads st (cursor_leads limit cs ds a x.p1 (Normal k) (cell 4 k ∷ []) (normal_run k) (λ m. cursor_arm meaning row l m op_open_dup)
-              (λ bound m le h.
-              (let s = (subst (ReadsCursor cs a x.p2) e reads).says limit bound m h in
-              record { good = s.index; small = tt; same = dup_is limit row x meaning l standard j m (done (some (Normal k))) s.answer })) r);
-        }
-
-    pub dup_pseudo : (w : ℕ) → p ≡ cursor.Pseudo w → StoresCell limit cs ds a 1 x.p1 (cell 5 w) r → (row : ℕ) → CursorArm limit cs ds a row x op_open_dup r
-    dup_pseudo w e st row =
-        record {
-          leads = λ meaning l standard j.
-              cell_leads st (cursor_leads limit cs ds a x.p1 (Pseudo (int_of w)) (cell 5 w ∷ []) (pseudo_run w) (λ m. cursor_arm meaning row l m op_open_dup)
-              (λ bound m le h.
-              (let s = (subst (ReadsCursor cs a x.p2) e reads).says limit bound m h in
-              record { good = tt; small = s.small; same = dup_is limit row x meaning l standard j m (done (some (Pseudo (int_of w)))) s.answer })) r);
-        }
+  pub dup_stored : (p : CursorDataType) → r ≡ Ok (Some p) → (c : Cell) → c ≡ cell_of p → (ds : List Cell) (s : Stored) → StoresCell limit cs ds a 1 x.p1 c s → (row : ℕ) → CursorArm limit cs ds a row x op_open_dup s
+  dup_stored (cursor.Normal k) e c ce ds s st row =
+      record {
+        leads = λ meaning l standard j.
+            cell_leads st (cursor_leads limit cs ds a x.p1 (Normal k) (c ∷ []) (ap (λ y. y ∷ []) ce ∙ normal_run k) (λ m. cursor_arm meaning row l m op_open_dup)
+            (λ bound m le h.
+            (let told = (subst (ReadsCursor cs a x.p2) e reads).says limit bound m h in
+            record { good = told.index; small = tt; same = dup_is limit row x meaning l standard j m (done (Some (Normal k))) told.answer })) s);
+      }
+  dup_stored (cursor.Pseudo w) e c ce ds s st row =
+      record {
+        leads = λ meaning l standard j.
+            cell_leads st (cursor_leads limit cs ds a x.p1 (Pseudo (int_of w)) (c ∷ []) (ap (λ y. y ∷ []) ce ∙ pseudo_run w) (λ m. cursor_arm meaning row l m op_open_dup)
+            (λ bound m le h.
+            (let told = (subst (ReadsCursor cs a x.p2) e reads).says limit bound m h in
+            record { good = tt; small = told.small; same = dup_is limit row x meaning l standard j m (done (Some (Pseudo (int_of w)))) told.answer })) s);
+      }

@@ -1,7 +1,7 @@
 -- A table's emptiness changed where it stands: every run takes the same cells, and the map holds the definition's state. Assumes nothing.
 use mathlib.Core.Path.{◌≡◌, refl, sym, ap, ap₂, subst, ◌∙◌}
 use mathlib.Core.Bool.{Bool, true, false}
-use mathlib.Core.Option.{Option, none}
+use Rattle.std.specs.Prelude.{Option, None, Some}
 use mathlib.Core.List.{List}
 use Prim.Native.Nat.{ℕ, zero, suc, ◌+◌, ◌<◌, ◌≤◌}
 use native.Mathlib.Omega.{arith}
@@ -10,9 +10,8 @@ use borrow.Author.Tests.{eqb-true, eqb-false}
 use lib.ListN.{length, get_or, set, length-set}
 use lib.Seq.{get_or-set_same, get_or-set_other}
 use Rattle.model.specs.Walk.{done}
-use Rattle.model.specs.State.{CursorDataType as Cursor, TableDataType, MemoryState}
+use Rattle.model.specs.State.{TableDataType}
 use Rattle.model.specs.Cursor.{set_empty, update_cursor_table}
-use Rattle.model.specs.CursorArms.{empty_after_delete, after_delete}
 use Rattle.area.specs.Cells.{blank}
 use Rattle.area.specs.declared.Cell.{Cell}
 use Rattle.intmap.specs.Pack.{tag_of, class_key, with_nullable}
@@ -20,34 +19,18 @@ use Rattle.intmap.specs.Runs.{size, sizes, whole}
 use Rattle.intmap.specs.Find.{seek}
 use Rattle.intmap.specs.Map.{levels, IsMap, HasRoom, Frame}
 use Rattle.intmap.specs.declared.IntMap.{IntMap}
-use Rattle.intmap.specs.declared.Slot.{Slot}
-use Rattle.intmap.specs.declared.Slot.TheVariants as slot
 use Rattle.intmap.proofs.RunLaws.{size-pos}
 use Rattle.encoding.specs.Encode.{nullable_code}
-use Rattle.encoding.specs.Decode.{nullables, nullable_in}
-use Rattle.encoding.proofs.Accesses.{apart}
+use Rattle.encoding.specs.Decode.{nullable_in}
 use Rattle.encoding.proofs.BySearch.{search_table_kept, search_empty}
 use Rattle.state.specs.Leads.{HoldsMap}
-use Rattle.state.proofs.StoreLeads.{nullable_code_lem}
 use Rattle.cursor_arms.proofs.DupLaws.{frame_same}
-use Rattle.state.specs.Own.{entry_slot}
 use Rattle.state.proofs.OwnLaws.{case}
-use Rattle.cursor_arms.proofs.StandsLaws.{done-same, Led, led_at, not_led, led_inside}
+use Rattle.cursor_arms.proofs.StandsLaws.{done-same, Led, led_at, led_nowhere, led_inside}
 use Rattle.cursor_arms.specs.Cursors.{TellsCursor, TableChanged}
 use Rattle.cursor_arms.specs.StandsFor.{table_slot, FindsTable, CursorTableChanged}
 use Rattle.cursor_arms.specs.declared.CursorDataType.{CursorDataType}
 use Rattle.cursor_arms.specs.declared.CursorDataType.TheVariants as cursor
-
--- ---- codes
-
-pub still_empty : (n : ℕ) → n ≡ 2 → 2 ≡ nullable_code (empty_after_delete (get_or nullables n none))
-still_empty n e = ap (λ k. nullable_code (empty_after_delete (get_or nullables k none))) (sym e)
-
-pub maybe_empty : (n : ℕ) → (n ≡ 2 → ⊥) → 0 ≡ nullable_code (empty_after_delete (get_or nullables n none))
-maybe_empty zero h = refl
-maybe_empty (suc zero) h = refl
-maybe_empty (suc (suc zero)) h = absurd (h refl)
-maybe_empty (suc (suc (suc n))) h = refl
 
 -- ---- sizes, where tags and payloads are the same
 
@@ -138,25 +121,9 @@ module _ (e : Option Bool → Option Bool) (cs : List Cell) (a : IntMap) (row : 
           frame = frame_kept cs ds p _ fits written a.base a.used (led_inside cs a 2 row p is.used led).0 led_within;
         }
 
--- ---- Delete on the table of a row, as the code has it
+-- ---- the emptiness of a cursor's table
 
-module _ (cs : List Cell) (a : IntMap) (row : ℕ) (is : IsMap cs a) (s : Slot) (found : s ≡ entry_slot cs a 2 row) where
-  pub table_none : (case s ≡ 2 → ⊥) → TableChanged after_delete cs cs a row
-  table_none h = none_changed empty_after_delete cs a row (not_led cs a 2 row (λ q. h (ap case found ∙ q)))
-
-  module _ (p : ℕ) (e : s ≡ slot.At p) where
-    table_led : Led cs a 2 row p
-    table_led = led_at cs a 2 row p (sym found ∙ e)
-
-    pub table-within : p < a.base + a.used
-    table-within = led_within empty_after_delete cs a row p is table_led
-
-    pub table_there : (ds : List Cell) (c x : Cell) → c ≡ get_or cs p blank → x ≡ with_nullable (nullable_code (empty_after_delete (nullable_in c))) c → ds ≡ set cs p x → TableChanged after_delete cs ds a row
-    table_there ds c x ce xe de = one_changed empty_after_delete cs a row p is table_led ds c x ce xe de
-
--- ---- the emptiness of a cursor's table set
-
-module _ (cs : List Cell) (a : IntMap) (c : CursorDataType) (r : Slot) (finds : FindsTable cs a c r) where
+module _ (cs : List Cell) (a : IntMap) (c : CursorDataType) (r : Option ℕ) (finds : FindsTable cs a c r) where
   -- of a table that is changed, so is the cursor's
   of_table : (g : TableDataType → TableDataType) (ds : List Cell) (row : ℕ) → c ≡ cursor.Normal row → TableChanged g cs ds a row → CursorTableChanged g cs ds a c
   unfolding update_cursor_table
@@ -169,50 +136,37 @@ module _ (cs : List Cell) (a : IntMap) (c : CursorDataType) (r : Slot) (finds : 
         frame = changed.frame;
       }
 
-  -- no table
-  module _ (n : ℕ) (small : n < 3) where
+  module _ (e : Option Bool → Option Bool) where
     abbrev g : TableDataType → TableDataType
-    g = set_empty (get_or nullables n none)
+    g t = set_empty (e t.is_empty) t
 
-    left_so : ((limit bound : ℕ) (m : MemoryState) → HoldsMap limit bound cs a m → (o : Option Cursor) → TellsCursor bound c (done o) → update_cursor_table g o m ≡ m) → CursorTableChanged g cs cs a c
-    left_so same =
+    -- no table
+    none_by : (d : CursorDataType) → c ≡ d → r ≡ table_slot cs a d → r ≡ None → CursorTableChanged g cs cs a c
+    unfolding update_cursor_table
+    none_by (cursor.Pseudo w) is _ _ =
         record {
-          holds = λ limit bound m h o told. subst (λ s. HoldsMap limit bound cs a s) (sym (same limit bound m h o told)) h;
+          holds = λ limit bound m h o told.
+              subst (λ u. HoldsMap limit bound cs a (update_cursor_table g u m)) (sym (done-same (subst (λ y. TellsCursor bound y (done o)) is told).answer)) h;
           other = λ no. refl;
           room = λ limit x. x;
           frame = frame_same cs a.base a.used;
         }
+    none_by (cursor.Normal row) is p none = of_table g cs row is (none_changed e cs a row (led_nowhere cs a 2 row (sym p ∙ none)))
 
-    none_by : (d : CursorDataType) → c ≡ d → r ≡ table_slot cs a d → (case r ≡ 2 → ⊥) → CursorTableChanged g cs cs a c
-    unfolding update_cursor_table
-    none_by (cursor.Bad k) e p h = left_so (λ limit bound m held o told. absurd (apart k o (sym (subst (λ y. TellsCursor bound y (done o)) e told))))
-    none_by cursor.Absent e p h =
-        left_so (λ limit bound m held o told. ap (λ u. update_cursor_table g u m) (done-same (subst (λ y. TellsCursor bound y (done o)) e told)))
-    none_by (cursor.Pseudo w) e p h =
-        left_so (λ limit bound m held o told. ap (λ u. update_cursor_table g u m) (done-same (subst (λ y. TellsCursor bound y (done o)) e told).answer))
-    none_by (cursor.Normal row) e p h = of_table g cs row e (none_changed (λ _. get_or nullables n none) cs a row (not_led cs a 2 row (λ q. h (ap case p ∙ q))))
+    pub table_none : r ≡ None → CursorTableChanged (λ t. set_empty (e t.is_empty) t) cs cs a c
+    table_none none = none_by c refl finds.place none
 
-    pub empty_bad_place : (k : ℕ) → r ≡ slot.Bad k → CursorTableChanged (set_empty (get_or nullables n none)) cs cs a c
-    empty_bad_place k e = none_by c refl finds.place (λ q. omega (arith, ap case e, q))
+    -- a table
+    module _ (p : ℕ) (there : r ≡ Some p) where
+      led_by : (d : CursorDataType) → c ≡ d → r ≡ table_slot cs a d → (row : ℕ) × (c ≡ cursor.Normal row) × Led cs a 2 row p
+      led_by (cursor.Pseudo w) f q = absurd (omega (arith, ap case there, ap case q))
+      led_by (cursor.Normal row) f q = (row, f, led_at cs a 2 row p (sym q ∙ there))
 
-    pub empty_no_place : r ≡ slot.Absent → CursorTableChanged (set_empty (get_or nullables n none)) cs cs a c
-    empty_no_place e = none_by c refl finds.place (λ q. omega (arith, ap case e, q))
+      its_row : (row : ℕ) × (c ≡ cursor.Normal row) × Led cs a 2 row p
+      its_row = led_by c refl finds.place
 
-  -- a table
-  module _ (p : ℕ) (e : r ≡ slot.At p) where
-    led_by : (d : CursorDataType) → c ≡ d → r ≡ table_slot cs a d → (row : ℕ) × (c ≡ cursor.Normal row) × Led cs a 2 row p
-    led_by (cursor.Bad k) f q = absurd (omega (arith, ap case e, ap case q))
-    led_by cursor.Absent f q = absurd (omega (arith, ap case e, ap case q))
-    led_by (cursor.Pseudo w) f q = absurd (omega (arith, ap case e, ap case q))
-    led_by (cursor.Normal row) f q = (row, f, led_at cs a 2 row p (sym q ∙ e))
+      pub table-within : IsMap cs a → p < a.base + a.used
+      table-within is = led_within e cs a its_row.0 p is its_row.2
 
-    pub its_row : (row : ℕ) × (c ≡ cursor.Normal row) × Led cs a 2 row p
-    its_row = led_by c refl finds.place
-
-    pub empty_within : IsMap cs a → p < a.base + a.used
-    empty_within is = led_within (λ x. x) cs a its_row.0 p is its_row.2
-
-    pub empty_set : IsMap cs a → (n : ℕ) → n < 3 → (ds : List Cell) (b x : Cell) → b ≡ get_or cs p blank → x ≡ with_nullable n b → ds ≡ set cs p x → CursorTableChanged (set_empty (get_or nullables n none)) cs ds a c
-    empty_set is n small ds b x be xe de =
-        of_table (set_empty (get_or nullables n none)) ds its_row.0 its_row.1
-        (one_changed (λ _. get_or nullables n none) cs a its_row.0 p is its_row.2 ds b x be (xe ∙ ap (λ k. with_nullable k b) (sym (nullable_code_lem n small))) de)
+      pub table_there : IsMap cs a → (ds : List Cell) (b x : Cell) → b ≡ get_or cs p blank → x ≡ with_nullable (nullable_code (e (nullable_in b))) b → ds ≡ set cs p x → CursorTableChanged (λ t. set_empty (e t.is_empty) t) cs ds a c
+      table_there is ds b x be xe de = of_table g ds its_row.0 its_row.1 (one_changed e cs a its_row.0 p is its_row.2 ds b x be xe de)

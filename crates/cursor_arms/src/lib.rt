@@ -3,8 +3,7 @@
 // Translated from sqlx-sqlite 0.9.0, src/connection/explain.rs.
 #![tactic(auto)]
 
-ghost use Rattle.std.specs.Prelude.{◌≡◌, ℕ, ◌+◌, ◌<◌, ◌≤◌, length, get_or};
-ghost use Rattle.std.proofs.Math.Option.{none};
+ghost use Rattle.std.specs.Prelude.{◌≡◌, ℕ, ◌+◌, ◌<◌, ◌≤◌, length};
 ghost use Rattle.model.specs.State.{Normal, Pseudo};
 ghost use Rattle.model.specs.Access.{index, store_cursor};
 ghost use Rattle.model.specs.Cursor.{set_empty};
@@ -12,85 +11,49 @@ ghost use Rattle.model.specs.CursorArms.{empty_after_delete, after_delete};
 ghost use Rattle.model.specs.Operation.{op_open_pseudo, op_open_dup, op_delete};
 ghost use Rattle.area.specs.Cells.{cells};
 ghost use Rattle.intmap.specs.Pack.{with_nullable};
-ghost use Rattle.intmap.specs.Map.{levels, IsMap};
+ghost use Rattle.intmap.specs.Map.{levels};
 ghost use Rattle.intmap.specs.Runs.{size};
 ghost use Rattle.intmap.specs.Signed.{int_of};
 ghost use Rattle.encoding.specs.Encode.{nullable_code};
-ghost use Rattle.encoding.specs.Decode.{nullable_in, nullables};
+ghost use Rattle.encoding.specs.Decode.{nullable_in};
 ghost use Rattle.rows.specs.Judged.{IsRow};
 ghost use Rattle.rows.specs.Rows.{Operand};
 ghost use Rattle.state.specs.Leads.{Held, Current, SomeCurrent, Leads};
 ghost use Rattle.state.specs.Arms.{CursorArm};
-ghost use Rattle.cursor_arms.specs.Cursors.{cursor_in, RowWithin, ReadsCursor, TableChanged};
+ghost use Rattle.cursor_arms.specs.Cursors.{cursor_in, cell_of, RowWithin, ReadsCursor};
 ghost use Rattle.cursor_arms.specs.Behind.{RunBehind};
-ghost use Rattle.cursor_arms.specs.StandsFor.{register_slot, head_slot, empty_in, SlotWithin, FindsTable, FindsColumns, TellsEmpty, CursorTableChanged};
+ghost use Rattle.cursor_arms.specs.StandsFor.{place_of, register_slot, head_slot, empty_in, SlotWithin, FindsTable, FindsColumns, FindsCursor, TellsEmpty, CursorTableChanged};
 
 use area::Cell;
-use intmap::{Index, IntMap, Slot, Stored};
+use intmap::IntMap;
+use refusal::Refusal;
 use rows::Row;
 
-// The class of cursors in the map.
-pub const CURSORS: u64 = 1;
-
-// And that of tables.
-pub const TABLES: u64 = 2;
-
-// The codes of a table's emptiness.
-pub const MAYBE_EMPTY: u64 = 0;
-
-pub const NEVER_EMPTY: u64 = 1;
-
-pub const EMPTY: u64 = 2;
-
-// Stores a cursor that reads the record in a register, whose number is an operand's word.
-pub fn store_pseudo(map: IntMap, area: &mut [u8], i: u64, register: u64, limit: usize) -> Stored
-    requires { Current limit (cells area.old) map × Operand register }
-    ensures { Leads limit (cells area.old) (cells area.new) map result (store_cursor limit (int_of i) (Pseudo (int_of register))) }
+// The code that a table's head has for its emptiness, which may be unknown.
+pub fn nullable_code(empty: Option<bool>) -> u64
+    ensures { result ≡ nullable_code empty }
 {
-    state::store_cell(
-        map,
-        area,
-        CURSORS,
-        i,
-        Cell {
-            head: intmap::PSEUDO,
-            payload: register,
-        },
-        limit,
-    )
+    match empty {
+        None => 0,
+        Some(false) => 1,
+        Some(true) => 2,
+    }
 }
 
-// Stores a cursor on the table that this row opened.
-pub fn store_normal(map: IntMap, area: &mut [u8], i: u64, row: u64, limit: usize) -> Stored
-    requires { Current limit (cells area.old) map × (row ≤ 65535) }
-    ensures { Leads limit (cells area.old) (cells area.new) map result (store_cursor limit (int_of i) (Normal row)) }
+// The emptiness that a table's head says.
+fn emptiness_in(head: Cell) -> Option<bool>
+    ensures { result ≡ nullable_in head }
 {
-    state::store_cell(
-        map,
-        area,
-        CURSORS,
-        i,
-        Cell {
-            head: intmap::NORMAL,
-            payload: row,
-        },
-        limit,
-    )
-}
-
-// OpenPseudo: cursor P1 reads register P2.
-pub fn open_pseudo(map: IntMap, area: &mut [u8], x: Row, limit: usize) -> Stored
-    requires { Current limit (cells area.old) map × IsRow x }
-    ensures { (row : ℕ) → CursorArm limit (cells area.old) (cells area.new) map row x op_open_pseudo result }
-{
-    store_pseudo(map, area, x.p1, x.p2, limit)
+    match intmap::nullable_of(head) {
+        1 => Some(false),
+        2 => Some(true),
+        _ => None,
+    }
 }
 
 // What a cursor is. One on a table is told by the row that opened it, a pseudo cursor by its register's word.
 #[derive(Clone, Copy)]
 pub enum CursorDataType {
-    Bad(u64),
-    Absent,
     Normal(u64),
     Pseudo(u64),
 }
@@ -105,115 +68,180 @@ fn cursor_in(c: Cell) -> CursorDataType
     CursorDataType::Pseudo(c.payload)
 }
 
-// Reads cursor i.
-pub fn read_cursor(map: IntMap, area: &[u8], i: u64) -> CursorDataType
+// Reads cursor i, if it is there.
+pub fn read_cursor(map: IntMap, area: &[u8], i: u64) -> Result<Option<CursorDataType>, Refusal>
     requires { Held (cells area.now) map }
     ensures { ReadsCursor (cells area.now) map i result }
 {
-    let x = state::get(map, area, CURSORS, i);
-    match x {
-        Slot::Bad(n) => CursorDataType::Bad(n),
-        Slot::Absent => CursorDataType::Absent,
-        Slot::At(at) => cursor_in(area::cell_at(area, at)),
+    match state::get(map, area, intmap::Class::Cursors, i)? {
+        None => Ok(None),
+        Some(at) => Ok(Some(cursor_in(area::cell_at(area, at)))),
     }
 }
 
 // Where register i is, if it is there.
-fn register_at(map: IntMap, area: &[u8], i: u64) -> Slot
+fn register_at(map: IntMap, area: &[u8], i: u64) -> Result<Option<usize>, Refusal>
     requires { Held (cells area.now) map }
-    ensures { result ≡ register_slot (cells area.now) map (index (int_of i)) }
+    ensures { place_of result ≡ register_slot (cells area.now) map (index (int_of i)) }
 {
-    let x = intmap::judge_index(i);
-    match x {
-        Index::Bad(n) => Slot::Bad(n),
-        Index::At(k) => state::entry_at(map, area, state::REGISTERS, k),
-    }
+    let k = intmap::judge_index(i)?;
+    Ok(state::entry_at(map, area, intmap::Class::Registers, k))
 }
 
 // A place, if a record's or table's head is there. A table's always is in a state, and asking makes it one in any cells.
-fn head_at(area: &[u8], x: Slot) -> Slot
+fn head_at(area: &[u8], x: Option<usize>) -> Option<usize>
     requires { SlotWithin (cells area.now) x × (length (cells area.now) ≤ 1048576) }
     ensures { result ≡ head_slot (cells area.now) x }
 {
-    match x {
-        Slot::Bad(n) => Slot::Bad(n),
-        Slot::Absent => Slot::Absent,
-        Slot::At(at) => {
-            if intmap::tag_of(area::cell_at(area, at)) == intmap::RECORD {
-                return Slot::At(at);
-            }
-            Slot::Absent
-        }
+    let at = x?;
+    if intmap::tag_of(area::cell_at(area, at)) == intmap::RECORD {
+        return Some(at);
     }
+    None
 }
 
 // The emptiness that the table's head at a place says. Where there is no table, the cursor is empty.
-fn empty_at(area: &[u8], x: Slot) -> u64
+fn empty_at(area: &[u8], x: Option<usize>) -> Option<bool>
     requires { SlotWithin (cells area.now) x × (length (cells area.now) ≤ 1048576) }
     ensures { result ≡ empty_in (cells area.now) x }
 {
     match x {
-        Slot::Bad(_) => MAYBE_EMPTY,
-        Slot::Absent => EMPTY,
-        Slot::At(at) => intmap::nullable_of(area::cell_at(area, at)),
+        None => Some(true),
+        Some(at) => emptiness_in(area::cell_at(area, at)),
     }
 }
 
+// A table's head after a row was deleted: a table that had rows might be empty now.
+fn after_delete(head: Cell) -> Cell
+    ensures { result ≡ with_nullable (nullable_code (empty_after_delete (nullable_in head))) head }
+{
+    let empty = match emptiness_in(head) {
+        Some(true) => Some(true),
+        _ => None,
+    };
+    intmap::with_nullable(head, nullable_code(empty))
+}
+
 impl CursorDataType {
+    // The cell that it is stored as.
+    fn cell(self) -> Cell
+        ensures { result ≡ cell_of self }
+    {
+        match self {
+            CursorDataType::Normal(payload) => {
+                let head = intmap::NORMAL;
+                Cell { head, payload }
+            }
+            CursorDataType::Pseudo(payload) => {
+                let head = intmap::PSEUDO;
+                Cell { head, payload }
+            }
+        }
+    }
+
     // Where the head of its table is, if it has one.
-    pub fn table(self, map: IntMap, area: &[u8]) -> Slot
+    pub fn table(self, map: IntMap, area: &[u8]) -> Option<usize>
         requires { Held (cells area.now) map × RowWithin self }
         ensures { FindsTable (cells area.now) map self result }
     {
         match self {
-            CursorDataType::Bad(n) => Slot::Bad(n),
-            CursorDataType::Absent => Slot::Absent,
-            CursorDataType::Normal(row) => state::entry_at(map, area, TABLES, row),
-            CursorDataType::Pseudo(_) => Slot::Absent,
+            CursorDataType::Normal(row) => state::entry_at(map, area, intmap::Class::Tables, row),
+            CursorDataType::Pseudo(_) => None,
         }
     }
 
     // Where the head of its columns is, a table's or that of a register's record, if it has columns.
-    pub fn columns(self, map: IntMap, area: &[u8]) -> Slot
+    pub fn columns(self, map: IntMap, area: &[u8]) -> Result<Option<usize>, Refusal>
         requires { Held (cells area.now) map × RowWithin self }
         ensures { FindsColumns (cells area.now) map self result }
     {
         match self {
-            CursorDataType::Bad(n) => Slot::Bad(n),
-            CursorDataType::Absent => Slot::Absent,
-            CursorDataType::Normal(row) => head_at(area, state::entry_at(map, area, TABLES, row)),
-            CursorDataType::Pseudo(i) => head_at(area, register_at(map, area, i)),
+            CursorDataType::Normal(row) => {
+                Ok(head_at(area, state::entry_at(map, area, intmap::Class::Tables, row)))
+            }
+            CursorDataType::Pseudo(i) => Ok(head_at(area, register_at(map, area, i)?)),
         }
     }
 
-    // Whether it is empty. Pseudo cursors have exactly one row.
-    pub fn is_empty(self, map: IntMap, area: &[u8]) -> u64
+    // Whether it is empty, if that is known. Pseudo cursors have exactly one row.
+    pub fn is_empty(self, map: IntMap, area: &[u8]) -> Option<bool>
         requires { Held (cells area.now) map × RowWithin self }
         ensures { TellsEmpty (cells area.now) map self result }
     {
         match self {
-            CursorDataType::Bad(_) => MAYBE_EMPTY,
-            CursorDataType::Absent => MAYBE_EMPTY,
-            CursorDataType::Normal(row) => empty_at(area, state::entry_at(map, area, TABLES, row)),
-            CursorDataType::Pseudo(_) => NEVER_EMPTY,
+            CursorDataType::Normal(row) => empty_at(
+                area,
+                state::entry_at(map, area, intmap::Class::Tables, row),
+            ),
+            CursorDataType::Pseudo(_) => Some(false),
         }
     }
 
     // Sets whether its table is empty, if it has one.
-    pub fn set_empty(self, map: IntMap, area: &mut [u8], empty: u64)
-        requires { Held (cells area.old) map × RowWithin self × (empty < 3) }
-        ensures { CursorTableChanged (set_empty (get_or nullables empty none)) (cells area.old) (cells area.new) map self }
+    pub fn set_empty(self, map: IntMap, area: &mut [u8], empty: Option<bool>)
+        requires { Held (cells area.old) map × RowWithin self }
+        ensures { CursorTableChanged (set_empty empty) (cells area.old) (cells area.new) map self }
     {
-        let x = self.table(map, area);
-        match x {
-            Slot::Bad(_) => {}
-            Slot::Absent => {}
-            Slot::At(at) => {
-                let c = intmap::with_nullable(area::cell_at(area, at), empty);
-                area::put_cell(area, at, c);
-            }
-        }
+        let Some(at) = self.table(map, area) else {
+            return;
+        };
+        let c = intmap::with_nullable(area::cell_at(area, at), nullable_code(empty));
+        area::put_cell(area, at, c);
     }
+
+    // Deletes a row of its table, if it has one.
+    fn delete(self, map: IntMap, area: &mut [u8])
+        requires { Held (cells area.old) map × RowWithin self }
+        ensures { CursorTableChanged after_delete (cells area.old) (cells area.new) map self }
+    {
+        let Some(at) = self.table(map, area) else {
+            return;
+        };
+        let c = after_delete(area::cell_at(area, at));
+        area::put_cell(area, at, c);
+    }
+}
+
+// Where the head of cursor i's columns is, if it is there and has columns.
+pub fn columns_of(map: IntMap, area: &[u8], i: u64) -> Result<Option<usize>, Refusal>
+    requires { Held (cells area.now) map }
+    ensures { FindsCursor (cells area.now) map i result }
+{
+    match read_cursor(map, area, i)? {
+        None => Ok(None),
+        Some(p) => p.columns(map, area),
+    }
+}
+
+// Stores a cursor that reads the record in a register, whose number is an operand's word. It is no one function with the next, since a cursor that was
+// read, which may hold a larger number, meets neither contract.
+pub fn store_pseudo(
+    map: IntMap,
+    area: &mut [u8],
+    i: u64,
+    register: u64,
+    limit: usize,
+) -> Result<IntMap, Refusal>
+    requires { Current limit (cells area.old) map × Operand register }
+    ensures { Leads limit (cells area.old) (cells area.new) map result (store_cursor limit (int_of i) (Pseudo (int_of register))) }
+{
+    let c = CursorDataType::Pseudo(register).cell();
+    state::store_cell(map, area, intmap::Class::Cursors, i, c, limit)
+}
+
+// Stores a cursor on the table that this row opened.
+pub fn store_normal(
+    map: IntMap,
+    area: &mut [u8],
+    i: u64,
+    row: u64,
+    limit: usize,
+) -> Result<IntMap, Refusal>
+    requires { Current limit (cells area.old) map × (row ≤ 65535) }
+    ensures { Leads limit (cells area.old) (cells area.new) map result (store_cursor limit (int_of i) (Normal row)) }
+{
+    let c = CursorDataType::Normal(row).cell();
+    state::store_cell(map, area, intmap::Class::Cursors, i, c, limit)
 }
 
 // Copies the run of the entry at `at` to the room behind the map, with another nullable in its head, and gives how many cells it has. A store
@@ -229,65 +257,33 @@ pub fn run_behind(map: IntMap, area: &mut [u8], at: usize, nullable: u64, limit:
     n
 }
 
+// OpenPseudo: cursor P1 reads register P2.
+pub fn open_pseudo(map: IntMap, area: &mut [u8], x: Row, limit: usize) -> Result<IntMap, Refusal>
+    requires { Current limit (cells area.old) map × IsRow x }
+    ensures { (row : ℕ) → CursorArm limit (cells area.old) (cells area.new) map row x op_open_pseudo result }
+{
+    store_pseudo(map, area, x.p1, x.p2, limit)
+}
+
 // OpenDup: cursor P1 becomes what cursor P2 is, if there is one.
-pub fn open_dup(map: IntMap, area: &mut [u8], x: Row, limit: usize) -> Stored
+pub fn open_dup(map: IntMap, area: &mut [u8], x: Row, limit: usize) -> Result<IntMap, Refusal>
     requires { Current limit (cells area.old) map × IsRow x }
     ensures { (row : ℕ) → CursorArm limit (cells area.old) (cells area.new) map row x op_open_dup result }
 {
-    let p = read_cursor(map, area, x.p2);
-    match p {
-        CursorDataType::Bad(n) => Stored::Refused(n),
-        CursorDataType::Absent => Stored::Done(map),
-        CursorDataType::Normal(payload) => {
-            let head = intmap::NORMAL;
-            state::store_cell(map, area, CURSORS, x.p1, Cell { head, payload }, limit)
-        }
-        CursorDataType::Pseudo(payload) => {
-            let head = intmap::PSEUDO;
-            state::store_cell(map, area, CURSORS, x.p1, Cell { head, payload }, limit)
-        }
-    }
-}
-
-// A table's head after a row was deleted: a table that had rows might be empty now.
-fn after_delete(c: Cell) -> Cell
-    ensures { result ≡ with_nullable (nullable_code (empty_after_delete (nullable_in c))) c }
-{
-    if intmap::nullable_of(c) == EMPTY {
-        return intmap::with_nullable(c, EMPTY);
-    }
-    intmap::with_nullable(c, MAYBE_EMPTY)
-}
-
-// Delete on the table that a row opened, if there is one.
-fn delete_from(map: IntMap, area: &mut [u8], row: u64)
-    requires { Held (cells area.old) map × (row ≤ 65535) }
-    ensures { TableChanged after_delete (cells area.old) (cells area.new) map row }
-{
-    let found = state::entry_at(map, area, TABLES, row);
-    match found {
-        Slot::Bad(_) => {}
-        Slot::Absent => {}
-        Slot::At(at) => {
-            let c = after_delete(area::cell_at(area, at));
-            area::put_cell(area, at, c);
-        }
-    }
+    let Some(p) = read_cursor(map, area, x.p2)? else {
+        return Ok(map);
+    };
+    state::store_cell(map, area, intmap::Class::Cursors, x.p1, p.cell(), limit)
 }
 
 // Delete: the table of cursor P1 might be empty now.
-pub fn delete(map: IntMap, area: &mut [u8], x: Row) -> Stored
+pub fn delete(map: IntMap, area: &mut [u8], x: Row) -> Result<IntMap, Refusal>
     requires { SomeCurrent (cells area.old) map × IsRow x }
     ensures { (limit row : ℕ) → Current limit (cells area.old) map → CursorArm limit (cells area.old) (cells area.new) map row x op_delete result }
 {
-    let p = read_cursor(map, area, x.p1);
-    match p {
-        CursorDataType::Bad(n) => Stored::Refused(n),
-        CursorDataType::Absent => Stored::Done(map),
-        CursorDataType::Normal(row) => {
-            delete_from(map, area, row);
-            Stored::Done(map)
-        }
-        CursorDataType::Pseudo(_) => Stored::Done(map),
-    }
+    let Some(p) = read_cursor(map, area, x.p1)? else {
+        return Ok(map);
+    };
+    p.delete(map, area);
+    Ok(map)
 }

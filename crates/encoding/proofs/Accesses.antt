@@ -2,8 +2,7 @@
 -- read there, and what is left are the runs of what is left there. From `StateRuns`, by key, and `Lengths`. Assumes nothing.
 use mathlib.Core.Path.{◌≡◌, refl, sym, ap, ◌∙◌}
 use mathlib.Core.Bool.{Bool, true, false, false≢true}
-use mathlib.Core.Option
-use mathlib.Core.Option.{Option, none, some}
+use Rattle.std.specs.Prelude.{Option, None, Some, option_map}
 use mathlib.Core.List.{List, [], ◌∷◌}
 use Prim.Native.Nat.{ℕ, ◌≤◌}
 use lib.Dec.{leb}
@@ -105,51 +104,51 @@ index-turns (pos k) = go (leb k 65535)
 index-turns (negsuc k) = refusal
 
 module _ {A : Type 0} (class : ℕ) (i : ℤ) (run : ℕ → A → List Cell) (es : Runs) (map : List (Entry A))
-    (same : (k : ℕ) → k ≤ 65535 → lookup (class_key class k) es ≡ Option.map (run (class_key class k)) (get k map))
+    (same : (k : ℕ) → k ≤ 65535 → lookup (class_key class k) es ≡ option_map (run (class_key class k)) (get k map))
   where
-    read_class : read_runs class i es ≡ (index i >>= λ k. done (Option.map (run (class_key class k)) (get k map)))
+    read_class : read_runs class i es ≡ (index i >>= λ k. done (option_map (run (class_key class k)) (get k map)))
     unfolding read_runs
     read_class = by_index i (λ k. done (lookup (class_key class k) es)) _ (λ k h. ap done (same k h))
 
-    read_map : read_runs class i es ≡ map_tried (Option.map (run (class_key class (turns i)))) (index i >>= λ k. done (get k map))
+    read_map : read_runs class i es ≡ map_tried (option_map (run (class_key class (turns i)))) (index i >>= λ k. done (get k map))
     read_map = read_class ∙ go (index-turns i)
       where
         go : {t : Tried ℕ} → Kept (λ k. k ≡ turns i) t
-            → (t >>= λ k. done (Option.map (run (class_key class k)) (get k map))) ≡ map_tried (Option.map (run (class_key class (turns i)))) (t >>= λ k. done (get k map))
+            → (t >>= λ k. done (option_map (run (class_key class k)) (get k map))) ≡ map_tried (option_map (run (class_key class (turns i)))) (t >>= λ k. done (get k map))
         go refusal = refl
-        go (value {a = k} h) = ap (λ j. done (Option.map (run (class_key class j)) (get k map))) h
+        go (value {a = k} h) = ap (λ j. done (option_map (run (class_key class j)) (get k map))) h
 
 -- ---- a value's run changed, if there is one
 
 module _ {A : Type 0} (key : ℕ) (run : A → List Cell) (f : A → A) (h : List Cell → List Cell) (m n : MemoryState) (o : Option A)
     (heads : (v : A) → h (run v) ≡ run (f v))
-    (found : lookup key (runs_of m) ≡ Option.map run o)
-    (absent : o ≡ none → m ≡ n)
-    (present : (v : A) → o ≡ some v → swap key (run (f v) ∷ []) (runs_of m) ≡ runs_of n)
+    (found : lookup key (runs_of m) ≡ option_map run o)
+    (absent : o ≡ None → m ≡ n)
+    (present : (v : A) → o ≡ Some v → swap key (run (f v) ∷ []) (runs_of m) ≡ runs_of n)
   where
     change_at_lem : change_at key h (runs_of m) ≡ runs_of n
     unfolding change_at
     change_at_lem = ap (λ l. change_if l key h (runs_of m)) found ∙ go o refl
       where
-        go : (p : Option A) → o ≡ p → change_if (Option.map run p) key h (runs_of m) ≡ runs_of n
-        go none e = ap runs_of (absent e)
-        go (some v) e = ap (λ r. swap key (r ∷ []) (runs_of m)) (heads v) ∙ present v e
+        go : (p : Option A) → o ≡ p → change_if (option_map run p) key h (runs_of m) ≡ runs_of n
+        go None e = ap runs_of (absent e)
+        go (Some v) e = ap (λ r. swap key (r ∷ []) (runs_of m)) (heads v) ∙ present v e
 
 module _ (limit : ℕ) (m : MemoryState) (good : Good limit m) where
   -- ---- reads
   module _ (i : ℤ) where
-    pub read_register_lem : read_runs 0 i (runs_of m) ≡ (index i >>= λ k. done (Option.map (run_register (class_key 0 k)) (get k m.r)))
+    pub read_register_lem : read_runs 0 i (runs_of m) ≡ (index i >>= λ k. done (option_map (run_register (class_key 0 k)) (get k m.r)))
     read_register_lem = read_class 0 i run_register (runs_of m) m.r (state.get_register limit m good)
 
-    pub read_cursor_lem : read_runs 1 i (runs_of m) ≡ (index i >>= λ k. done (Option.map (run_cursor (class_key 1 k)) (get k m.p)))
+    pub read_cursor_lem : read_runs 1 i (runs_of m) ≡ (index i >>= λ k. done (option_map (run_cursor (class_key 1 k)) (get k m.p)))
     read_cursor_lem = read_class 1 i run_cursor (runs_of m) m.p (state.get_cursor limit m good)
 
     -- as the definition's reads
-    pub register_read : read_runs 0 i (runs_of m) ≡ map_tried (Option.map (run_register (class_key 0 (turns i)))) (read_register i m)
+    pub register_read : read_runs 0 i (runs_of m) ≡ map_tried (option_map (run_register (class_key 0 (turns i)))) (read_register i m)
     unfolding read_register
     register_read = read_map 0 i run_register (runs_of m) m.r (state.get_register limit m good)
 
-    pub cursor_read : read_runs 1 i (runs_of m) ≡ map_tried (Option.map (run_cursor (class_key 1 (turns i)))) (read_cursor i m)
+    pub cursor_read : read_runs 1 i (runs_of m) ≡ map_tried (option_map (run_cursor (class_key 1 (turns i)))) (read_cursor i m)
     unfolding read_cursor
     cursor_read = read_map 1 i run_cursor (runs_of m) m.p (state.get_cursor limit m good)
 
@@ -198,7 +197,7 @@ module _ (limit : ℕ) (m : MemoryState) (good : Good limit m) where
 
   -- ---- tables, by row
   module _ (row : ℕ) where
-    pub read_table : lookup (class_key 2 row) (runs_of m) ≡ Option.map (run_table (class_key 2 row)) (get row m.t)
+    pub read_table : lookup (class_key 2 row) (runs_of m) ≡ option_map (run_table (class_key 2 row)) (get row m.t)
     read_table = state.get_table limit m good row
 
     pub store_table_lem : (key : ℕ) (t : TableDataType) → store_at limit (class_key 2 row) (columns_depth t.cols) (run_table key t) (runs_of m) ≡ map_tried runs_of (store_table limit row t m)

@@ -3,7 +3,7 @@
 -- Assumes nothing.
 use mathlib.Core.Path.{◌≡◌, sym, ap, subst, ◌∙◌}
 use mathlib.Core.Bool.{Bool, true, false}
-use mathlib.Core.Option.{Option, none, some}
+use Rattle.std.specs.Prelude.{Option, None, Some}
 use mathlib.Core.List.{List, ◌∷◌}
 use Prim.Native.Nat.{ℕ, zero, suc, ◌+◌, ◌-◌, ◌<◌, ◌≤◌}
 use native.Mathlib.Omega.{arith}
@@ -59,12 +59,12 @@ module _ {limit bound : ℕ} {cs : List Cell} {base len used : ℕ} {m : MemoryS
     unfolding read_register
     read = ap (λ t. t >>= λ k. done (get k m.r)) at
 
-    pub search_no_register : (seek cs 9 (class_key 0 k) len base).present ≡ false → get k m.r ≡ none
+    pub search_no_register : (seek cs 9 (class_key 0 k) len base).present ≡ false → get k m.r ≡ None
     search_no_register h = done-same ((told_register_at holds k (kept (index_small i) at)).absent (ap done (seek_none cs 9 key len base h)))
 
     -- none is changed
     pub search_kept : (f : RegDataType → RegDataType) → (seek cs 9 (class_key 0 k) len base).present ≡ false → update_register i f m ≡ done m
-    search_kept f h = update_kept holds.good i f none (read ∙ ap done (search_no_register h)) tt
+    search_kept f h = update_kept holds.good i f None (read ∙ ap done (search_no_register h)) tt
 
     module _ (h : (seek cs 9 (class_key 0 k) len base).present ≡ true) where
       found : Value (λ v. GoodRegister v × SmallRegister bound v) (run_register key) (span cs place (size cs 9 place)) (done (get k m.r))
@@ -81,11 +81,11 @@ module _ {limit bound : ℕ} {cs : List Cell} {base len used : ℕ} {m : MemoryS
       pub search_null : (ds : List Cell) → tag_of (get_or cs (seek cs 9 (class_key 0 k) len base).at blank) ≡ 2 → base + used ≤ length cs → ds ≡ null_heads cs (seek cs 9 (class_key 0 k) len base).at → HeldNext limit bound ds base len used (update_register i null_record m)
       search_null ds tag room e =
           let r = register_record (get_or cs place blank) (rest place) key found.value headed tag in
-          held_record_null holds i k at r.0 (done-same found.answer ∙ ap some r.1) ds room (e ∙ ap (λ n. on_heads (single_nullable 2) 8 cs n (place + 1)) r.2.number)
+          held_record_null holds i k at r.0 (done-same found.answer ∙ ap Some r.1) ds room (e ∙ ap (λ n. on_heads (single_nullable 2) 8 cs n (place + 1)) r.2.number)
 
       pub search_plain : (tag_of (get_or cs (seek cs 9 (class_key 0 k) len base).at blank) ≡ 2 → ⊥) → update_register i null_record m ≡ done m
       search_plain tag =
-          update_kept holds.good i null_record (some found.value) (read ∙ found.answer) (register_plain (get_or cs place blank) (rest place) key found.value headed tag)
+          update_kept holds.good i null_record (Some found.value) (read ∙ found.answer) (register_plain (get_or cs place blank) (rest place) key found.value headed tag)
 
   -- ---- a table
   module _ (row : ℕ) where
@@ -95,7 +95,7 @@ module _ {limit bound : ℕ} {cs : List Cell} {base len used : ℕ} {m : MemoryS
     abbrev spot : ℕ
     spot = (seek cs 9 own len base).at
 
-    pub search_no_table : (seek cs 9 (class_key 2 row) len base).present ≡ false → get row m.t ≡ none
+    pub search_no_table : (seek cs 9 (class_key 2 row) len base).present ≡ false → get row m.t ≡ None
     search_no_table h = done-same ((told_table holds row).absent (ap done (seek_none cs 9 own len base h)))
 
     pub search_table_kept : (f : TableDataType → TableDataType) → (seek cs 9 (class_key 2 row) len base).present ≡ false → update_table row f m ≡ m

@@ -4,7 +4,7 @@
 use mathlib.Core.Path.{◌≡◌, refl, sym, ap, ap₂, ◌∙◌}
 use mathlib.Core.List.{List, [], ◌∷◌, ◌++◌, flatten, map}
 use mathlib.Core.Bool.{Bool, false}
-use mathlib.Core.Option.{Option, none, some}
+use Rattle.std.specs.Prelude.{Option, None, Some}
 use Prim.Native.Nat.{ℕ, zero, suc, ◌+◌, ◌%◌}
 use native.Mathlib.Omega.{arith}
 use lib.ListN.{length, replicate}
@@ -57,10 +57,10 @@ register_as_column (Column (Single d n)) j key =
 register_as_column (Column (Record x)) j key =
     ap (λ c. rekey key (c ∷ run_columns x)) (no_number (cell (head 2 0 0 j) (count x)) (omega arith)) ∙ column_rekey (Record x) j key
 register_as_column (Int i) j key =
-    ap (λ b. rekey key (pick b (cell (head 1 1 1 0) 0) (cell (head 3 0 0 j) (word_of i)) ∷ [])) (eq-eqb (head 3 0 0 j % 256) 3 (omega arith)) ∙ column_rekey (Single Integer (some false)) 0 key
+    ap (λ b. rekey key (pick b (cell (head 1 1 1 0) 0) (cell (head 3 0 0 j) (word_of i)) ∷ [])) (eq-eqb (head 3 0 0 j % 256) 3 (omega arith)) ∙ column_rekey (Single Integer (Some false)) 0 key
 
 -- a table of which it is not known whether it is empty has the run of a record
-pub table_record : (x : Columns) (key : ℕ) → run_table key (record { cols = x; is_empty = none }) ≡ run_column key (Record x)
+pub table_record : (x : Columns) (key : ℕ) → run_table key (record { cols = x; is_empty = None }) ≡ run_column key (Record x)
 unfolding run_table run_column
 table_record x key = refl
 

@@ -3,7 +3,7 @@
 -- states and `Numbers`. Assumes nothing.
 use mathlib.Core.Path.{◌≡◌, refl, sym, ap, subst, ◌∙◌}
 use mathlib.Core.Bool.{Bool, true, false}
-use mathlib.Core.Option.{some}
+use Rattle.std.specs.Prelude.{Some}
 use mathlib.Core.List.{List}
 use Prim.Native.Nat.{ℕ, ◌≤◌}
 use lib.Dec.{leb}
@@ -159,7 +159,7 @@ module _ {limit bound : ℕ} {cs : List Cell} {base len used : ℕ} {m : MemoryS
   held_table row h key t sorted = carried (table_follows limit bound m holds.good holds.small row h key t sorted) holds
 
   -- a value that is there, changed by a store
-  pub held_update : (i : ℤ) (key : ℕ) (f : RegDataType → RegDataType) (v : RegDataType) → read_register i m ≡ done (some v) → NeverLarger register_cells GoodRegister f → SmallRegister bound (f v) → Carried limit bound (store_runs limit 0 i (register_depth (f v)) (run_register key (f v)) (entries cs 9 len base)) (update_register i f m)
+  pub held_update : (i : ℤ) (key : ℕ) (f : RegDataType → RegDataType) (v : RegDataType) → read_register i m ≡ done (Some v) → NeverLarger register_cells GoodRegister f → SmallRegister bound (f v) → Carried limit bound (store_runs limit 0 i (register_depth (f v)) (run_register key (f v)) (entries cs 9 len base)) (update_register i f m)
   held_update i key f v present no_larger s =
       subst (Carried limit bound _) (sym (update_stored holds.good i f v present no_larger))
       (held_register i key (f v) (λ _. ((no_larger v).good (kept (read_register_good holds.good i) present)).sorted) s)

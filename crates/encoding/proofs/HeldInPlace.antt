@@ -2,7 +2,8 @@
 -- and NullRow. From `Replaced`, with the changed runs of `InPlace`. Assumes nothing.
 use mathlib.Core.Path.{◌≡◌, refl, sym, ap, subst, ◌∙◌}
 use mathlib.Core.Bool.{Bool, true, false}
-use mathlib.Core.Option.{Option, some, map, none-ne-some, some-injective}
+use Rattle.std.specs.Prelude.{Option, Some, option_map}
+use Rattle.std.proofs.lemmas.Option.{none-some, same_Some}
 use mathlib.Core.List.{List, [], ◌∷◌}
 use Prim.Native.Nat.{ℕ, ◌+◌, ◌%◌, ◌≤◌}
 use native.Mathlib.Omega.{arith}
@@ -45,12 +46,12 @@ use Rattle.encoding.proofs.StateRuns.{get_register, get_table, update_register_l
 -- ---- an entry of a held state, where it stands, and replaced
 
 module _ {limit bound : ℕ} {cs : List Cell} {base len used : ℕ} {m : MemoryState} (holds : Holds limit bound cs base len used m)
-    (key : ℕ) (run : List Cell) (there : lookup key (runs_of m) ≡ some run)
+    (key : ℕ) (run : List Cell) (there : lookup key (runs_of m) ≡ Some run)
   where
     abbrev place : ℕ
     place = (seek cs 9 key len base).at
 
-    looked : lookup key (entries cs 9 len base) ≡ some run
+    looked : lookup key (entries cs 9 len base) ≡ Some run
     looked = ap (lookup key) holds.runs ∙ there
 
     pub found_present : (seek cs 9 key len base).present ≡ true
@@ -58,10 +59,10 @@ module _ {limit bound : ℕ} {cs : List Cell} {base len used : ℕ} {m : MemoryS
       where
         go : (b : Bool) → (seek cs 9 key len base).present ≡ b → (seek cs 9 key len base).present ≡ true
         go true e = e
-        go false e = absurd (none-ne-some run (sym (seek_none cs 9 key len base e) ∙ looked))
+        go false e = absurd (none-some run (sym (seek_none cs 9 key len base e) ∙ looked))
 
     found_run : span cs place (size cs 9 place) ≡ run
-    found_run = some-injective _ _ (sym (seek_some cs 9 key len base found_present) ∙ looked)
+    found_run = same_Some _ _ (sym (seek_some cs 9 key len base found_present) ∙ looked)
 
     pub found_long : size cs 9 (seek cs 9 key len base).at ≡ length run
     found_long = sym (length-span cs place (size cs 9 place)) ∙ ap length found_run
@@ -95,11 +96,11 @@ module _ {limit bound : ℕ} {cs : List Cell} {base len used : ℕ} {m : MemoryS
 
 record_cells : (x : Columns) → register_cells (null_record (Column (Record x))) ≡ register_cells (Column (Record x))
 unfolding register_cells column_cells
-record_cells x = ap (λ n. 1 + n) (all_nullable_cells (some true) x)
+record_cells x = ap (λ n. 1 + n) (all_nullable_cells (Some true) x)
 
 table-cells : (t : TableDataType) → table_cells (null_table t) ≡ table_cells t
 unfolding table_cells
-table-cells t = ap (λ n. 1 + n) (all_nullable_cells (some true) t.cols)
+table-cells t = ap (λ n. 1 + n) (all_nullable_cells (Some true) t.cols)
 
 -- ---- a register changed
 
@@ -130,9 +131,9 @@ module _ {limit bound : ℕ} {cs : List Cell} {base len used : ℕ} {m : MemoryS
   unfolding update_register
   updated f = ap (λ t. t >>= λ k. done (with_registers (update k f m.r) m)) at
 
-  module _ (v : RegDataType) (there : get k m.r ≡ some v) where
-    pub register_found : lookup (class_key 0 k) (runs_of m) ≡ some (run_register (class_key 0 k) v)
-    register_found = get_register limit m holds.good k within ∙ ap (map (run_register its)) there
+  module _ (v : RegDataType) (there : get k m.r ≡ Some v) where
+    pub register_found : lookup (class_key 0 k) (runs_of m) ≡ Some (run_register (class_key 0 k) v)
+    register_found = get_register limit m holds.good k within ∙ ap (option_map (run_register its)) there
 
     good_there : GoodRegister v
     good_there = (subst (OnSome (λ v. (k ≤ 65535) × GoodRegister v)) there (rising_get (λ j v. (j ≤ 65535) × GoodRegister v) k 0 m.r holds.good.registers)).1
@@ -159,7 +160,7 @@ module _ {limit bound : ℕ} {cs : List Cell} {base len used : ℕ} {m : MemoryS
     held_not_null ds room e = held_register_head bound to_not_null (single_nullable 1) (not_null_change bound holds.small.bounded) register_not_null ds room e
 
   -- NullRow, on a register that holds a record
-  pub held_record_null : (x : Columns) → get k m.r ≡ some (Column (Record x)) → (ds : List Cell) → base + used ≤ length cs → ds ≡ on_heads (single_nullable 2) 8 cs (count x) ((seek cs 9 (class_key 0 k) len base).at + 1) → HeldNext limit bound ds base len used (update_register i null_record m)
+  pub held_record_null : (x : Columns) → get k m.r ≡ Some (Column (Record x)) → (ds : List Cell) → base + used ≤ length cs → ds ≡ on_heads (single_nullable 2) 8 cs (count x) ((seek cs 9 (class_key 0 k) len base).at + 1) → HeldNext limit bound ds base len used (update_register i null_record m)
   unfolding run_register run_column register_depth column_depth
   held_record_null x there ds room e =
       let v = Column (Record x) in
@@ -179,9 +180,9 @@ module _ {limit bound : ℕ} {cs : List Cell} {base len used : ℕ} {m : MemoryS
   abbrev own : ℕ
   own = class_key 2 row
 
-  module _ (t : TableDataType) (there : get row m.t ≡ some t) where
-    pub table_found : lookup (class_key 2 row) (runs_of m) ≡ some (run_table (class_key 2 row) t)
-    table_found = get_table limit m holds.good row ∙ ap (map (run_table own)) there
+  module _ (t : TableDataType) (there : get row m.t ≡ Some t) where
+    pub table_found : lookup (class_key 2 row) (runs_of m) ≡ Some (run_table (class_key 2 row) t)
+    table_found = get_table limit m holds.good row ∙ ap (option_map (run_table own)) there
 
     table_deep : GoodTable t
     table_deep = (subst (OnSome (λ t. (row ≤ 65535) × GoodTable t)) there (table_good holds.good row)).1

@@ -1,7 +1,8 @@
 -- What is read of held cells: a run is that of the value which the definition reads, good and with a small number; where there is none the
 -- definition has none, and what is refused is refused there, with the same number. From `Accesses` and `Numbers`. Assumes nothing.
 use mathlib.Core.Path.{◌≡◌, refl, sym, ap, ◌∙◌}
-use mathlib.Core.Option.{Option, none, some, map, none-ne-some}
+use Rattle.std.specs.Prelude.{Option, None, Some, option_map}
+use Rattle.std.proofs.lemmas.Option.{none-some}
 use mathlib.Core.List.{List}
 use Prim.Native.Nat.{ℕ, ◌≤◌}
 use lib.IntN.{ℤ}
@@ -29,38 +30,38 @@ use Rattle.encoding.proofs.Accesses.{apart, register_read, cursor_read, read_tab
 -- a value that was read, and its run
 pub record Value {A : Type 0} (P : A → Type 0) (run : A → List Cell) (r : List Cell) (t : Tried (Option A)) : Type 0 where
   pub value : A
-  pub answer : t ≡ done (some value)
+  pub answer : t ≡ done (Some value)
   pub is : r ≡ run value
   pub has : P value
 
 -- an answer in runs tells the definition's t
 pub record Told {A : Type 0} (P : A → Type 0) (run : A → List Cell) (answer : Tried (Option (List Cell))) (t : Tried (Option A)) : Type 0 where
-  pub present : (r : List Cell) → answer ≡ done (some r) → Value P run r t
-  pub absent : answer ≡ done none → t ≡ done none
+  pub present : (r : List Cell) → answer ≡ done (Some r) → Value P run r t
+  pub absent : answer ≡ done None → t ≡ done None
   pub refuses : (n : ℕ) → answer ≡ refused n → t ≡ refused n
 
 module _ {A : Type 0} {P : A → Type 0} {run : A → List Cell} where
-  told : {answer : Tried (Option (List Cell))} {t : Tried (Option A)} → answer ≡ map_tried (map run) t → Kept (OnSome P) t → Told P run answer t
+  told : {answer : Tried (Option (List Cell))} {t : Tried (Option A)} → answer ≡ map_tried (option_map run) t → Kept (OnSome P) t → Told P run answer t
   told {t = t} same good = record { present = λ r e. here r t (sym same ∙ e) good; absent = λ e. gone t (sym same ∙ e); refuses = λ n e. stops n t (sym same ∙ e) }
     where
-      here : (r : List Cell) (t : Tried (Option A)) → map_tried (map run) t ≡ done (some r) → Kept (OnSome P) t → Value P run r t
-      here r (refused k) e good = absurd (apart k (some r) e)
-      here r (done none) e good = absurd (none-ne-some r cc)
-      here r (done (some v)) e (value p) = record { value = v; answer = refl; is = cc; has = p }
+      here : (r : List Cell) (t : Tried (Option A)) → map_tried (option_map run) t ≡ done (Some r) → Kept (OnSome P) t → Value P run r t
+      here r (refused k) e good = absurd (apart k (Some r) e)
+      here r (done None) e good = absurd (none-some r cc)
+      here r (done (Some v)) e (value p) = record { value = v; answer = refl; is = cc; has = p }
 
-      gone : (t : Tried (Option A)) → map_tried (map run) t ≡ done none → t ≡ done none
-      gone (refused k) e = absurd (apart k none e)
-      gone (done none) e = refl
-      gone (done (some v)) e = absurd (none-ne-some (run v) cc)
+      gone : (t : Tried (Option A)) → map_tried (option_map run) t ≡ done None → t ≡ done None
+      gone (refused k) e = absurd (apart k None e)
+      gone (done None) e = refl
+      gone (done (Some v)) e = absurd (none-some (run v) cc)
 
-      stops : (n : ℕ) (t : Tried (Option A)) → map_tried (map run) t ≡ refused n → t ≡ refused n
+      stops : (n : ℕ) (t : Tried (Option A)) → map_tried (option_map run) t ≡ refused n → t ≡ refused n
       stops n (refused k) e = cc
-      stops n (done o) e = absurd (apart n (map run o) (sym e))
+      stops n (done o) e = absurd (apart n (option_map run o) (sym e))
 
 -- two properties of what was found
 both : {A : Type 0} (k : ℕ) (P Q : A → Type 0) (o : Option A) → OnSome (λ v. (k ≤ 65535) × P v) o → OnSome Q o → OnSome (λ v. P v × Q v) o
-both k P Q none p q = tt
-both k P Q (some v) p q = (p.1, q)
+both k P Q None p q = tt
+both k P Q (Some v) p q = (p.1, q)
 
 module _ {limit bound : ℕ} {cs : List Cell} {base len used : ℕ} {m : MemoryState} (holds : Holds limit bound cs base len used m) where
   -- a register, by a judged index and by any

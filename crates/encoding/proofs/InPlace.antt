@@ -3,7 +3,7 @@
 use mathlib.Core.Path.{◌≡◌, refl, sym, ap, ap₂, ◌∙◌}
 use mathlib.Core.List.{List, [], ◌∷◌, flatten, map}
 use mathlib.Core.Bool.{Bool, true, false}
-use mathlib.Core.Option.{Option, some}
+use Rattle.std.specs.Prelude.{Option, Some}
 use Prim.Native.Nat.{ℕ, suc, ◌+◌, ◌≤◌}
 use native.Mathlib.Omega.{arith}
 use lib.ListN.{length, get_or}
@@ -62,16 +62,16 @@ module _ (n : Option Bool) where
 
 pub register_not_null : (v : RegDataType) (key : ℕ) → on_head (single_nullable 1) (run_register key v) ≡ run_register key (to_not_null v)
 unfolding run_register
-register_not_null (Column c) key = column_nullable (some false) c key
+register_not_null (Column c) key = column_nullable (Some false) c key
 register_not_null (Int i) key = ap (λ c. c ∷ []) (no_nullable 1 (cell (head 3 0 0 key) (word_of i)) (omega arith))
 
 -- ---- in a state: a register made not null, a table's emptiness set
 
 module _ (limit : ℕ) (m : MemoryState) (good : Good limit m) (k : ℕ) where
-  pub not_null_state : (v : RegDataType) → k ≤ 65535 → get k m.r ≡ some v → swap (class_key 0 k) (on_head (single_nullable 1) (run_register (class_key 0 k) v) ∷ []) (runs_of m) ≡ runs_of (with_registers (update k to_not_null m.r) m)
+  pub not_null_state : (v : RegDataType) → k ≤ 65535 → get k m.r ≡ Some v → swap (class_key 0 k) (on_head (single_nullable 1) (run_register (class_key 0 k) v) ∷ []) (runs_of m) ≡ runs_of (with_registers (update k to_not_null m.r) m)
   not_null_state v h g = ap (λ r. swap (class_key 0 k) (r ∷ []) (runs_of m)) (register_not_null v (class_key 0 k)) ∙ update_register_lem limit m good k h to_not_null v g
 
-  pub empty_state : (n : Option Bool) (t : TableDataType) → get k m.t ≡ some t → swap (class_key 2 k) (on_head (with_nullable (nullable_code n)) (run_table (class_key 2 k) t) ∷ []) (runs_of m) ≡ runs_of (with_tables (update k (set_empty n) m.t) m)
+  pub empty_state : (n : Option Bool) (t : TableDataType) → get k m.t ≡ Some t → swap (class_key 2 k) (on_head (with_nullable (nullable_code n)) (run_table (class_key 2 k) t) ∷ []) (runs_of m) ≡ runs_of (with_tables (update k (set_empty n) m.t) m)
   empty_state n t g = ap (λ r. swap (class_key 2 k) (r ∷ []) (runs_of m)) (table_empty n t (class_key 2 k)) ∙ update_table_lem limit m good k (set_empty n) t g
 
 -- ---- by place: the nullable of a record's or table's single columns set, where its run stands
@@ -94,8 +94,8 @@ module _ (n : Option Bool) (cs : List Cell) (p h d : ℕ) (x : Columns) where
 module _ (cs : List Cell) (p key : ℕ) where
   pub table_null : (t : TableDataType) → columns_depth t.cols ≤ 8 → p + length (run_table key t) ≤ length cs → Stands cs p (run_table key t) → Stands (on_heads (single_nullable 2) 8 cs (count t.cols) (p + 1)) p (run_table key (null_table t))
   unfolding run_table
-  table_null t deep fits e = headed_nullable (some true) cs p (head 2 0 (nullable_code t.is_empty) key) 8 t.cols deep (omega arith) e
+  table_null t deep fits e = headed_nullable (Some true) cs p (head 2 0 (nullable_code t.is_empty) key) 8 t.cols deep (omega arith) e
 
   pub record_null : (x : Columns) → columns_depth x ≤ 8 → p + length (run_register key (Column (Record x))) ≤ length cs → Stands cs p (run_register key (Column (Record x))) → Stands (on_heads (single_nullable 2) 8 cs (count x) (p + 1)) p (run_register key (null_record (Column (Record x))))
   unfolding run_register run_column
-  record_null x deep fits e = headed_nullable (some true) cs p (head 2 0 0 key) 8 x deep (omega arith) e
+  record_null x deep fits e = headed_nullable (Some true) cs p (head 2 0 0 key) 8 x deep (omega arith) e

@@ -2,7 +2,8 @@
 -- type with a run under each key, and for any class. Assumes nothing.
 use mathlib.Core.Path.{◌≡◌, refl, sym, ap, ap₂, ◌∙◌}
 use mathlib.Core.Bool.{Bool, true, false}
-use mathlib.Core.Option.{Option, none, some, map, none-ne-some, some-injective}
+use Rattle.std.specs.Prelude.{Option, None, Some, option_map}
+use Rattle.std.proofs.lemmas.Option.{none-some, same_Some}
 use mathlib.Core.List.{List, [], ◌∷◌}
 use Prim.Native.Nat.{ℕ, suc, ◌<◌, ◌≤◌, compare, Ordering}
 use native.Mathlib.Omega.{arith}
@@ -30,7 +31,7 @@ compare_more a b e = leb-false a b (ap is_le e)
 -- a key and the first entry of a map
 module _ {A : Type 0} (k : ℕ) (e : Entry A) (es : List (Entry A)) where
   module _ (h : e.key ≡ k) where
-    pub get_first : get k (e ∷ es) ≡ some e.value
+    pub get_first : get k (e ∷ es) ≡ Some e.value
     unfolding get
     get_first = ap (λ b. get_if b e.value (get k es)) (eq-eqb e.key k h)
 
@@ -57,7 +58,7 @@ module _ {A : Type 0} (k : ℕ) (e : Entry A) (es : List (Entry A)) where
 
 module _ {A : Type 0} (P : ℕ → A → Type 0) (k : ℕ) where
   -- every key is above k
-  pub get_past : (low : ℕ) (es : List (Entry A)) → k < low → Rising P low es → get k es ≡ none
+  pub get_past : (low : ℕ) (es : List (Entry A)) → k < low → Rising P low es → get k es ≡ None
   unfolding get
   get_past low [] h s = refl
   get_past low (e ∷ es) h s = get_other k e es (omega (arith, s.0)) ∙ get_past (suc e.key) es (omega (arith, s.0)) s.2
@@ -68,25 +69,25 @@ module _ {A : Type 0} (P : ℕ → A → Type 0) (k : ℕ) where
   remove_past low (e ∷ es) h s = remove_other k e es (omega (arith, s.0)) ∙ ap (λ l. e ∷ l) (remove_past (suc e.key) es (omega (arith, s.0)) s.2)
 
   -- what is absent stays absent, and what is present is overwritten
-  pub update_absent : (f : A → A) (es : List (Entry A)) → get k es ≡ none → update k f es ≡ es
+  pub update_absent : (f : A → A) (es : List (Entry A)) → get k es ≡ None → update k f es ≡ es
   unfolding update get
   update_absent f [] g = refl
   update_absent f (e ∷ es) g = by (eqb e.key k) g (update_absent f es)
     where
-      by : (b : Bool) → get_if b e.value (get k es) ≡ none → (get k es ≡ none → update k f es ≡ es) → e.key ⇒ update_if b f e.value ∷ update k f es ≡ e ∷ es
-      by true g rest = absurd (none-ne-some e.value (sym g))
+      by : (b : Bool) → get_if b e.value (get k es) ≡ None → (get k es ≡ None → update k f es ≡ es) → e.key ⇒ update_if b f e.value ∷ update k f es ≡ e ∷ es
+      by true g rest = absurd (none-some e.value (sym g))
       by false g rest = ap (λ l. e ∷ l) (rest g)
 
-  pub update_present : (f : A → A) (v : A) (low : ℕ) (es : List (Entry A)) → Rising P low es → get k es ≡ some v → update k f es ≡ insert k (f v) es
+  pub update_present : (f : A → A) (v : A) (low : ℕ) (es : List (Entry A)) → Rising P low es → get k es ≡ Some v → update k f es ≡ insert k (f v) es
   unfolding insert
-  update_present f v low [] s g = absurd (none-ne-some v (unfold get in g))
+  update_present f v low [] s g = absurd (none-some v (unfold get in g))
   update_present f v low (e ∷ es) s g = by (compare k e.key) refl (update_present f v (suc e.key) es s.2)
     where
-      by : (o : Ordering) → compare k e.key ≡ o → (get k es ≡ some v → update k f es ≡ insert k (f v) es) → update k f (e ∷ es) ≡ insert_by o (k ⇒ f v) e es (insert k (f v) es)
-      by Ordering.lt c rest = absurd (none-ne-some v (sym (get_past e.key (e ∷ es) (compare_less k e.key c) (omega arith, s.1, s.2)) ∙ g))
+      by : (o : Ordering) → compare k e.key ≡ o → (get k es ≡ Some v → update k f es ≡ insert k (f v) es) → update k f (e ∷ es) ≡ insert_by o (k ⇒ f v) e es (insert k (f v) es)
+      by Ordering.lt c rest = absurd (none-some v (sym (get_past e.key (e ∷ es) (compare_less k e.key c) (omega arith, s.1, s.2)) ∙ g))
       by Ordering.eq c rest =
           let q : e.key ≡ k = sym (compare_same k e.key c) in
-          let w : e.value ≡ v = some-injective e.value v (sym (get_first k e es q) ∙ g) in
+          let w : e.value ≡ v = same_Some e.value v (sym (get_first k e es q) ∙ g) in
           update_first k e es q f ∙ ap₂ (λ x y. x ∷ y) (ap₂ (λ x y. x ⇒ f y) q w) (update_absent f es (get_past (suc e.key) es (omega arith) s.2))
       by Ordering.gt c rest =
           let n : e.key ≡ k → ⊥ = omega (arith, compare_more k e.key c) in
@@ -106,8 +107,8 @@ module _ {A : Type 0} (P : ℕ → A → Type 0) (k : ℕ) where
   update_fixed f low es s h = by (get k es) refl h
     where
       by : (o : Option A) → get k es ≡ o → OnSome (λ v. f v ≡ v) o → update k f es ≡ es
-      by none g h = update_absent f es g
-      by (some v) g h = update_present f v low es s g ∙ ap (λ x. insert k x es) h ∙ sym (update_present (λ v. v) v low es s g) ∙ update_none es
+      by None g h = update_absent f es g
+      by (Some v) g h = update_present f v low es s g ∙ ap (λ x. insert k x es) h ∙ sym (update_present (λ v. v) v low es s g) ∙ update_none es
 
 -- runs under keys that rise with the entries' own, and what a search finds among them
 module _ {A : Type 0} (run : ℕ → A → List Cell) (keyed : (key : ℕ) (v : A) → key_run (run key v) ≡ key) (at : ℕ → ℕ) where
@@ -130,21 +131,21 @@ module _ {A : Type 0} (run : ℕ → A → List Cell) (keyed : (key : ℕ) (v : 
       by Ordering.gt c rest = swap_less (at k) _ _ (omega (arith, key, rises e.key k (compare_more k e.key c))) _ ∙ ap (λ l. run (at e.key) e.value ∷ l) rest
 
   module _ (rises : (i j : ℕ) → i < j → at i < at j) (k : ℕ) (P : ℕ → A → Type 0) where
-    pub lookup_by : (low : ℕ) (es : List (Entry A)) → Rising P low es → lookup (at k) (runs_by es) ≡ map (run (at k)) (get k es)
-    lookup_by low [] s = lookup_from (at k) [] tt ∙ ap (map (run (at k))) (sym (get_past P k (suc k) [] (omega arith) tt))
+    pub lookup_by : (low : ℕ) (es : List (Entry A)) → Rising P low es → lookup (at k) (runs_by es) ≡ option_map (run (at k)) (get k es)
+    lookup_by low [] s = lookup_from (at k) [] tt ∙ ap (option_map (run (at k))) (sym (get_past P k (suc k) [] (omega arith) tt))
     lookup_by low (e ∷ es) s = by (compare k e.key) refl (lookup_by (suc e.key) es s.2)
       where
-        by : (o : Ordering) → compare k e.key ≡ o → lookup (at k) (runs_by es) ≡ map (run (at k)) (get k es)
-            → lookup (at k) (run (at e.key) e.value ∷ runs_by es) ≡ map (run (at k)) (get k (e ∷ es))
+        by : (o : Ordering) → compare k e.key ≡ o → lookup (at k) (runs_by es) ≡ option_map (run (at k)) (get k es)
+            → lookup (at k) (run (at e.key) e.value ∷ runs_by es) ≡ option_map (run (at k)) (get k (e ∷ es))
         by Ordering.lt c rest =
             let h = compare_less k e.key c in
-            lookup_from (at k) _ (omega (arith, keyed (at e.key) e.value, rises k e.key h)) ∙ ap (map (run (at k))) (sym (get_past P k e.key (e ∷ es) h (omega arith, s.1, s.2)))
+            lookup_from (at k) _ (omega (arith, keyed (at e.key) e.value, rises k e.key h)) ∙ ap (option_map (run (at k))) (sym (get_past P k e.key (e ∷ es) h (omega arith, s.1, s.2)))
         by Ordering.eq c rest =
             let h = compare_same k e.key c in
-            lookup_same (at k) _ _ (keyed (at e.key) e.value ∙ ap at (sym h)) ∙ ap (λ x. some (run (at x) e.value)) (sym h) ∙ ap (map (run (at k))) (sym (get_first k e es (sym h)))
+            lookup_same (at k) _ _ (keyed (at e.key) e.value ∙ ap at (sym h)) ∙ ap (λ x. Some (run (at x) e.value)) (sym h) ∙ ap (option_map (run (at k))) (sym (get_first k e es (sym h)))
         by Ordering.gt c rest =
             let h = compare_more k e.key c in
-            lookup_less (at k) _ _ (omega (arith, keyed (at e.key) e.value, rises e.key k h)) ∙ rest ∙ ap (map (run (at k))) (sym (get_other k e es (omega arith)))
+            lookup_less (at k) _ _ (omega (arith, keyed (at e.key) e.value, rises e.key k h)) ∙ rest ∙ ap (option_map (run (at k))) (sym (get_other k e es (omega arith)))
 
 module _ {A : Type 0} (run : ℕ → A → List Cell) (keyed : (key : ℕ) (v : A) → key_run (run key v) ≡ key) (class : ℕ) where
   map_by : (es : List (Entry A)) → runs_by run keyed (class_key class) es ≡ run_map run class es
@@ -177,7 +178,7 @@ module _ {A : Type 0} (run : ℕ → A → List Cell) (keyed : (key : ℕ) (v : 
     insert_map v es = ap (swap its (run its v ∷ [])) (sym (map_by es)) ∙ insert_by_lem run keyed (class_key class) (λ i j lt. omega arith) k v es ∙ map_by (insert k v es)
 
     module _ (P : ℕ → A → Type 0) where
-      pub lookup_map : (low : ℕ) (es : List (Entry A)) → Rising P low es → lookup (class_key class k) (run_map run class es) ≡ map (run (class_key class k)) (get k es)
+      pub lookup_map : (low : ℕ) (es : List (Entry A)) → Rising P low es → lookup (class_key class k) (run_map run class es) ≡ option_map (run (class_key class k)) (get k es)
       lookup_map low es s = ap (lookup its) (sym (map_by es)) ∙ lookup_by run keyed (class_key class) (λ i j lt. omega arith) k P low es s
 
       pub remove_map : (low : ℕ) (es : List (Entry A)) → Rising P low es → swap (class_key class k) [] (run_map run class es) ≡ run_map run class (remove k es)
@@ -197,5 +198,5 @@ module _ {A : Type 0} (run : ℕ → A → List Cell) (keyed : (key : ℕ) (v : 
               let h = compare_more k e.key c in
               swap_less its _ _ (omega (arith, entry_key e)) [] ∙ ap (λ l. run_entry e ∷ l) rest ∙ ap (run_map run class) (sym (remove_other k e es (omega arith)))
 
-      pub update_map : (f : A → A) (v : A) (low : ℕ) (es : List (Entry A)) → Rising P low es → get k es ≡ some v → swap (class_key class k) (run (class_key class k) (f v) ∷ []) (run_map run class es) ≡ run_map run class (update k f es)
+      pub update_map : (f : A → A) (v : A) (low : ℕ) (es : List (Entry A)) → Rising P low es → get k es ≡ Some v → swap (class_key class k) (run (class_key class k) (f v) ∷ []) (run_map run class es) ≡ run_map run class (update k f es)
       update_map f v low es s g = insert_map (f v) es ∙ ap (run_map run class) (sym (update_present P k f v low es s g))

@@ -1,7 +1,7 @@
 -- Kinds and nullables have small codes and are told by them; a run's key is the one that it was made with. Assumes nothing.
 use mathlib.Core.Path.{◌≡◌, refl, sym, ap, ◌∙◌}
 use mathlib.Core.Bool.{Bool, true, false}
-use mathlib.Core.Option.{Option, none, some}
+use Rattle.std.specs.Prelude.{Option, None, Some}
 use Prim.Native.Nat.{ℕ, ◌<◌}
 use native.Mathlib.Omega.{arith}
 use lib.ListN.{get_or}
@@ -27,9 +27,9 @@ code_small Time = omega arith
 code_small Datetime = omega arith
 
 pub nullable_small : (n : Option Bool) → nullable_code n < 256
-nullable_small none = omega arith
-nullable_small (some false) = omega arith
-nullable_small (some true) = omega arith
+nullable_small None = omega arith
+nullable_small (Some false) = omega arith
+nullable_small (Some true) = omega arith
 
 -- a code gives back what it stands for
 pub datatype_coded : (d : DataType) → get_or datatypes (datatype_code d) Null ≡ d
@@ -45,13 +45,13 @@ datatype_coded Date = refl
 datatype_coded Time = refl
 datatype_coded Datetime = refl
 
-pub nullable_coded : (n : Option Bool) → get_or nullables (nullable_code n) none ≡ n
-nullable_coded none = refl
-nullable_coded (some false) = refl
-nullable_coded (some true) = refl
+pub nullable_coded : (n : Option Bool) → get_or nullables (nullable_code n) None ≡ n
+nullable_coded None = refl
+nullable_coded (Some false) = refl
+nullable_coded (Some true) = refl
 
 pub nullable_injective : (a b : Option Bool) → nullable_code a ≡ nullable_code b → a ≡ b
-nullable_injective a b e = sym (nullable_coded a) ∙ ap (λ c. get_or nullables c none) e ∙ nullable_coded b
+nullable_injective a b e = sym (nullable_coded a) ∙ ap (λ c. get_or nullables c None) e ∙ nullable_coded b
 
 -- the key of a run
 pub column_key : (key : ℕ) (c : ColumnType) → key_run (run_column key c) ≡ key

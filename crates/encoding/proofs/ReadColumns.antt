@@ -2,8 +2,7 @@
 -- same refusals; and under the keys 0, 1, 2, ... they are the columns of the record that is made of them. From `Accesses` and `Dense`.
 -- Assumes nothing.
 use mathlib.Core.Path.{◌≡◌, refl, sym, ap, ◌∙◌}
-use mathlib.Core.Option
-use mathlib.Core.Option.{Option, none, some}
+use Rattle.std.specs.Prelude.{Option, None, Some, option_map}
 use mathlib.Core.List.{List, ◌∷◌, map}
 use Prim.Native.Nat.{ℕ, zero, suc}
 use lib.IntN.{ℤ, suc_ℤ}
@@ -25,13 +24,13 @@ use Rattle.encoding.specs.Holds.{Holds}
 use Rattle.encoding.proofs.Dense.{register_as_column, dense_runs}
 use Rattle.encoding.proofs.Accesses.{apart, register_read}
 
-column_run_lem : (key : ℕ) (o : Option RegDataType) → column_run (Option.map (run_register key) o) ≡ run_column 0 (register_column o)
-column_run_lem key none = refl
-column_run_lem key (some v) = register_as_column v key 0
+column_run_lem : (key : ℕ) (o : Option RegDataType) → column_run (option_map (run_register key) o) ≡ run_column 0 (register_column o)
+column_run_lem key None = refl
+column_run_lem key (Some v) = register_as_column v key 0
 
 -- one more before the others
 one_more : (key : ℕ) (t : Tried (Option RegDataType)) (u : Tried (List ColumnType))
-    → (map_tried (Option.map (run_register key)) t >>= λ r. map_tried (map (run_column 0)) u >>= λ rs. done (column_run r ∷ rs))
+    → (map_tried (option_map (run_register key)) t >>= λ r. map_tried (map (run_column 0)) u >>= λ rs. done (column_run r ∷ rs))
     ≡ map_tried (map (run_column 0)) (t >>= λ v. u >>= λ cs. done (register_column v ∷ cs))
 one_more key (refused n) u = refl
 one_more key (done v) (refused n) = refl
@@ -42,7 +41,7 @@ unfolding read_column_runs read_columns
 read-columns limit m good zero i = refl
 read-columns limit m good (suc n) i =
     ap (λ t. t >>= λ r. read_column_runs n (suc_ℤ i) (runs_of m) >>= λ rs. done (column_run r ∷ rs)) (register_read limit m good i)
-    ∙ ap (λ u. map_tried (Option.map (run_register (class_key 0 (turns i)))) (read_register i m) >>= λ r. u >>= λ rs. done (column_run r ∷ rs)) (read-columns limit m good n (suc_ℤ i))
+    ∙ ap (λ u. map_tried (option_map (run_register (class_key 0 (turns i)))) (read_register i m) >>= λ r. u >>= λ rs. done (column_run r ∷ rs)) (read-columns limit m good n (suc_ℤ i))
     ∙ one_more (class_key 0 (turns i)) (read_register i m) (read_columns n (suc_ℤ i) m)
 
 -- columns that were read, and the runs of the record made of them

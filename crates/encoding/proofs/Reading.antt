@@ -1,7 +1,7 @@
 -- What the first cell of a run tells: by its tag which value it is, and of a value of one cell the whole value. Assumes nothing.
 use mathlib.Core.Path.{◌≡◌, refl, sym, ap, ap₂, ◌∙◌}
 use mathlib.Core.Bool.{Bool}
-use mathlib.Core.Option.{Option, none}
+use Rattle.std.specs.Prelude.{Option, None}
 use mathlib.Core.List.{List, [], ◌∷◌}
 use Prim.Native.Nat.{ℕ, ◌/◌, ◌%◌, ◌≤◌}
 use native.Mathlib.Omega.{arith}
@@ -27,7 +27,7 @@ pub single_datatype : (d : DataType) (n : Option Bool) (key : ℕ) → datatype_
 single_datatype d n key = ap (λ k. get_or datatypes k Null) (head_kind 1 (datatype_code d) (nullable_code n) key (omega arith) (code_small d)) ∙ datatype_coded d
 
 pub single_nullable_lem : (d : DataType) (n : Option Bool) (key : ℕ) → nullable_in (single (datatype_code d) (nullable_code n) key) ≡ n
-single_nullable_lem d n key = ap (λ k. get_or nullables k none) (head_nullable 1 (datatype_code d) (nullable_code n) key (omega arith) (code_small d) (nullable_small n)) ∙ nullable_coded n
+single_nullable_lem d n key = ap (λ k. get_or nullables k None) (head_nullable 1 (datatype_code d) (nullable_code n) key (omega arith) (code_small d) (nullable_small n)) ∙ nullable_coded n
 
 single_column : (d : DataType) (n : Option Bool) (key : ℕ) → column_in (single (datatype_code d) (nullable_code n) key) ≡ Single d n
 single_column d n key = ap₂ Single (single_datatype d n key) (single_nullable_lem d n key)
@@ -102,4 +102,4 @@ module _ (c : Cell) (rest : List Cell) (key : ℕ) where
       let n = nullable_code v.is_empty in
       let f = (first-is c _ rest (run_columns v.cols) e).0 in
       sym (nullable_coded v.is_empty)
-      ∙ ap (λ k. get_or nullables k none) (sym (head_nullable 2 0 n key (omega arith) (omega arith) (nullable_small v.is_empty)) ∙ ap (λ h. h / 65536 % 256) (sym f))
+      ∙ ap (λ k. get_or nullables k None) (sym (head_nullable 2 0 n key (omega arith) (omega arith) (nullable_small v.is_empty)) ∙ ap (λ h. h / 65536 % 256) (sym f))

@@ -2,7 +2,7 @@
 -- Assumes nothing.
 use mathlib.Core.Path.{◌≡◌, refl}
 use mathlib.Core.Bool.{true, false}
-use mathlib.Core.Option.{none, some}
+use Rattle.std.specs.Prelude.{None, Some}
 use mathlib.Core.List.{[], ◌∷◌, flatten}
 use lib.IntN.{pos, negsuc}
 use Rattle.type_info.specs.declared.DataType.TheVariants.{Null, Integer, Text}
@@ -16,9 +16,9 @@ sample : MemoryState
 sample =
     record {
       program_i = pos 8;
-      r = 3 ⇒ Column (Record (entry 0 (Single Text (some false)) (entry 2 (Single Null none) end))) ∷ 5 ⇒ Int (negsuc 0) ∷ [];
+      r = 3 ⇒ Column (Record (entry 0 (Single Text (Some false)) (entry 2 (Single Null None) end))) ∷ 5 ⇒ Int (negsuc 0) ∷ [];
       p = 0 ⇒ Normal 7 ∷ [];
-      t = 7 ⇒ record { cols = entry 0 (Single Integer none) end; is_empty = some true } ∷ [];
+      t = 7 ⇒ record { cols = entry 0 (Single Integer None) end; is_empty = Some true } ∷ [];
     }
 
 sample-runs : Runs

@@ -1,7 +1,7 @@
 -- The accesses of a row to a state, on its runs: what `lookup` finds is the run of what `get` finds, and `swap` with a value's run is `insert`,
 -- with none `remove`, with the changed value's run `update`, for registers, cursors and tables; and `get` of a record's columns. Assumes nothing.
 use mathlib.Core.Path.{◌≡◌, refl, sym, ap, ◌∙◌}
-use mathlib.Core.Option.{some, map}
+use Rattle.std.specs.Prelude.{Some, option_map}
 use mathlib.Core.List.{[], ◌∷◌, ◌++◌}
 use Prim.Native.Nat.{ℕ, ◌+◌, ◌≤◌}
 use native.Mathlib.Omega.{arith}
@@ -61,7 +61,7 @@ module _ (limit : ℕ) (m : MemoryState) (good : Good limit m) where
 
     -- registers
     module _ (within : k ≤ 65535) where
-      pub get_register : lookup (class_key 0 k) (runs_of m) ≡ map (run_register (class_key 0 k)) (get k m.r)
+      pub get_register : lookup (class_key 0 k) (runs_of m) ≡ option_map (run_register (class_key 0 k)) (get k m.r)
       unfolding runs_of
       get_register =
           lookup_before (class_key 0 k) (cursors ++ tables) (cursors_from (class_key 0 k + 1) (omega arith)) registers
@@ -75,12 +75,12 @@ module _ (limit : ℕ) (m : MemoryState) (good : Good limit m) where
       unfolding runs_of
       remove_register_lem = swap_registers within _ ∙ ap (λ l. l ++ (cursors ++ tables)) (remove_map run_register register_key 0 k _ 0 m.r good.registers)
 
-      pub update_register_lem : (f : RegDataType → RegDataType) (v : RegDataType) → get k m.r ≡ some v → swap (class_key 0 k) (run_register (class_key 0 k) (f v) ∷ []) (runs_of m) ≡ runs_of (with_registers (update k f m.r) m)
+      pub update_register_lem : (f : RegDataType → RegDataType) (v : RegDataType) → get k m.r ≡ Some v → swap (class_key 0 k) (run_register (class_key 0 k) (f v) ∷ []) (runs_of m) ≡ runs_of (with_registers (update k f m.r) m)
       unfolding runs_of
       update_register_lem f v g = swap_registers within _ ∙ ap (λ l. l ++ (cursors ++ tables)) (update_map run_register register_key 0 k _ f v 0 m.r good.registers g)
 
       -- cursors
-      pub get_cursor : lookup (class_key 1 k) (runs_of m) ≡ map (run_cursor (class_key 1 k)) (get k m.p)
+      pub get_cursor : lookup (class_key 1 k) (runs_of m) ≡ option_map (run_cursor (class_key 1 k)) (get k m.p)
       unfolding runs_of
       get_cursor =
           lookup_under (class_key 1 k) registers (cursors ++ tables) (registers_under (class_key 1 k) (omega arith))
@@ -95,12 +95,12 @@ module _ (limit : ℕ) (m : MemoryState) (good : Good limit m) where
       unfolding runs_of
       remove_cursor = swap_cursors within _ ∙ ap (λ l. registers ++ (l ++ tables)) (remove_map run_cursor cursor-key 1 k _ 0 m.p good.cursors)
 
-      pub update_cursor : (f : CursorDataType → CursorDataType) (v : CursorDataType) → get k m.p ≡ some v → swap (class_key 1 k) (run_cursor (class_key 1 k) (f v) ∷ []) (runs_of m) ≡ runs_of (with_cursors (update k f m.p) m)
+      pub update_cursor : (f : CursorDataType → CursorDataType) (v : CursorDataType) → get k m.p ≡ Some v → swap (class_key 1 k) (run_cursor (class_key 1 k) (f v) ∷ []) (runs_of m) ≡ runs_of (with_cursors (update k f m.p) m)
       unfolding runs_of
       update_cursor f v g = swap_cursors within _ ∙ ap (λ l. registers ++ (l ++ tables)) (update_map run_cursor cursor-key 1 k _ f v 0 m.p good.cursors g)
 
     -- tables
-    pub get_table : lookup (class_key 2 k) (runs_of m) ≡ map (run_table (class_key 2 k)) (get k m.t)
+    pub get_table : lookup (class_key 2 k) (runs_of m) ≡ option_map (run_table (class_key 2 k)) (get k m.t)
     unfolding runs_of
     get_table =
         lookup_under (class_key 2 k) registers (cursors ++ tables) (registers_under (class_key 2 k) (omega arith))
@@ -115,7 +115,7 @@ module _ (limit : ℕ) (m : MemoryState) (good : Good limit m) where
     unfolding runs_of
     remove_table = swap_tables _ ∙ ap (λ l. registers ++ (cursors ++ l)) (remove_map run_table table-key 2 k _ 0 m.t good.tables)
 
-    pub update_table_lem : (f : TableDataType → TableDataType) (v : TableDataType) → get k m.t ≡ some v → swap (class_key 2 k) (run_table (class_key 2 k) (f v) ∷ []) (runs_of m) ≡ runs_of (with_tables (update k f m.t) m)
+    pub update_table_lem : (f : TableDataType → TableDataType) (v : TableDataType) → get k m.t ≡ Some v → swap (class_key 2 k) (run_table (class_key 2 k) (f v) ∷ []) (runs_of m) ≡ runs_of (with_tables (update k f m.t) m)
     unfolding runs_of
     update_table_lem f v g = swap_tables _ ∙ ap (λ l. registers ++ (cursors ++ l)) (update_map run_table table-key 2 k _ f v 0 m.t good.tables g)
 
@@ -125,5 +125,5 @@ unfolding entries column_runs
 columns-map end = refl
 columns-map (entry k c cs) = ap (λ l. run_column k c ∷ l) (columns-map cs)
 
-pub get_column : (x : Columns) (low k : ℕ) → SortedColumns x low → lookup k (column_runs x) ≡ map (run_column k) (get k (entries x))
+pub get_column : (x : Columns) (low k : ℕ) → SortedColumns x low → lookup k (column_runs x) ≡ option_map (run_column k) (get k (entries x))
 get_column x low k s = ap (lookup k) (sym (columns-map x)) ∙ lookup_by run_column column_key (λ j. j) (λ i j lt. lt) k SortedAt low (entries x) (sorted_entries x low s)

@@ -2,7 +2,7 @@
 -- change leaves as it is, or of none, it leaves the state as it is; and a refusal stays. So with a value that changes its size the change may be
 -- made by a store. From model's `Access`. Assumes nothing.
 use mathlib.Core.Path.{◌≡◌, refl, sym, ap, subst, ◌∙◌}
-use mathlib.Core.Option.{Option, some}
+use Rattle.std.specs.Prelude.{Option, Some}
 use Prim.Native.Nat.{ℕ, ◌≤◌}
 use borrow.Author.Tests.{le-leb}
 use lib.IntN.{ℤ}
@@ -27,11 +27,11 @@ unfolding judge_cells
 cells_pass limit m h = ap (λ t. cells_if t m) (le-leb (cells m) limit h)
 
 module _ {limit : ℕ} {m : MemoryState} (good : Good limit m) (i : ℤ) (f : RegDataType → RegDataType) where
-  pub update_stored : (v : RegDataType) → read_register i m ≡ done (some v) → NeverLarger register_cells GoodRegister f → update_register i f m ≡ store_register limit i (f v) m
+  pub update_stored : (v : RegDataType) → read_register i m ≡ done (Some v) → NeverLarger register_cells GoodRegister f → update_register i f m ≡ store_register limit i (f v) m
   unfolding read_register store_register update_register
   update_stored v present no_larger = go (index i) present ((no_larger v).good (kept (read_register_good good i) present)) (λ s e. kept (update_register_good good i f no_larger) e)
     where
-      go : (t : Tried ℕ) → (t >>= λ k. done (get k m.r)) ≡ done (some v) → GoodRegister (f v)
+      go : (t : Tried ℕ) → (t >>= λ k. done (get k m.r)) ≡ done (Some v) → GoodRegister (f v)
           → ((s : MemoryState) → (t >>= λ k. done (with_registers (update k f m.r) m)) ≡ done s → Good limit s)
           → (t >>= λ k. done (with_registers (update k f m.r) m))
           ≡ (t >>= λ k. judge_depth (register_depth (f v)) (f v) >>= λ w. judge_cells limit (with_registers (insert k w m.r) m))

@@ -1,7 +1,6 @@
 -- What a row does with runs beyond a read and a store: a change in place, which is judged on its index only, and registers read as columns.
 -- Assumes nothing.
-use Rattle.std.specs.Prelude.{List, [], ◌∷◌, ℕ, zero, suc, ℤ}
-use Rattle.std.proofs.Math.Option.{Option, none, some}
+use Rattle.std.specs.Prelude.{List, [], ◌∷◌, ℕ, zero, suc, ℤ, Option, None, Some}
 use Rattle.std.proofs.Math.IntN.{suc_ℤ}
 use Rattle.model.specs.Walk.{Tried, done}
 use Rattle.model.specs.State.{default}
@@ -17,8 +16,8 @@ use Rattle.encoding.specs.Heads.{as_column}
 
 -- the run of a key, changed if there is one
 abbrev pub change_if : Option (List Cell) → ℕ → (List Cell → List Cell) → Runs → Runs
-change_if none key f es = es
-change_if (some run) key f es = swap key (f run ∷ []) es
+change_if None key f es = es
+change_if (Some run) key f es = swap key (f run ∷ []) es
 
 unfoldable pub change_at : ℕ → (List Cell → List Cell) → Runs → Runs
 change_at key f es = change_if (lookup key es) key f es
@@ -28,8 +27,8 @@ change_runs class i f es = index i >>= λ k. done (change_at (class_key class k)
 
 -- a register's run, or none, as a column's under the key 0
 abbrev pub column_run : Option (List Cell) → List Cell
-column_run none = run_column 0 default
-column_run (some run) = rekey 0 (on_head as_column run)
+column_run None = run_column 0 default
+column_run (Some run) = rekey 0 (on_head as_column run)
 
 -- n registers from i on, as columns
 unfoldable pub read_column_runs : ℕ → ℤ → Runs → Tried Runs

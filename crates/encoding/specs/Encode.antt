@@ -6,8 +6,7 @@
 --   4  a normal cursor    the row that opened its table
 --   5  a pseudo cursor    the word of its register's number
 -- A table's emptiness stands in its head's nullable field. `program_i` is in no run. Assumes nothing.
-use Rattle.std.specs.Prelude.{Bool, true, false, ℕ, suc}
-use Rattle.std.proofs.Math.Option.{Option, none, some}
+use Rattle.std.specs.Prelude.{Bool, true, false, ℕ, suc, Option, None, Some}
 use mathlib.Core.List.{List, [], ◌∷◌, ◌++◌, flatten}
 use Rattle.model.specs.IntMap.{Entry}
 use Rattle.model.specs.State.{ColumnType, Single, Record, Columns, end, entry, RegDataType, Column, Int, CursorDataType, Normal, Pseudo, TableDataType, MemoryState, datatype_code}
@@ -18,9 +17,9 @@ use Rattle.intmap.specs.Entries.{Runs}
 use Rattle.intmap.specs.Signed.{word_of}
 
 abbrev pub nullable_code : Option Bool → ℕ
-nullable_code none = 0
-nullable_code (some false) = 1
-nullable_code (some true) = 2
+nullable_code None = 0
+nullable_code (Some false) = 1
+nullable_code (Some true) = 2
 
 abbrev pub count : Columns → ℕ
 count end = 0

@@ -1,7 +1,8 @@
 -- Handling a row by what an arm tells: known numbers may be one larger then, which only IfPos makes. Assumes nothing.
+use Rattle.refusal.specs.declared.Refusal.{Refusal}
 use mathlib.Core.Path.{◌≡◌, refl, ap, subst, ◌∙◌}
 use mathlib.Core.Bool.{Bool, false}
-use mathlib.Core.Option.{Option}
+use Rattle.std.specs.Prelude.{Option, Err, Some, None, Ok}
 use mathlib.Core.List.{List, ◌∷◌}
 use Prim.Native.Nat.{ℕ, zero, suc, ◌+◌, ◌≤◌}
 use native.Mathlib.Omega.{arith}
@@ -21,22 +22,17 @@ use Rattle.opcode.specs.Opcode.{arms, operation_at}
 use Rattle.rows.specs.Judged.{Judged}
 use Rattle.rows.specs.declared.Row.{Row}
 use Rattle.state.specs.Leads.{Current}
-use Rattle.state.specs.Steps.{HoldsState, TellsWay, TellsStep, LeavesStep}
+use Rattle.state.specs.Steps.{HoldsState, TellsWay, TellsStep, LeavesStep, Way, Step}
 use Rattle.state.specs.declared.MemoryState.{MemoryState}
-use Rattle.state.specs.declared.Way.{Way}
-use Rattle.state.specs.declared.Way.TheVariants as way
-use Rattle.state.specs.declared.Step.{Step}
-use Rattle.state.specs.declared.Step.TheVariants as step
 use Rattle.jump_arms.specs.Arms.{at}
 use Rattle.jump_arms.proofs.StepLaws.{unchanged, held_at, held_next, lies_here}
 use Rattle.ifpos_arm.specs.Arm.{IfPosArm, TellsAs}
 use Rattle.record_arms.specs.Records.{columns_from}
 use Rattle.record_arms.proofs.RangeLaws.{columns-read}
 use Rattle.result_arm.specs.Results.{JudgesRow}
-use Rattle.result_arm.specs.declared.Columns.TheVariants as columns
-use Rattle.explain.specs.declared.Handling.{Handling}
+use Rattle.record_arms.specs.declared.registers.Registers.{Registers}
 use Rattle.explain.specs.declared.Handling.TheVariants as handling
-use Rattle.explain.specs.Handles.{meaning_of, TellsHandling, LeavesHandling, Handles}
+use Rattle.explain.specs.Handles.{meaning_of, Handled, TellsHandling, LeavesHandling, Handles}
 use Rattle.explain.specs.Numbers.{NumberArm, as_handling}
 
 -- ---- under a larger bound
@@ -46,29 +42,29 @@ module _ (limit bound : ℕ) (cs : List Cell) (top : bound + 1 ≤ largest) wher
   state_more {m = m} h = record { row = h.row; map = held_more limit bound cs _ _ _ m h.map (bound + 1) (omega arith) top }
 
   way_more : (w : Way) (m : Option Defined) → TellsWay limit bound cs w m → TellsWay limit (bound + 1) cs w m
-  way_more way.Nowhere m told = told
-  way_more (way.To s) m told = record { state = told.state; is = told.is; held = state_more told.held }
+  way_more None m told = told
+  way_more (Some s) m told = record { state = told.state; is = told.is; held = state_more told.held }
 
   step_more : (r : Step) (o : Offer) (m : Defined) → TellsStep limit bound cs r o → TellsHandling limit (bound + 1) cs m (as_handling false r) o
-  step_more (step.Refused k) o m told = told
-  step_more (step.Ways b w) o m told =
+  step_more (Err k) o m told = told
+  step_more (Ok w) o m told =
       record {
         the_branch = told.the_branch;
         the_state = told.the_state;
         answer = told.answer;
-        branches = way_more b told.the_branch told.branches;
-        goes_on = way_more w told.the_state told.goes_on;
+        branches = way_more w.branch told.the_branch told.branches;
+        goes_on = way_more w.stays told.the_state told.goes_on;
       }
 
 -- ---- handling by the arm's step
 
 leaves_as : (limit : ℕ) (ds : List Cell) (s : MemoryState) (repeat : Bool) (r : Step) → LeavesStep limit ds s r → LeavesHandling limit ds s (as_handling repeat r)
-leaves_as limit ds s repeat (step.Refused k) leaves = tt
-leaves_as limit ds s repeat (step.Ways b w) leaves = leaves
+leaves_as limit ds s repeat (Err k) leaves = tt
+leaves_as limit ds s repeat (Ok w) leaves = leaves
 
 told_as : (limit bound : ℕ) (ds : List Cell) (repeat : Bool) (r : Step) (o : Offer) (m : Defined) → TellsAs repeat limit bound ds r o → TellsHandling limit bound ds m (as_handling repeat r) o
-told_as limit bound ds repeat (step.Refused k) o m told = told
-told_as limit bound ds repeat (step.Ways b w) o m told =
+told_as limit bound ds repeat (Err k) o m told = told
+told_as limit bound ds repeat (Ok w) o m told =
     record { the_branch = told.the_branch; the_state = told.the_state; answer = told.answer; branches = told.branches; goes_on = told.goes_on }
 
 -- the row's operation is that of its number
@@ -100,12 +96,12 @@ module _ {limit from n : ℕ} {cs ds : List Cell} {blocks : List ℕ} {s : Memor
 -- ---- the arms that write nothing
 
 module _ {limit from n : ℕ} {cs : List Cell} {blocks : List ℕ} {s : MemoryState} {x : Row} {again : Bool} (current : Current limit cs s.map) where
-  pub three_handles : 13 ≡ x.op → Handles limit from n cs cs blocks s x again (handling.Three (at x.p1 s.map) (at x.p2 s.map) (at x.p3 s.map) (at (s.row + 1) s.map))
+  pub three_handles : 13 ≡ x.op → Handles limit from n cs cs blocks s x again (Ok (handling.Three (at x.p1 s.map) (at x.p2 s.map) (at x.p3 s.map) (at (s.row + 1) s.map)))
   unfolding arm operation_at arms jump_arm
   three_handles e =
       record {
         says = λ rows records l have long cat j bound m le top h.
-            subst (λ o. TellsHandling limit (bound + 1) cs m (handling.Three (at x.p1 s.map) (at x.p2 s.map) (at x.p3 s.map) (at (s.row + 1) s.map)) (arm (meaning_of limit records) rows again m l o)) (operation_is e j)
+            subst (λ o. TellsHandling limit (bound + 1) cs m (Ok (handling.Three (at x.p1 s.map) (at x.p2 s.map) (at x.p3 s.map) (at (s.row + 1) s.map))) (arm (meaning_of limit records) rows again m l o)) (operation_is e j)
             (record {
               first = go_to l.p1 m;
               second = go_to l.p2 m;
@@ -133,27 +129,27 @@ unfolding operation_at arms
 result_is last j = operation_is {k = 42} (omega (arith, last, j.op.below)) j
 
 module _ {limit from n : ℕ} {cs : List Cell} {blocks : List ℕ} {s : MemoryState} {x : Row} {again : Bool} (last : 42 ≤ x.op) where
-  pub result_refused : (k : ℕ) → JudgesRow x (columns.Refused k) → Handles limit from n cs cs blocks s x again (handling.Refused k)
+  pub result_refused : (k : Refusal) → JudgesRow x (Err k) → Handles limit from n cs cs blocks s x again (Err k)
   unfolding arm
   result_refused k told =
       record {
         says = λ rows records l have long cat j bound m le top h.
-            subst (λ o. TellsHandling limit (bound + 1) cs m (handling.Refused k) (arm (meaning_of limit records) rows again m l o)) (result_is last j) (told.says _ l j m);
+            subst (λ o. TellsHandling limit (bound + 1) cs m (Err k) (arm (meaning_of limit records) rows again m l o)) (result_is last j) (told.says _ l j m);
         leaves = tt;
         frame = unchanged cs _ _;
       }
 
-  pub result_handles : (first k : ℕ) → Current limit cs s.map → JudgesRow x (columns.Registers first k) → Handles limit from n cs cs blocks s x again (handling.Result (at (s.row + 1) s.map) first k)
+  pub result_handles : (r : Registers) → Current limit cs s.map → JudgesRow x (Ok r) → Handles limit from n cs cs blocks s x again (Ok (handling.Result (at (s.row + 1) s.map) r.first r.count))
   unfolding arm
-  result_handles first k current told =
+  result_handles r current told =
       record {
         says = λ rows records l have long cat j bound m le top h.
             (let offers = told.says (turns m.program_i) l j m in
-            subst (λ o. TellsHandling limit (bound + 1) cs m (handling.Result (at (s.row + 1) s.map) first k) (arm (meaning_of limit records) rows again m l o)) (result_is last j)
+            subst (λ o. TellsHandling limit (bound + 1) cs m (Ok (handling.Result (at (s.row + 1) s.map) r.first r.count)) (arm (meaning_of limit records) rows again m l o)) (result_is last j)
             (record {
-              columns = columns_from k first m;
+              columns = columns_from r.count r.first m;
               answer = offers.answer;
-              read = columns-read (next m) k first told.narrow.0 ∙ ap done (columns-next m k first);
+              read = columns-read (next m) r.count r.first told.narrow.0 ∙ ap done (columns-next m r.count r.first);
               held = state_more limit bound cs top (held_next s.row h.row h.map);
             }));
         leaves = (lies_here (s.row + 1) current, told.narrow.0, told.narrow.1);
@@ -162,5 +158,5 @@ module _ {limit from n : ℕ} {cs : List Cell} {blocks : List ℕ} {s : MemorySt
 
 -- ---- a row that was read
 
-pub row_handles : {limit from n : ℕ} {cs ds : List Cell} {blocks : List ℕ} {s : MemoryState} {x y : Row} {again : Bool} {r : Handling} → x ≡ y → Handles limit from n cs ds blocks s x again r → Handles limit from n cs ds blocks s y again r
+pub row_handles : {limit from n : ℕ} {cs ds : List Cell} {blocks : List ℕ} {s : MemoryState} {x y : Row} {again : Bool} {r : Handled} → x ≡ y → Handles limit from n cs ds blocks s x again r → Handles limit from n cs ds blocks s y again r
 row_handles {limit} {from} {n} {cs} {ds} {blocks} {s} {again = again} {r = r} e handles = subst (λ z. Handles limit from n cs ds blocks s z again r) e handles

@@ -1,5 +1,7 @@
 -- The arm of a number: the number leads to an operation, and the operation's arm is met. The last of a `match` has the number that is left.
 -- Assumes nothing.
+use Rattle.std.specs.Prelude.{Ok, Err, Some, None}
+use Rattle.intmap.specs.Store.{Stored}
 use mathlib.Core.Path.{◌≡◌, refl, sym, ap, subst, ◌∙◌}
 use mathlib.Core.Bool.{Bool}
 use mathlib.Core.List.{List, [], ◌∷◌}
@@ -19,8 +21,6 @@ use Rattle.model.specs.Explain.{falls_through, arm}
 use Rattle.model.proofs.Tried.{Kept, kept}
 use Rattle.area.specs.declared.Cell.{Cell}
 use Rattle.intmap.specs.Signed.{offset, int_of}
-use Rattle.intmap.specs.declared.Stored.{Stored}
-use Rattle.intmap.specs.declared.Stored.TheVariants as stored
 use Rattle.intmap.proofs.SignedLaws.{int_turns}
 use Rattle.opcode.specs.Opcode.{arms, operation_at, constant_kind}
 use Rattle.opcode.proofs.Arms.{NoneOf}
@@ -28,10 +28,8 @@ use Rattle.rows.specs.Judged.{Judged, IsRow}
 use Rattle.rows.specs.declared.Row.{Row}
 use Rattle.state.specs.Leads.{Current, Tells, Leads}
 use Rattle.state.specs.Arms.{Standard, RegisterArm, CursorArm}
-use Rattle.state.specs.Steps.{Offered, TellsStep, JumpArm}
+use Rattle.state.specs.Steps.{Offered, TellsStep, JumpArm, Step}
 use Rattle.state.specs.declared.MemoryState.{MemoryState}
-use Rattle.state.specs.declared.Way.TheVariants as way
-use Rattle.state.specs.declared.Step.{Step}
 use Rattle.jump_arms.specs.Arms.{at, step_after}
 use Rattle.jump_arms.proofs.StepLaws.{unchanged, held_next, goes_on_lem}
 use Rattle.jump_arms.proofs.StoreSteps.{SameRow, leaves_after}
@@ -92,9 +90,9 @@ module _ {limit from n : ℕ} {cs ds : List Cell} {s : MemoryState} {x : Row} {o
 
 -- t is what the access answers
 falls : (limit bound : ℕ) (ds : List Cell) (r : Stored) (w : ℕ) (m : Defined) (t : Tried Defined) → Tells limit bound ds r t → Kept (SameRow m) t → int_of w ≡ m.program_i → TellsStep limit bound ds (step_after (w + 1) r) (falls_through t)
-falls limit bound ds (stored.Refused k) w m t told keeps e = ap falls_through told
-falls limit bound ds (stored.Done b) w m t told keeps e =
-    subst (Offered limit bound ds way.Nowhere (way.To (at (w + 1) b))) (sym (ap falls_through told.answer))
+falls limit bound ds (Err k) w m t told keeps e = ap falls_through told
+falls limit bound ds (Ok b) w m t told keeps e =
+    subst (Offered limit bound ds None (Some (at (w + 1) b))) (sym (ap falls_through told.answer))
     (goes_on_lem (held_next w (e ∙ sym (kept keeps told.answer)) told.holds))
 
 -- the arm's access is f, of every listing's row that x stands for and every catalogue's records
@@ -152,12 +150,12 @@ module _ {limit from n : ℕ} {cs ds : List Cell} {s : MemoryState} {x : Row} {o
       cursor_access {o = op_open_read} is (λ l j records cat. told.leads (meaning_of limit records) records l (standard limit records) cat (λ db page. refl) j)
 
 -- no arm
-pub none_number : {limit from n : ℕ} {cs : List Cell} {s : MemoryState} {x : Row} {op : ℕ} {blocks : List ℕ} → operation_at op ≡ no_arm → Current limit cs s.map → NumberArm limit from n cs cs blocks s x op (step_after (s.row + 1) (stored.Done s.map))
+pub none_number : {limit from n : ℕ} {cs : List Cell} {s : MemoryState} {x : Row} {op : ℕ} {blocks : List ℕ} → operation_at op ≡ no_arm → Current limit cs s.map → NumberArm limit from n cs cs blocks s x op (step_after (s.row + 1) (Ok s.map))
 unfolding arm
 none_number {limit} {cs = cs} {s = s} is current =
     record {
       says = λ again rows records l have long cat j bound m le h.
-          subst (λ w. Offered limit bound cs way.Nowhere (way.To (at (s.row + 1) s.map)) (arm (meaning_of limit records) rows again m l w)) (sym is)
+          subst (λ w. Offered limit bound cs None (Some (at (s.row + 1) s.map)) (arm (meaning_of limit records) rows again m l w)) (sym is)
           (goes_on_lem (held_next s.row h.row h.map));
       leaves = (tt, (refl, current.room));
       frame = unchanged cs _ _;

@@ -1,7 +1,7 @@
 -- The arms that fall through leave the state on its row: `program_i += 1` comes behind them. Assumes nothing.
 use mathlib.Core.Path.{refl, ◌∙◌}
 use mathlib.Core.Bool.{Bool, true, false}
-use mathlib.Core.Option.{Option, none, some}
+use Rattle.std.specs.Prelude.{Option, None, Some}
 use Prim.Native.Nat.{ℕ, zero, suc}
 use lib.Dec.{leb}
 use lib.IntN.{ℤ, suc_ℤ}
@@ -42,9 +42,9 @@ table-store-row limit row t m = anything (judge_depth (columns_depth t.cols) t) 
 
 table-update-row : (f : TableDataType → TableDataType) (c : Option CursorDataType) (m : MemoryState) → SameRow m (update_cursor_table f c m)
 unfolding update_cursor_table update_table
-table-update-row f none m = refl
-table-update-row f (some (Normal row)) m = refl
-table-update-row f (some (Pseudo i)) m = refl
+table-update-row f None m = refl
+table-update-row f (Some (Normal row)) m = refl
+table-update-row f (Some (Pseudo i)) m = refl
 
 -- one after the other
 then_row : (m n : MemoryState) {t : Tried MemoryState} → SameRow m n → Kept (SameRow n) t → Kept (SameRow m) t
@@ -59,12 +59,12 @@ module _ (limit : ℕ) where
   copy_row i j f m = anything (read_register i m) >> λ v _. by v
     where
       by : (v : Option RegDataType) → Kept (SameRow m) (store_some limit j f v m)
-      by none = value refl
-      by (some v) = store-row limit j (f v) m
+      by None = value refl
+      by (Some v) = store-row limit j (f v) m
 
   move_row : (i j : ℤ) (v : Option RegDataType) (m : MemoryState) → Kept (SameRow m) (move_some limit i j v m)
-  move_row i j none m = value refl
-  move_row i j (some v) m = store-row limit j v m >> λ s h. then_row m s h (store-row limit i _ s)
+  move_row i j None m = value refl
+  move_row i j (Some v) m = store-row limit j v m >> λ s h. then_row m s h (store-row limit i _ s)
 
   copies_row : (n : ℕ) (i j : ℤ) (m : MemoryState) → Kept (SameRow m) (copy_many limit n i j m)
   unfolding copy_many
@@ -83,8 +83,8 @@ module _ (limit : ℕ) where
 
   module _ (x : Row) (m : MemoryState) where
     function_row : (f : Option FunctionValue) → Kept (SameRow m) (function_arm limit x m f)
-    function_row none = value refl
-    function_row (some f) = store-row limit x.p3 _ m
+    function_row None = value refl
+    function_row (Some f) = store-row limit x.p3 _ m
 
     step_row : (a : Aggregate) → Kept (SameRow m) (agg_step_arm limit x m a)
     step_row to_integer = store-row limit x.p3 _ m
@@ -123,28 +123,28 @@ module _ (meaning : Meaning) (x : Row) (m : MemoryState) where
 module _ (limit : ℕ) (m : MemoryState) where
   record_row : (cs : Columns) (c : Option CursorDataType) → Kept (SameRow m) (insert_record limit cs c m)
   unfolding insert_record
-  record_row cs none = value refl
-  record_row cs (some (Normal row)) = by (get row m.t)
+  record_row cs None = value refl
+  record_row cs (Some (Normal row)) = by (get row m.t)
     where
       by : (t : Option TableDataType) → Kept (SameRow m) (store_into limit row cs t m)
-      by none = value refl
-      by (some t) = table-store-row limit row _ m
-  record_row cs (some (Pseudo i)) = value refl
+      by None = value refl
+      by (Some t) = table-store-row limit row _ m
+  record_row cs (Some (Pseudo i)) = value refl
 
   insert_row : (x : Row) (v : Option RegDataType) → Kept (SameRow m) (insert_arm limit x m v)
   unfolding insert_arm
-  insert_row x none = value refl
-  insert_row x (some (Column (Single d n))) = by (is_null_type d)
+  insert_row x None = value refl
+  insert_row x (Some (Column (Single d n))) = by (is_null_type d)
     where
       by : (b : Bool) → Kept (SameRow m) (insert_null_if b x m)
       by true = anything (read_cursor x.p1 m) >> λ c _. value (table-update-row _ c m)
       by false = value refl
-  insert_row x (some (Column (Record cs))) = anything (read_cursor x.p1 m) >> λ c _. record_row cs c
-  insert_row x (some (Int i)) = value refl
+  insert_row x (Some (Column (Record cs))) = anything (read_cursor x.p1 m) >> λ c _. record_row cs c
+  insert_row x (Some (Int i)) = value refl
 
   dup_row : (i : ℤ) (c : Option CursorDataType) → Kept (SameRow m) (store_some_cursor limit i c m)
-  dup_row i none = value refl
-  dup_row i (some c) = cursor-store-row limit i c m
+  dup_row i None = value refl
+  dup_row i (Some c) = cursor-store-row limit i c m
 
   open_row : (row : ℕ) (x : Row) (t : TableDataType) → Kept (SameRow m) (open_table limit row x t m)
   unfolding open_table
@@ -152,9 +152,9 @@ module _ (limit : ℕ) (m : MemoryState) where
 
 null-columns-row : (c : Option CursorDataType) (m : MemoryState) → Kept (SameRow m) (null_columns c m)
 unfolding null_columns update_table
-null-columns-row none m = value refl
-null-columns-row (some (Normal row)) m = value refl
-null-columns-row (some (Pseudo i)) m = update-row i _ m
+null-columns-row None m = value refl
+null-columns-row (Some (Normal row)) m = value refl
+null-columns-row (Some (Pseudo i)) m = update-row i _ m
 
 module _ (meaning : Meaning) (row : ℕ) (x : Row) (m : MemoryState) where
   pub cursor_row : (o : CursorOperation) → Kept (SameRow m) (cursor_arm meaning row x m o)

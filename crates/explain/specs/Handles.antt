@@ -1,8 +1,9 @@
 -- What handling a row says: it is refused exactly as the definition is, or the area holds its ways, in the definition's order: at most one
 -- branch and the state that goes on, with whether it counts as a repeat; Jump's three branches and the state that goes on; or a result row, whose
 -- columns are registers of the state, with the next row as a branch. Assumes nothing.
-use Rattle.std.specs.Prelude.{◌≡◌, Bool, false, List, [], ◌∷◌, ℕ, ◌+◌, ◌-◌, ◌≤◌, pos, length, get_or}
-use Rattle.std.proofs.Math.Option.{Option, none, some}
+use Rattle.refusal.specs.Numbers.{number_of}
+use Rattle.refusal.specs.declared.Refusal.{Refusal}
+use Rattle.std.specs.Prelude.{◌≡◌, Bool, false, List, [], ◌∷◌, ℕ, ◌+◌, ◌-◌, ◌≤◌, pos, length, get_or, Option, None, Some, Ok, Err, Result}
 use Rattle.model.specs.Walk.{refused, done}
 use Rattle.model.specs.Row.{Row as Listed}
 use Rattle.model.specs.State.{ColumnType, MemoryState as Defined}
@@ -24,10 +25,8 @@ use Rattle.rows.specs.Rows.{row_in}
 use Rattle.rows.specs.Judged.{Judged, HaveRows}
 use Rattle.rows.specs.declared.Row.{Row}
 use Rattle.state.specs.Leads.{operands}
-use Rattle.state.specs.Steps.{HoldsState, TellsWay, branch_of, StaysAt, Lies, LiesAt}
+use Rattle.state.specs.Steps.{HoldsState, TellsWay, branch_of, StaysAt, Lies, LiesAt, Way}
 use Rattle.state.specs.declared.MemoryState.{MemoryState}
-use Rattle.state.specs.declared.Way.{Way}
-use Rattle.state.specs.declared.Way.TheVariants as way
 use Rattle.explain.specs.declared.Handling.{Handling}
 use Rattle.explain.specs.declared.Handling.TheVariants as handling
 
@@ -47,7 +46,7 @@ meaning_of limit records = record { cell_limit = limit; columns_for = columns_at
 pub record OffersWays (limit bound : ℕ) (cs : List Cell) (branch stays : Way) (repeat : Bool) (o : Offer) : Type 0 where
   pub the_branch : Option Defined
   pub the_state : Option Defined
-  pub answer : o ≡ done (record { branches = branch_of the_branch; stays = the_state; result = none; repeat = repeat })
+  pub answer : o ≡ done (record { branches = branch_of the_branch; stays = the_state; result = None; repeat = repeat })
   pub branches : TellsWay limit bound cs branch the_branch
   pub goes_on : TellsWay limit bound cs stays the_state
 
@@ -57,7 +56,7 @@ pub record OffersThree (limit bound : ℕ) (cs : List Cell) (a b c stays : Memor
   pub second : Defined
   pub third : Defined
   pub state : Defined
-  pub answer : o ≡ done (record { branches = first ∷ second ∷ third ∷ []; stays = some state; result = none; repeat = false })
+  pub answer : o ≡ done (record { branches = first ∷ second ∷ third ∷ []; stays = Some state; result = None; repeat = false })
   pub first_held : HoldsState limit bound cs a first
   pub second_held : HoldsState limit bound cs b second
   pub third_held : HoldsState limit bound cs c third
@@ -66,25 +65,29 @@ pub record OffersThree (limit bound : ℕ) (cs : List Cell) (a b c stays : Memor
 -- a result row of the state m: n registers from `first` on; the branch is on the next row
 pub record OffersResult (limit bound : ℕ) (cs : List Cell) (m : Defined) (branch : MemoryState) (first n : ℕ) (o : Offer) : Type 0 where
   pub columns : List ColumnType
-  pub answer : o ≡ done (record { branches = next m ∷ []; stays = none; result = some (record { row = turns m.program_i; columns = result_columns columns }); repeat = false })
+  pub answer : o ≡ done (record { branches = next m ∷ []; stays = None; result = Some (record { row = turns m.program_i; columns = result_columns columns }); repeat = false })
   pub read : read_columns n (pos first) (next m) ≡ done columns
   pub held : HoldsState limit bound cs branch (next m)
 
-abbrev pub TellsHandling : ℕ → ℕ → List Cell → Defined → Handling → Offer → Type 0
-TellsHandling limit bound cs m (handling.Refused n) o = o ≡ refused n
-TellsHandling limit bound cs m (handling.Ways b s r) o = OffersWays limit bound cs b s r o
-TellsHandling limit bound cs m (handling.Three a b c s) o = OffersThree limit bound cs a b c s o
-TellsHandling limit bound cs m (handling.Result b first n) o = OffersResult limit bound cs m b first n o
+-- why a row is refused, or what handling it gives
+abbrev pub Handled : Type 0
+Handled = Result Handling Refusal
 
-abbrev pub LeavesHandling : ℕ → List Cell → MemoryState → Handling → Type 0
-LeavesHandling limit ds s (handling.Refused n) = Unit {0}
-LeavesHandling limit ds s (handling.Ways b w r) = LiesAt limit ds s.map.base b × StaysAt limit ds s.map.base w
-LeavesHandling limit ds s (handling.Three a b c w) =
-    Lies limit ds s.map.base a × Lies limit ds s.map.base b × Lies limit ds s.map.base c × StaysAt limit ds s.map.base (way.To w)
-LeavesHandling limit ds s (handling.Result b first n) = Lies limit ds s.map.base b × (first + n ≤ 65536) × (n ≤ 2000)
+abbrev pub TellsHandling : ℕ → ℕ → List Cell → Defined → Handled → Offer → Type 0
+TellsHandling limit bound cs m (Err e) o = o ≡ refused (number_of e)
+TellsHandling limit bound cs m (Ok (handling.Ways w r)) o = OffersWays limit bound cs w.branch w.stays r o
+TellsHandling limit bound cs m (Ok (handling.Three a b c s)) o = OffersThree limit bound cs a b c s o
+TellsHandling limit bound cs m (Ok (handling.Result b first n)) o = OffersResult limit bound cs m b first n o
+
+abbrev pub LeavesHandling : ℕ → List Cell → MemoryState → Handled → Type 0
+LeavesHandling limit ds s (Err e) = Unit {0}
+LeavesHandling limit ds s (Ok (handling.Ways w r)) = LiesAt limit ds s.map.base w.branch × StaysAt limit ds s.map.base w.stays
+LeavesHandling limit ds s (Ok (handling.Three a b c w)) =
+    Lies limit ds s.map.base a × Lies limit ds s.map.base b × Lies limit ds s.map.base c × StaysAt limit ds s.map.base (Some w)
+LeavesHandling limit ds s (Ok (handling.Result b first n)) = Lies limit ds s.map.base b × (first + n ≤ 65536) × (n ≤ 2000)
 
 -- the listing's n rows are in the cells from `from` on
-pub record Handles (limit from n : ℕ) (cs ds : List Cell) (blocks : List ℕ) (s : MemoryState) (x : Row) (again : Bool) (r : Handling) : Type 0 where
+pub record Handles (limit from n : ℕ) (cs ds : List Cell) (blocks : List ℕ) (s : MemoryState) (x : Row) (again : Bool) (r : Handled) : Type 0 where
   pub says : (rows : List Listed) (records : List CatalogueRecord) (l : Listed) → HaveRows cs from rows → length rows ≡ n → HasBlocks blocks records → Judged l x → (bound : ℕ) (m : Defined) → operands ≤ bound → bound + 1 ≤ largest → HoldsState limit bound cs s m → TellsHandling limit (bound + 1) ds m r (arm (meaning_of limit records) rows again m l (operation_of l.op))
   pub leaves : LeavesHandling limit ds s r
   pub frame : Frame cs ds s.map.base (limit + limit)

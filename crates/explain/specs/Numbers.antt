@@ -1,6 +1,6 @@
 -- The arm of an operation's number, as far as it offers at most one branch and does not count a repeat: its step is what the definition's arm
 -- offers. And a step as what handling a row gives. Assumes nothing.
-use Rattle.std.specs.Prelude.{◌≡◌, Bool, List, ℕ, ◌+◌, ◌≤◌, length}
+use Rattle.std.specs.Prelude.{◌≡◌, Bool, List, ℕ, ◌+◌, ◌≤◌, length, Err, Ok}
 use Rattle.model.specs.Row.{Row as Listed}
 use Rattle.model.specs.State.{MemoryState as Defined}
 use Rattle.model.specs.Catalogue.{CatalogueRecord}
@@ -12,13 +12,10 @@ use Rattle.opcode.specs.Opcode.{operation_at}
 use Rattle.rows.specs.Judged.{Judged, HaveRows}
 use Rattle.rows.specs.declared.Row.{Row}
 use Rattle.state.specs.Leads.{operands}
-use Rattle.state.specs.Steps.{HoldsState, TellsStep, LeavesStep}
+use Rattle.state.specs.Steps.{HoldsState, TellsStep, LeavesStep, Step}
 use Rattle.state.specs.declared.MemoryState.{MemoryState}
-use Rattle.state.specs.declared.Step.{Step}
-use Rattle.state.specs.declared.Step.TheVariants as step
-use Rattle.explain.specs.declared.Handling.{Handling}
 use Rattle.explain.specs.declared.Handling.TheVariants as handling
-use Rattle.explain.specs.Handles.{meaning_of}
+use Rattle.explain.specs.Handles.{meaning_of, Handled}
 
 -- as `JumpArm`, of the number `op`, and of the listing and the catalogue's blocks at hand
 pub record NumberArm (limit from n : ℕ) (cs ds : List Cell) (blocks : List ℕ) (s : MemoryState) (x : Row) (op : ℕ) (r : Step) : Type 0 where
@@ -27,6 +24,6 @@ pub record NumberArm (limit from n : ℕ) (cs ds : List Cell) (blocks : List ℕ
   pub frame : Frame cs ds s.map.base (limit + limit)
 
 -- a step, with whether it counts as a repeat
-abbrev pub as_handling : Bool → Step → Handling
-as_handling repeat (step.Refused n) = handling.Refused n
-as_handling repeat (step.Ways b s) = handling.Ways b s repeat
+abbrev pub as_handling : Bool → Step → Handled
+as_handling repeat (Err e) = Err e
+as_handling repeat (Ok w) = Ok (handling.Ways w repeat)

@@ -10,17 +10,16 @@ ghost use Rattle.explain.specs.Handles.{state_of, row_on, Handles};
 ghost use Rattle.root_block.specs.Blocks.{IsBlocks};
 ghost use Rattle.explain.specs.Numbers.{NumberArm, as_handling};
 
-use intmap::{IntMap, Stored};
-use result_arm::Columns;
+use intmap::IntMap;
+use refusal::Refusal;
 use rows::Row;
-use state::{MemoryState, Step, Way};
+use state::{MemoryState, Ways};
 
-// What handling a row gives: a refusal; at most one branch, the state that goes on, and whether it counts as a repeat; three branches and the
-// state that goes on; or a result row, its branch and the registers that are its columns: where they begin, and how many.
+// What handling a row gives: at most one branch, the state that goes on, and whether it counts as a repeat; three branches and the state that
+// goes on; or a result row, its branch and the registers that are its columns: where they begin, and how many.
 #[derive(Clone, Copy)]
 pub enum Handling {
-    Refused(u64),
-    Ways(Way, Way, bool),
+    Ways(Ways, bool),
     Three(MemoryState, MemoryState, MemoryState, MemoryState),
     Result(MemoryState, u64, u64),
 }
@@ -33,17 +32,14 @@ pub fn number(x: Row) -> u8
     x.op as u8
 }
 
-fn as_handling(step: Step, repeat: bool) -> Handling
+fn as_handling(step: Result<Ways, Refusal>, repeat: bool) -> Result<Handling, Refusal>
     ensures { result ≡ as_handling repeat step }
 {
-    match step {
-        Step::Refused(n) => Handling::Refused(n),
-        Step::Ways(branch, stays) => Handling::Ways(branch, stays, repeat),
-    }
+    Ok(Handling::Ways(step?, repeat))
 }
 
 // What follows an arm that falls through: `program_i += 1`.
-fn falls_through(x: Stored, row: u64) -> Handling
+fn falls_through(x: Result<IntMap, Refusal>, row: u64) -> Result<Handling, Refusal>
     requires { row < 9223372036854777856 }
     ensures { result ≡ as_handling false (step_after (row + 1) x) }
 {
@@ -59,7 +55,7 @@ fn jump(
     from: usize,
     n: usize,
     limit: usize,
-) -> Step
+) -> Result<Ways, Refusal>
     requires { Ready limit (cells area.old) s x × SomeRows (cells area.old) from n × (1 ≤ op) × (op ≤ 14) × (op ≡ 13 → ⊥) }
     ensures { (blocks : List ℕ) → NumberArm limit from n (cells area.old) (cells area.new) blocks s x op result }
 {
@@ -81,7 +77,13 @@ fn jump(
 }
 
 // The arms that write registers.
-fn register(s: MemoryState, area: &mut [u8], x: Row, op: u8, limit: usize) -> Stored
+fn register(
+    s: MemoryState,
+    area: &mut [u8],
+    x: Row,
+    op: u8,
+    limit: usize,
+) -> Result<IntMap, Refusal>
     requires { Ready limit (cells area.old) s x × (16 ≤ op) × (op ≤ 32) }
     ensures { (from n : ℕ) (blocks : List ℕ) → IsBlocks blocks → NumberArm limit from n (cells area.old) (cells area.new) blocks s x op (step_after (s.row + 1) result) }
 {
@@ -107,7 +109,14 @@ fn register(s: MemoryState, area: &mut [u8], x: Row, op: u8, limit: usize) -> St
 }
 
 // The arms that use a cursor.
-fn cursor(s: MemoryState, area: &mut [u8], blocks: &[u8], x: Row, op: u8, limit: usize) -> Stored
+fn cursor(
+    s: MemoryState,
+    area: &mut [u8],
+    blocks: &[u8],
+    x: Row,
+    op: u8,
+    limit: usize,
+) -> Result<IntMap, Refusal>
     requires { Ready limit (cells area.old) s x × IsBlocks blocks.now × (limit ≤ 65535) × (33 ≤ op) × (op ≤ 41) }
     ensures { (from n : ℕ) → NumberArm limit from n (cells area.old) (cells area.new) blocks.now s x op (step_after (s.row + 1) result) }
 {
@@ -127,12 +136,12 @@ fn cursor(s: MemoryState, area: &mut [u8], blocks: &[u8], x: Row, op: u8, limit:
 }
 
 // Jump: branches at P1, P2 and P3, and the state goes on.
-fn jump_three(s: MemoryState, area: &[u8], x: Row, limit: usize) -> Handling
+fn jump_three(s: MemoryState, area: &[u8], x: Row, limit: usize) -> Result<Handling, Refusal>
     requires { Ready limit (cells area.now) s x × (x.op ≡ 13) }
     ensures { (from n : ℕ) (blocks : List ℕ) (again : Bool) → Handles limit from n (cells area.now) (cells area.now) blocks s x again result }
 {
     let map = s.map;
-    Handling::Three(
+    Ok(Handling::Three(
         MemoryState { row: x.p1, map },
         MemoryState { row: x.p2, map },
         MemoryState { row: x.p3, map },
@@ -140,27 +149,21 @@ fn jump_three(s: MemoryState, area: &[u8], x: Row, limit: usize) -> Handling
             row: s.row + 1,
             map,
         },
-    )
+    ))
 }
 
 // ResultRow, whose number is the last.
-fn result_row(s: MemoryState, area: &[u8], x: Row, limit: usize) -> Handling
+fn result_row(s: MemoryState, area: &[u8], x: Row, limit: usize) -> Result<Handling, Refusal>
     requires { Ready limit (cells area.now) s x × (42 ≤ x.op) }
     ensures { (from n : ℕ) (blocks : List ℕ) (again : Bool) → Handles limit from n (cells area.now) (cells area.now) blocks s x again result }
 {
     let map = s.map;
-    let columns = result_arm::result_row(x);
-    match columns {
-        Columns::Refused(k) => Handling::Refused(k),
-        Columns::Registers(first, n) => Handling::Result(
-            MemoryState {
-                row: s.row + 1,
-                map,
-            },
-            first,
-            n,
-        ),
-    }
+    let columns = result_arm::result_row(x)?;
+    let branch = MemoryState {
+        row: s.row + 1,
+        map,
+    };
+    Ok(Handling::Result(branch, columns.first, columns.count))
 }
 
 // Handles the row that the state stands on, at `at` with the map of these numbers; `again` where its lineage has handled it before. The listing's n
@@ -177,7 +180,7 @@ pub fn handle(
     from: usize,
     n: usize,
     limit: usize,
-) -> Handling
+) -> Result<Handling, Refusal>
     requires { Ready limit (cells area.old) (state_of at base len used) (row_on (cells area.old) from at) × SomeRows (cells area.old) from n × (at < 9223372036854775808 + n) × (limit ≤ 65535) × IsBlocks blocks.now }
     ensures { Handles limit from n (cells area.old) (cells area.new) blocks.now (state_of at base len used) (row_on (cells area.old) from at) again result }
 {
@@ -186,7 +189,7 @@ pub fn handle(
     let s = MemoryState { map, row: at };
     let op = number(x);
     if op == 0 {
-        return falls_through(Stored::Done(map), s.row);
+        return falls_through(Ok(map), s.row);
     }
     if op == opcode::OP_JUMP {
         return jump_three(s, area, x, limit);

@@ -1,7 +1,9 @@
 -- IfPos by what its register is known to hold: the definition's offer as stores, and the arm by the accesses that make them. Assumes nothing.
+use Rattle.refusal.specs.Numbers.{number_of}
+use Rattle.refusal.specs.declared.Refusal.{Refusal}
 use mathlib.Core.Path.{◌≡◌, refl, sym, ap, ap₂, subst, ◌∙◌}
 use mathlib.Core.Bool.{Bool, true, false, not, ◌||◌}
-use mathlib.Core.Option.{Option, none, some}
+use Rattle.std.specs.Prelude.{Option, None, Some, Ok, Err}
 use mathlib.Core.List.{List, [], ◌∷◌}
 use Prim.Native.Nat.{ℕ, ◌+◌, ◌<◌, ◌≤◌}
 use native.Mathlib.Omega.{arith}
@@ -26,10 +28,8 @@ use Rattle.area.specs.Cells.{cell}
 use Rattle.area.specs.declared.Cell.{Cell}
 use Rattle.intmap.specs.Map.{HasRoom, CopiedMap, runs_at}
 use Rattle.intmap.specs.Signed.{offset, int_of, Small}
-use Rattle.intmap.specs.Store.{store_runs, stored_of, Stores}
+use Rattle.intmap.specs.Store.{store_runs, stored_of, Stores, Stored}
 use Rattle.intmap.specs.declared.IntMap.{IntMap}
-use Rattle.intmap.specs.declared.Stored.{Stored}
-use Rattle.intmap.specs.declared.Stored.TheVariants as stored
 use Rattle.intmap.proofs.SignedLaws.{int_pred, int_positive, small_pred, word_int, word-least}
 use Rattle.encoding.specs.Encode.{run_register}
 use Rattle.encoding.specs.Holds.{largest}
@@ -40,14 +40,10 @@ use Rattle.encoding.proofs.HeldAfter.{held_register}
 use Rattle.rows.specs.Judged.{Judged}
 use Rattle.rows.specs.declared.Row.{Row}
 use Rattle.state.specs.Leads.{Current, HoldsMap, Tells}
-use Rattle.state.specs.Steps.{HoldsState, TellsStep}
+use Rattle.state.specs.Steps.{HoldsState, TellsStep, Step, offered}
 use Rattle.state.specs.declared.MemoryState.{MemoryState}
-use Rattle.state.specs.declared.Way.TheVariants as way
-use Rattle.state.specs.declared.Step.{Step}
-use Rattle.state.specs.declared.Step.TheVariants as step
 use Rattle.state.proofs.StoreLeads.{wider}
 use Rattle.jump_arms.specs.Arms.{at, branch_after, both_after, Knows, Puts}
-use Rattle.jump_arms.specs.declared.Known.TheVariants as known
 use Rattle.jump_arms.proofs.StepLaws.{unchanged, held_at, held_next, goes_on_lem, branches_and_goes, lies_here}
 use Rattle.jump_arms.proofs.StoreSteps.{SameRow, store-row, branches_told, branch_leaves}
 use Rattle.jump_arms.proofs.BothLaws.{behind_holds, first_frame, state_holds, both_frame, both_leaves, both_tells}
@@ -62,16 +58,16 @@ module _ (limit : ℕ) (cs ds : List Cell) (a : IntMap) (i w : ℕ) where
 
   pub puts_int : (r : Stored) → Stores cs ds limit a 0 i 0 (cell 3 w ∷ []) r → PutsInt limit cs ds a i w r
   unfolding register_depth SortedColumn
-  puts_int (stored.Refused n) st =
+  puts_int (Err n) st =
       record {
-        says = λ bound m small h. (held_register h (int_of i) 0 (Int (int_of w)) (λ _. tt) small).refuses n (answered (stored.Refused n) st);
+        says = λ bound m small h. (held_register h (int_of i) 0 (Int (int_of w)) (λ _. tt) small).refuses (number_of n) (answered (Err n) st);
         leaves = tt;
         frame = st.frame;
       }
-  puts_int (stored.Done b) st =
+  puts_int (Ok b) st =
       record {
         says = λ bound m small h.
-            (held_register h (int_of i) 0 (Int (int_of w)) (λ _. tt) small).next ds b.base b.len b.used (runs_at ds b) (answered (stored.Done b) st) refl st.leaves.room.used;
+            (held_register h (int_of i) 0 (Int (int_of w)) (λ _. tt) small).next ds b.base b.len b.used (runs_at ds b) (answered (Ok b) st) refl st.leaves.room.used;
         leaves = record { base = st.leaves.base; room = st.leaves.room };
         frame = st.frame;
       }
@@ -86,9 +82,9 @@ module _ (limit : ℕ) (cs : List Cell) (a : IntMap) (i w : ℕ) where
   pub forgets : (ds : List Cell) (r : Stored) → offset < w → Puts limit cs ds a r (store_register limit (int_of i) (never_null Integer)) → Puts limit cs ds a r (forget_if (is_positive (int_of w)) limit (int_of i))
   forgets ds r h put = subst (λ b. Puts limit cs ds a r (forget_if b limit (int_of i))) (sym (positive_is w h)) put
 
-  pub keeps : HasRoom cs limit a → w ≤ offset → Puts limit cs cs a (stored.Done a) (forget_if (is_positive (int_of w)) limit (int_of i))
+  pub keeps : HasRoom cs limit a → w ≤ offset → Puts limit cs cs a (Ok a) (forget_if (is_positive (int_of w)) limit (int_of i))
   keeps room h =
-      subst (λ b. Puts limit cs cs a (stored.Done a) (forget_if b limit (int_of i))) (sym (other_is w h))
+      subst (λ b. Puts limit cs cs a (Ok a) (forget_if b limit (int_of i))) (sym (other_is w h))
       (record {
         leads =
             record {
@@ -111,34 +107,34 @@ counted again (refused n) = refused n
 counted again (done w) = done (record { branches = w.branches; stays = w.stays; result = w.result; repeat = again })
 
 told_as : (again : Bool) (limit bound : ℕ) (ds : List Cell) (r : Step) (o p : Offer) → p ≡ counted again o → TellsStep limit bound ds r o → TellsAs again limit bound ds r p
-told_as again limit bound ds (step.Refused n) o p e t = e ∙ ap (counted again) t
-told_as again limit bound ds (step.Ways b s) o p e t =
+told_as again limit bound ds (Err n) o p e t = e ∙ ap (counted again) t
+told_as again limit bound ds (Ok w) o p e t =
     record { the_branch = t.the_branch; the_state = t.the_state; answer = e ∙ ap (counted again) t.answer; branches = t.branches; goes_on = t.goes_on }
 
 -- by whether the register may be positive, and may not be
-abbrev offered : Bool → ℤ → Listed → Defined → Bool → Bool → Offer
-offered again i l m b c =
+abbrev offers_as : Bool → ℤ → Listed → Defined → Bool → Bool → Offer
+offers_as again i l m b c =
     update_register i count_down (go_to l.p2 m) >>= λ branch.
     update_register i forget (next m) >>= λ forgotten.
-    done (record { branches = branch_if (b || again) branch; stays = if_pos_stays c again (next m) forgotten; result = none; repeat = again })
+    done (record { branches = branch_if (b || again) branch; stays = if_pos_stays c again (next m) forgotten; result = None; repeat = again })
 
-read_is : (again : Bool) (x : Row) (l : Listed) (m : Defined) → Judged l x → (t : Tried (Option RegDataType)) → read_register (int_of x.p1) m ≡ t → if_pos_arm again l m ≡ (t >>= λ v. offered again (int_of x.p1) l m (may_be_positive v) (may_not_be_positive v))
+read_is : (again : Bool) (x : Row) (l : Listed) (m : Defined) → Judged l x → (t : Tried (Option RegDataType)) → read_register (int_of x.p1) m ≡ t → if_pos_arm again l m ≡ (t >>= λ v. offers_as again (int_of x.p1) l m (may_be_positive v) (may_not_be_positive v))
 unfolding if_pos_arm
 read_is again x l m j t e =
-    ap (λ i. read_register i m >>= λ v. offered again i l m (may_be_positive v) (may_not_be_positive v)) (sym j.p1)
-    ∙ ap (λ u. u >>= λ v. offered again (int_of x.p1) l m (may_be_positive v) (may_not_be_positive v)) e
+    ap (λ i. read_register i m >>= λ v. offers_as again i l m (may_be_positive v) (may_not_be_positive v)) (sym j.p1)
+    ∙ ap (λ u. u >>= λ v. offers_as again (int_of x.p1) l m (may_be_positive v) (may_not_be_positive v)) e
 
 read-go_to : (i p : ℤ) (m : Defined) (o : Option RegDataType) → read_register i m ≡ done o → read_register i (go_to p m) ≡ done o
 unfolding read_register
 read-go_to i p m o e = e
 
 -- two ways, as two accesses
-two_ways : (again : Bool) (t u : Tried Defined) → (t >>= λ branch. u >>= λ stays. done (record { branches = branch ∷ []; stays = some stays; result = none; repeat = again })) ≡ counted again (t >>= λ branch. u >>= λ stays. offers (branch ∷ []) (some stays))
+two_ways : (again : Bool) (t u : Tried Defined) → (t >>= λ branch. u >>= λ stays. done (record { branches = branch ∷ []; stays = Some stays; result = None; repeat = again })) ≡ counted again (t >>= λ branch. u >>= λ stays. offers (branch ∷ []) (Some stays))
 two_ways again (refused n) u = refl
 two_ways again (done b) (refused n) = refl
 two_ways again (done b) (done s) = refl
 
-one_way : (t : Tried Defined) → (t >>= λ branch. offers (branch ∷ []) none) ≡ counted false (t >>= λ branch. offers (branch ∷ []) none)
+one_way : (t : Tried Defined) → (t >>= λ branch. offers (branch ∷ []) None) ≡ counted false (t >>= λ branch. offers (branch ∷ []) None)
 one_way (refused n) = refl
 one_way (done b) = refl
 
@@ -163,18 +159,18 @@ module _ (i p q : ℤ) (m : Defined) where
 
 module _ (limit : ℕ) (i : ℤ) (l : Listed) (m : Defined) (good : Good limit m) where
   -- no known number: nothing changes
-  unknown_is : (again : Bool) (v : Option RegDataType) → read_register i m ≡ done v → known_int v ≡ none → offered again i l m (may_be_positive v) (may_not_be_positive v) ≡ counted again (offers (go_to l.p2 m ∷ []) (some (next m)))
-  unknown_is again none read e =
-      ap₂ (λ t u. t >>= λ branch. u >>= λ forgotten. done (record { branches = branch ∷ []; stays = some (next m); result = none; repeat = again }))
-      (update_kept (go_to_good good l.p2) i count_down none (read-go_to i _ m none read) tt)
-      (update_kept (next_good good) i forget none (read-go_to i _ m none read) tt)
-  unknown_is again (some (Column c)) read e =
-      ap₂ (λ t u. t >>= λ branch. u >>= λ forgotten. done (record { branches = branch ∷ []; stays = some (next m); result = none; repeat = again }))
-      (update_kept (go_to_good good l.p2) i count_down (some (Column c)) (read-go_to i _ m (some (Column c)) read) refl)
-      (update_kept (next_good good) i forget (some (Column c)) (read-go_to i _ m (some (Column c)) read) refl)
-  unknown_is again (some (Int n)) read e = never (sym e)
+  unknown_is : (again : Bool) (v : Option RegDataType) → read_register i m ≡ done v → known_int v ≡ None → offers_as again i l m (may_be_positive v) (may_not_be_positive v) ≡ counted again (offers (go_to l.p2 m ∷ []) (Some (next m)))
+  unknown_is again None read e =
+      ap₂ (λ t u. t >>= λ branch. u >>= λ forgotten. done (record { branches = branch ∷ []; stays = Some (next m); result = None; repeat = again }))
+      (update_kept (go_to_good good l.p2) i count_down None (read-go_to i _ m None read) tt)
+      (update_kept (next_good good) i forget None (read-go_to i _ m None read) tt)
+  unknown_is again (Some (Column c)) read e =
+      ap₂ (λ t u. t >>= λ branch. u >>= λ forgotten. done (record { branches = branch ∷ []; stays = Some (next m); result = None; repeat = again }))
+      (update_kept (go_to_good good l.p2) i count_down (Some (Column c)) (read-go_to i _ m (Some (Column c)) read) refl)
+      (update_kept (next_good good) i forget (Some (Column c)) (read-go_to i _ m (Some (Column c)) read) refl)
+  unknown_is again (Some (Int n)) read e = never (sym e)
 
-  module _ (n : ℤ) (read : read_register i m ≡ done (some (Int n))) where
+  module _ (n : ℤ) (read : read_register i m ≡ done (Some (Int n))) where
     abbrev counting : Tried Defined
     counting = store_register limit i (Int (pred_ℤ n)) (go_to l.p2 m)
 
@@ -182,22 +178,22 @@ module _ (limit : ℕ) (i : ℤ) (l : Listed) (m : Defined) (good : Good limit m
     counts = update_stored (go_to_good good l.p2) i count_down (Int n) (read-go_to i _ m _ read) count_down_no_larger
 
     -- handled again
-    again_is : (b : Bool) → offered true i l m b (not b) ≡ counted true (counting >>= λ branch. forget_if b limit i (next m) >>= λ stays. offers (branch ∷ []) (some stays))
+    again_is : (b : Bool) → offers_as true i l m b (not b) ≡ counted true (counting >>= λ branch. forget_if b limit i (next m) >>= λ stays. offers (branch ∷ []) (Some stays))
     again_is true =
-        ap₂ (λ t u. t >>= λ branch. u >>= λ stays. done (record { branches = branch ∷ []; stays = some stays; result = none; repeat = true }))
+        ap₂ (λ t u. t >>= λ branch. u >>= λ stays. done (record { branches = branch ∷ []; stays = Some stays; result = None; repeat = true }))
         counts
         (update_stored (next_good good) i forget (Int n) (read-go_to i _ m _ read) forget_no_larger)
         ∙ two_ways true counting (store_register limit i (never_null Integer) (next m))
     again_is false =
-        second_passes i l.p2 _ m (λ branch. done (record { branches = branch ∷ []; stays = some (next m); result = none; repeat = true }))
-        ∙ ap (λ t. t >>= λ branch. done (record { branches = branch ∷ []; stays = some (next m); result = none; repeat = true })) counts
+        second_passes i l.p2 _ m (λ branch. done (record { branches = branch ∷ []; stays = Some (next m); result = None; repeat = true }))
+        ∙ ap (λ t. t >>= λ branch. done (record { branches = branch ∷ []; stays = Some (next m); result = None; repeat = true })) counts
         ∙ two_ways true counting (done (next m))
 
     -- handled for the first time
-    branch_is : offered false i l m true false ≡ counted false (counting >>= λ branch. offers (branch ∷ []) none)
-    branch_is = second_passes i l.p2 _ m (λ branch. offers (branch ∷ []) none) ∙ ap (λ t. t >>= λ branch. offers (branch ∷ []) none) counts ∙ one_way counting
+    branch_is : offers_as false i l m true false ≡ counted false (counting >>= λ branch. offers (branch ∷ []) None)
+    branch_is = second_passes i l.p2 _ m (λ branch. offers (branch ∷ []) None) ∙ ap (λ t. t >>= λ branch. offers (branch ∷ []) None) counts ∙ one_way counting
 
-    on_is : offered false i l m false true ≡ counted false (goes_on (next m))
+    on_is : offers_as false i l m false true ≡ counted false (goes_on (next m))
     on_is = both_pass i l.p2 _ m _ read (goes_on (next m))
 
 -- ---- the arm
@@ -219,17 +215,17 @@ module _ (limit : ℕ) (cs : List Cell) (s : MemoryState) (x : Row) where
   more : (bound : ℕ) (m : Defined) → bound + 1 ≤ largest → HoldsState limit bound cs s m → HoldsState limit (bound + 1) cs s m
   more bound m top h = record { row = h.row; map = held_more limit bound cs _ _ _ m h.map (bound + 1) (omega arith) top }
 
-  pub pos_bad : (again : Bool) (n : ℕ) → Knows cs s.map x.p1 (known.Bad n) → IfPosArm limit cs cs s x again (step.Refused n)
+  pub pos_bad : (again : Bool) (n : Refusal) → Knows cs s.map x.p1 (Err n) → IfPosArm limit cs cs s x again (Err n)
   pos_bad again n k =
-      record { says = λ l j bound m le top h. read_is again x l m j (refused n) (k.says limit bound m h.map); leaves = tt; frame = unchanged cs _ _ }
+      record { says = λ l j bound m le top h. read_is again x l m j (refused (number_of n)) (k.says limit bound m h.map); leaves = tt; frame = unchanged cs _ _ }
 
-  pub pos_unknown : (again : Bool) → Current limit cs s.map → Knows cs s.map x.p1 known.Unknown → IfPosArm limit cs cs s x again (step.Ways (way.To (at x.p2 s.map)) (way.To (at (s.row + 1) s.map)))
+  pub pos_unknown : (again : Bool) → Current limit cs s.map → Knows cs s.map x.p1 (Ok None) → IfPosArm limit cs cs s x again (offered (Some (at x.p2 s.map)) (Some (at (s.row + 1) s.map)))
   pos_unknown again current k =
       record {
         says = λ l j bound m le top h.
             (let u = k.says limit bound m h.map in
             let g = more bound m top h in
-            told_as again limit (bound + 1) cs (step.Ways (way.To (at x.p2 s.map)) (way.To (at (s.row + 1) s.map))) (offers (go_to l.p2 m ∷ []) (some (next m))) _
+            told_as again limit (bound + 1) cs (offered (Some (at x.p2 s.map)) (Some (at (s.row + 1) s.map))) (offers (go_to l.p2 m ∷ []) (Some (next m))) _
             (read_is again x l m j _ u.answer ∙ unknown_is limit (int_of x.p1) l m h.map.good again u.value u.answer u.is)
             (branches_and_goes (held_at x.p2 l.p2 j.p2 g.map) (held_next s.row g.row g.map)));
         leaves = (lies_here x.p2 current, (refl, current.room));
@@ -237,16 +233,16 @@ module _ (limit : ℕ) (cs : List Cell) (s : MemoryState) (x : Row) where
       }
 
   module _ (w : ℕ) (k : KnowsInt cs s.map x.p1 w) where
-    int_is : (again b : Bool) → is_positive (int_of w) ≡ b → (l : Listed) → Judged l x → (bound : ℕ) (m : Defined) → HoldsState limit bound cs s m → if_pos_arm again l m ≡ offered again (int_of x.p1) l m b (not b)
+    int_is : (again b : Bool) → is_positive (int_of w) ≡ b → (l : Listed) → Judged l x → (bound : ℕ) (m : Defined) → HoldsState limit bound cs s m → if_pos_arm again l m ≡ offers_as again (int_of x.p1) l m b (not b)
     int_is again b e l j bound m h =
-        read_is again x l m j _ (k.says limit bound m h.map).answer ∙ ap (λ b. offered again (int_of x.p1) l m b (not b)) e
+        read_is again x l m j _ (k.says limit bound m h.map).answer ∙ ap (λ b. offers_as again (int_of x.p1) l m b (not b)) e
 
-    pub pos_on : Current limit cs s.map → w ≤ offset → IfPosArm limit cs cs s x false (step.Ways way.Nowhere (way.To (at (s.row + 1) s.map)))
+    pub pos_on : Current limit cs s.map → w ≤ offset → IfPosArm limit cs cs s x false (offered None (Some (at (s.row + 1) s.map)))
     pos_on current h =
         record {
           says = λ l j bound m le top g.
               (let f = more bound m top g in
-              told_as false limit (bound + 1) cs (step.Ways way.Nowhere (way.To (at (s.row + 1) s.map))) (goes_on (next m)) _
+              told_as false limit (bound + 1) cs (offered None (Some (at (s.row + 1) s.map))) (goes_on (next m)) _
               (int_is false false (other_is w h) l j bound m g ∙ on_is limit (int_of x.p1) l m g.map.good (int_of w) (k.says limit bound m g.map).answer)
               (goes_on_lem (held_next s.row f.row f.map)));
           leaves = (tt, (refl, current.room));
@@ -276,7 +272,7 @@ module _ (limit : ℕ) (cs : List Cell) (s : MemoryState) (x : Row) where
 
       -- both ways
       module _ (current : Current limit cs s.map) (there : List Cell) (behind : IntMap) (copied : CopiedMap cs there s.map (s.map.base + limit) behind) (two : List Cell) where
-        ways_are : (l : Listed) → Judged l x → (bound : ℕ) (m : Defined) → HoldsState limit bound cs s m → if_pos_arm true l m ≡ counted true (store_register limit (int_of x.p1) (Int (pred_ℤ (int_of w))) (go_to l.p2 m) >>= λ branch. forget_if (is_positive (int_of w)) limit (int_of x.p1) (next m) >>= λ stays. offers (branch ∷ []) (some stays))
+        ways_are : (l : Listed) → Judged l x → (bound : ℕ) (m : Defined) → HoldsState limit bound cs s m → if_pos_arm true l m ≡ counted true (store_register limit (int_of x.p1) (Int (pred_ℤ (int_of w))) (go_to l.p2 m) >>= λ branch. forget_if (is_positive (int_of w)) limit (int_of x.p1) (next m) >>= λ stays. offers (branch ∷ []) (Some stays))
         ways_are l j bound m h =
             int_is true _ refl l j bound m h
             ∙ again_is limit (int_of x.p1) l m h.map.good (int_of w) (k.says limit bound m h.map).answer (is_positive (int_of w))
@@ -285,26 +281,26 @@ module _ (limit : ℕ) (cs : List Cell) (s : MemoryState) (x : Row) where
         branch_put r put l bound m top h =
             put_before there two behind r put l bound m top h (behind_holds limit cs there s current behind copied l (bound + 1) m (more bound m top h))
 
-        pub again_refused : (n : ℕ) (r : Stored) → PutsInt limit there two behind x.p1 v r → r ≡ stored.Refused n → IfPosArm limit cs two s x true (step.Refused n)
+        pub again_refused : (n : Refusal) (r : Stored) → PutsInt limit there two behind x.p1 v r → r ≡ Err n → IfPosArm limit cs two s x true (Err n)
         again_refused n r tried e =
-            let put : PutsInt limit there two behind x.p1 v (stored.Refused n) = subst (PutsInt limit there two behind x.p1 v) e tried in
+            let put : PutsInt limit there two behind x.p1 v (Err n) = subst (PutsInt limit there two behind x.p1 v) e tried in
             record {
               says = λ l j bound m le top h.
                   ways_are l j bound m h
-                  ∙ ap (λ t. counted true (t >>= λ branch. forget_if (is_positive (int_of w)) limit (int_of x.p1) (next m) >>= λ stays. offers (branch ∷ []) (some stays)))
-                  (branch_put (stored.Refused n) put l bound m top h);
+                  ∙ ap (λ t. counted true (t >>= λ branch. forget_if (is_positive (int_of w)) limit (int_of x.p1) (next m) >>= λ stays. offers (branch ∷ []) (Some stays)))
+                  (branch_put (Err n) put l bound m top h);
               leaves = tt;
               frame = first_frame limit cs there s current behind copied two put.frame;
             }
 
-        pub again_arm : (b : IntMap) (r : Stored) → PutsInt limit there two behind x.p1 v r → r ≡ stored.Done b → (ds : List Cell) (q : Stored) → Puts limit two ds s.map q (forget_if (is_positive (int_of w)) limit (int_of x.p1)) → IfPosArm limit cs ds s x true (both_after (at x.p2 b) (s.row + 1) q)
+        pub again_arm : (b : IntMap) (r : Stored) → PutsInt limit there two behind x.p1 v r → r ≡ Ok b → (ds : List Cell) (q : Stored) → Puts limit two ds s.map q (forget_if (is_positive (int_of w)) limit (int_of x.p1)) → IfPosArm limit cs ds s x true (both_after (at x.p2 b) (s.row + 1) q)
         again_arm b r tried e ds q last =
-            let put : PutsInt limit there two behind x.p1 v (stored.Done b) = subst (PutsInt limit there two behind x.p1 v) e tried in
+            let put : PutsInt limit there two behind x.p1 v (Ok b) = subst (PutsInt limit there two behind x.p1 v) e tried in
             record {
               says = λ l j bound m le top h.
                   told_as true limit (bound + 1) ds (both_after (at x.p2 b) (s.row + 1) q) _ _ (ways_are l j bound m h)
                   (both_tells limit cs there s current behind copied two put.frame b put.leaves ds last.frame x l j (bound + 1) m h.row _ _
-                  (branch_put (stored.Done b) put l bound m top h) (store-row limit _ _ (go_to l.p2 m)) q
+                  (branch_put (Ok b) put l bound m top h) (store-row limit _ _ (go_to l.p2 m)) q
                   (last.leads.says (bound + 1) (next m) (omega (arith, le)) (state_holds limit cs there s current behind copied two put.frame (bound + 1) m (more bound m top h)).map)
                   (forget-row (is_positive (int_of w)) limit (int_of x.p1) (next m)));
               leaves = both_leaves limit cs there s current behind copied two put.frame b put.leaves ds last.frame x.p2 (s.row + 1) q last.leads.leaves;

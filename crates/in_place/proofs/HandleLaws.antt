@@ -1,4 +1,6 @@
 -- From an arm that was met in place to the row's handling. Assumes nothing.
+use Rattle.std.proofs.lemmas.Option.{none-some}
+use Rattle.std.specs.Prelude.{Ok, Some, None, Option}
 use mathlib.Core.Path.{◌≡◌, refl, sym, ap, subst, ◌∙◌}
 use mathlib.Core.Bool.{Bool, true, false, true≢false}
 use mathlib.Core.List.{List}
@@ -9,16 +11,13 @@ use Rattle.model.specs.Access.{store_register}
 use Rattle.model.specs.Operation.{JumpOperation, CursorOperation, jumps, cursors, no_arm, op_goto, op_gosub, op_init_coroutine, op_null, op_column}
 use Rattle.area.specs.declared.Cell.{Cell}
 use Rattle.intmap.specs.Signed.{offset, int_of}
-use Rattle.intmap.specs.declared.Stored.TheVariants as stored
 use Rattle.opcode.specs.Opcode.{arms, operation_at}
 use Rattle.rows.specs.Rows.{Operand}
 use Rattle.rows.specs.declared.Row.{Row}
 use Rattle.state.specs.Leads.{Leads}
 use Rattle.state.specs.Own.{HeldAmong, LeadsNear}
-use Rattle.state.specs.Steps.{JumpArm}
+use Rattle.state.specs.Steps.{JumpArm, offered}
 use Rattle.state.specs.declared.MemoryState.{MemoryState}
-use Rattle.state.specs.declared.Way.TheVariants as way
-use Rattle.state.specs.declared.Step.TheVariants as step
 use Rattle.state.proofs.LeadsLaws.{current_held}
 use Rattle.state.proofs.OwnLaws.{held-among}
 use Rattle.jump_arms.specs.Arms.{Ready, at, step_after, InitTo}
@@ -51,98 +50,98 @@ module _ {cs : List Cell} {row base end op i j k : ℕ} (h : ReadyAt cs row base
 
 -- ---- the arms that name the next row
 
-pub jump_not : {cs ds : List Cell} {row base end op i j k n : ℕ} → ds ≡ cs → JumpNear cs ds row base end op i j k n 0
-jump_not same = record { arm = op_goto; is = λ ne. absurd (ne refl); within = λ ne. absurd (ne refl); goes = λ ne. absurd (ne refl); no = λ _. same }
+pub jump_not : {cs ds : List Cell} {row base end op i j k n : ℕ} → ds ≡ cs → JumpNear cs ds row base end op i j k n None
+jump_not same = record { arm = op_goto; is = λ w e. absurd (none-some w e); within = λ w e. absurd (none-some w e); goes = λ w e. absurd (none-some w e); no = λ _. same }
 
 -- an arm o that leads to `to`, which is the row r of the listing
-module _ {cs ds : List Cell} {row base end op i j k n r to : ℕ} {o : JumpOperation} (is : operation_at op ≡ jumps o) (in_List : WithinListing to n r) (changes : r ≡ 0 → ds ≡ cs) where
-  jump_near : ((limit : ℕ) (s : MemoryState) (x : Row) → Ready limit cs s x → Operands x i j k → StandsAt s row base end → JumpArm limit cs ds s x o (step.Ways way.Nowhere (way.To (at to s.map)))) → JumpNear cs ds row base end op i j k n r
+module _ {cs ds : List Cell} {row base end op i j k n to : ℕ} {r : Option ℕ} {o : JumpOperation} (is : operation_at op ≡ jumps o) (in_List : WithinListing to n r) (changes : r ≡ None → ds ≡ cs) where
+  jump_near : ((limit : ℕ) (s : MemoryState) (x : Row) → Ready limit cs s x → Operands x i j k → StandsAt s row base end → JumpArm limit cs ds s x o (offered None (Some (at to s.map)))) → JumpNear cs ds row base end op i j k n r
   jump_near leads =
       record {
         arm = o;
-        is = λ _. is;
-        within = λ ne. ((in_List.yes ne).1, (in_List.yes ne).2);
-        goes = λ ne. record { arm = λ limit s x ready ops stands. subst (λ w. JumpArm limit cs ds s x o (step.Ways way.Nowhere (way.To (at w s.map)))) (sym (in_List.yes ne).0) (leads limit s x ready ops stands) };
+        is = λ _ _. is;
+        within = λ w e. ((in_List.yes w e).1, (in_List.yes w e).2);
+        goes = λ w e. record { arm = λ limit s x ready ops stands. subst (λ w. JumpArm limit cs ds s x o (offered None (Some (at w s.map)))) (sym (in_List.yes w e).0) (leads limit s x ready ops stands) };
         no = changes;
       }
 
-pub goto_near : {cs : List Cell} {row base end op i j k n r : ℕ} → operation_at op ≡ jumps op_goto → WithinListing j n r → JumpNear cs cs row base end op i j k n r
+pub goto_near : {cs : List Cell} {row base end op i j k n : ℕ} {r : Option ℕ} → operation_at op ≡ jumps op_goto → WithinListing j n r → JumpNear cs cs row base end op i j k n r
 goto_near {cs} is in_List =
     jump_near is in_List (λ _. refl)
     (λ limit s x ready ops stands.
-    subst (λ w. JumpArm limit cs cs s x op_goto (step.Ways way.Nowhere (way.To (at w s.map)))) ops.second (goto_arm limit cs s x ready.current))
+    subst (λ w. JumpArm limit cs cs s x op_goto (offered None (Some (at w s.map)))) ops.second (goto_arm limit cs s x ready.current))
 
 module _ {cs ds : List Cell} {row base end i j k : ℕ} {b : Bool} (made : b ≡ true) where
   -- the number that is stored, in the words of the arm
-  stored_as : {v : ℕ} → LeadsNear cs ds base end (λ limit. store_register limit (int_of i) (Int (int_of v))) b → (limit : ℕ) (s : MemoryState) (x : Row) → Ready limit cs s x → Operands x i j k → StandsAt s row base end → (u : ℕ) → u ≡ v → Leads limit cs ds s.map (stored.Done s.map) (store_register limit (int_of x.p1) (Int (int_of u)))
+  stored_as : {v : ℕ} → LeadsNear cs ds base end (λ limit. store_register limit (int_of i) (Int (int_of v))) b → (limit : ℕ) (s : MemoryState) (x : Row) → Ready limit cs s x → Operands x i j k → StandsAt s row base end → (u : ℕ) → u ≡ v → Leads limit cs ds s.map (Ok s.map) (store_register limit (int_of x.p1) (Int (int_of u)))
   stored_as w limit s x ready ops stands u ue =
-      subst (λ z. Leads limit cs ds s.map (stored.Done s.map) (store_register limit (int_of z) (Int (int_of u)))) (sym ops.first)
-      (subst (λ z. Leads limit cs ds s.map (stored.Done s.map) (store_register limit (int_of i) (Int (int_of z)))) (sym ue) (w.yes made s.map stands.from stands.to limit ready.current))
+      subst (λ z. Leads limit cs ds s.map (Ok s.map) (store_register limit (int_of z) (Int (int_of u)))) (sym ops.first)
+      (subst (λ z. Leads limit cs ds s.map (Ok s.map) (store_register limit (int_of i) (Int (int_of z)))) (sym ue) (w.yes made s.map stands.from stands.to limit ready.current))
 
-  module _ {op n r : ℕ} (some : r ≡ 0 → ⊥) where
-    pub gosub_near : operation_at op ≡ jumps op_gosub → WithinListing j n r → LeadsNear cs ds base end (λ limit. store_register limit (int_of i) (Int (int_of row))) b → JumpNear cs ds row base end op i j k n r
-    gosub_near is in_List w =
-        jump_near is in_List (λ e. absurd (some e))
+  module _ {op n w : ℕ} {r : Option ℕ} (some : r ≡ Some w) where
+    pub gosub_near : operation_at op ≡ jumps op_gosub → WithinListing j n r → LeadsNear cs ds base end (λ limit. store_register limit (int_of i) (Int (int_of row))) b → JumpNear cs ds row base end op i j k n (Some w)
+    gosub_near is in_List led =
+        jump_near is (subst (WithinListing _ n) some in_List) (λ e. absurd (none-some w (sym e)))
         (λ limit s x ready ops stands.
-        subst (λ z. JumpArm limit cs ds s x op_gosub (step_after z (stored.Done s.map))) ops.second
-        (gosub_arm limit cs ds s x (stored.Done s.map) (stored_as w limit s x ready ops stands s.row stands.on)))
+        subst (λ z. JumpArm limit cs ds s x op_gosub (step_after z (Ok s.map))) ops.second
+        (gosub_arm limit cs ds s x (Ok s.map) (stored_as led limit s x ready ops stands s.row stands.on)))
 
-    pub init_near : {to : ℕ} → operation_at op ≡ jumps op_init_coroutine → InitTo row j to → WithinListing to n r → LeadsNear cs ds base end (λ limit. store_register limit (int_of i) (Int (int_of k))) b → JumpNear cs ds row base end op i j k n r
-    init_near {to} is goes in_List w =
-        jump_near is in_List (λ e. absurd (some e))
+    pub init_near : {to : ℕ} → operation_at op ≡ jumps op_init_coroutine → InitTo row j to → WithinListing to n r → LeadsNear cs ds base end (λ limit. store_register limit (int_of i) (Int (int_of k))) b → JumpNear cs ds row base end op i j k n (Some w)
+    init_near {to} is goes in_List led =
+        jump_near is (subst (WithinListing _ n) some in_List) (λ e. absurd (none-some w (sym e)))
         (λ limit s x ready ops stands.
-        init_arm limit cs ds s x (stored.Done s.map) (stored_as w limit s x ready ops stands x.p3 ops.third) to
+        init_arm limit cs ds s x (Ok s.map) (stored_as led limit s x ready ops stands x.p3 ops.third) to
         (subst (λ z. InitTo z x.p2 to) (sym stands.on) (subst (λ z. InitTo row z to) (sym ops.second) goes)))
 
 -- ---- handling
 
-pub jump_handles : {cs ds : List Cell} {row base end op i j k n r : ℕ} → JumpNear cs ds row base end op i j k n r → HandlesNear cs ds row base end op i j k n r
-jump_handles {r = r} w =
+pub jump_handles : {cs ds : List Cell} {row base end op i j k n : ℕ} {r : Option ℕ} → JumpNear cs ds row base end op i j k n r → HandlesNear cs ds row base end op i j k n r
+jump_handles jumped =
     record {
-      within = w.within;
-      yes = λ ne limit s x ready num ops stands first size blocks again whole.
-          number_handles (step.Ways way.Nowhere (way.To (at r s.map))) (sym num) (jump_number (w.is ne) ((w.goes ne).arm limit s x ready ops stands) blocks);
-      no = w.no;
+      within = jumped.within;
+      yes = λ w e limit s x ready num ops stands first size blocks again whole.
+          number_handles (offered None (Some (at w s.map))) (sym num) (jump_number (jumped.is w e) ((jumped.goes w e).arm limit s x ready ops stands) blocks);
+      no = jumped.no;
     }
 
 -- the next row
-next_as : {cs ds : List Cell} {row base end op n r limit first size : ℕ} {blocks : List ℕ} {s : MemoryState} {x : Row} {again : Bool} → WithinListing (row + 1) n r → (r ≡ 0 → ⊥) → StandsAt s row base end → x.op ≡ op → NumberArm limit first size cs ds blocks s x op (step_after (s.row + 1) (stored.Done s.map)) → Handles limit first size cs ds blocks s x again (handling.Ways way.Nowhere (way.To (at r s.map)) false)
-next_as {cs} {ds} {limit = limit} {first} {size} {blocks} {s} {x} {again} in_List ne stands num arm =
-    subst (λ z. Handles limit first size cs ds blocks s x again (handling.Ways way.Nowhere (way.To (at z s.map)) false)) (ap (λ z. z + 1) stands.on ∙ sym (in_List.yes ne).0)
-    (number_handles (step.Ways way.Nowhere (way.To (at (s.row + 1) s.map))) (sym num) arm)
+next_as : {cs ds : List Cell} {row base end op n w limit first size : ℕ} {r : Option ℕ} {blocks : List ℕ} {s : MemoryState} {x : Row} {again : Bool} → WithinListing (row + 1) n r → r ≡ Some w → StandsAt s row base end → x.op ≡ op → NumberArm limit first size cs ds blocks s x op (step_after (s.row + 1) (Ok s.map)) → Handles limit first size cs ds blocks s x again (Ok (handling.Ways (record { branch = None; stays = Some (at w s.map) }) false))
+next_as {cs} {ds} {limit = limit} {first} {size} {blocks} {s} {x} {again} in_List e stands num arm =
+    subst (λ z. Handles limit first size cs ds blocks s x again (Ok (handling.Ways (record { branch = None; stays = Some (at z s.map) }) false))) (ap (λ z. z + 1) stands.on ∙ sym (in_List.yes _ e).0)
+    (number_handles (offered None (Some (at (s.row + 1) s.map))) (sym num) arm)
 
-pub register_handles : {cs ds : List Cell} {row base end op i j k n r : ℕ} {b : Bool} → WithinListing (row + 1) n r → b ≡ true → (r ≡ 0 → ⊥) → RegisterNear cs ds base end op i j k b → HandlesNear cs ds row base end op i j k n r
-register_handles in_List made some w =
+pub register_handles : {cs ds : List Cell} {row base end op i j k n w : ℕ} {r : Option ℕ} {b : Bool} → WithinListing (row + 1) n r → b ≡ true → r ≡ Some w → RegisterNear cs ds base end op i j k b → HandlesNear cs ds row base end op i j k n (Some w)
+register_handles in_List made some led =
     record {
-      within = λ ne. ((in_List.yes ne).1, (in_List.yes ne).2);
-      yes = λ ne limit s x ready num ops stands first size blocks again whole.
-          next_as in_List ne stands num (register_number ready.row whole (w.is made) (w.near.yes made x ops s.map stands.from stands.to limit ready.current));
-      no = λ e. absurd (some e);
+      within = λ w e. (((subst (WithinListing _ _) some in_List).yes w e).1, ((subst (WithinListing _ _) some in_List).yes w e).2);
+      yes = λ w e limit s x ready num ops stands first size blocks again whole.
+          next_as (subst (WithinListing _ _) some in_List) e stands num (register_number ready.row whole (led.is made) (led.near.yes made x ops s.map stands.from stands.to limit ready.current));
+      no = λ e. absurd (none-some _ (sym e));
     }
 
 pub column_number : {op : ℕ} → 33 ≤ op → op ≤ 33 → operation_at op ≡ cursors op_column
 unfolding operation_at arms
 column_number {op} low high = let e : op ≡ 33 = omega (arith, low, high) in ap operation_at e
 
-pub column_handles : {cs ds : List Cell} {row base end op i j k n r : ℕ} {b : Bool} {o : CursorOperation} → operation_at op ≡ cursors o → WithinListing (row + 1) n r → b ≡ true → (r ≡ 0 → ⊥) → CursorNear cs ds base end i j k o b → HandlesNear cs ds row base end op i j k n r
-column_handles is in_List made some w =
+pub column_handles : {cs ds : List Cell} {row base end op i j k n w : ℕ} {r : Option ℕ} {b : Bool} {o : CursorOperation} → operation_at op ≡ cursors o → WithinListing (row + 1) n r → b ≡ true → r ≡ Some w → CursorNear cs ds base end i j k o b → HandlesNear cs ds row base end op i j k n (Some w)
+column_handles is in_List made some led =
     record {
-      within = λ ne. ((in_List.yes ne).1, (in_List.yes ne).2);
-      yes = λ ne limit s x ready num ops stands first size blocks again whole.
-          next_as in_List ne stands num (cursor_number ready.row whole is (w.yes made x ops s.map stands.from stands.to limit ready.current (s.row - offset)));
-      no = λ e. absurd (some e);
+      within = λ w e. (((subst (WithinListing _ _) some in_List).yes w e).1, ((subst (WithinListing _ _) some in_List).yes w e).2);
+      yes = λ w e limit s x ready num ops stands first size blocks again whole.
+          next_as (subst (WithinListing _ _) some in_List) e stands num (cursor_number ready.row whole is (led.yes made x ops s.map stands.from stands.to limit ready.current (s.row - offset)));
+      no = λ e. absurd (none-some _ (sym e));
     }
 
-pub none_handles : {cs : List Cell} {row base end op i j k n r : ℕ} → operation_at op ≡ no_arm → WithinListing (row + 1) n r → HandlesNear cs cs row base end op i j k n r
+pub none_handles : {cs : List Cell} {row base end op i j k n : ℕ} {r : Option ℕ} → operation_at op ≡ no_arm → WithinListing (row + 1) n r → HandlesNear cs cs row base end op i j k n r
 none_handles is in_List =
     record {
-      within = λ ne. ((in_List.yes ne).1, (in_List.yes ne).2);
-      yes = λ ne limit s x ready num ops stands first size blocks again whole. next_as in_List ne stands num (none_number is ready.current);
+      within = λ w e. ((in_List.yes w e).1, (in_List.yes w e).2);
+      yes = λ w e limit s x ready num ops stands first size blocks again whole. next_as in_List e stands num (none_number is ready.current);
       no = λ _. refl;
     }
 
-pub handles_not : {cs ds : List Cell} {row base end op i j k n : ℕ} → ds ≡ cs → HandlesNear cs ds row base end op i j k n 0
-handles_not same = record { within = λ ne. absurd (ne refl); yes = λ ne. absurd (ne refl); no = λ _. same }
+pub handles_not : {cs ds : List Cell} {row base end op i j k n : ℕ} → ds ≡ cs → HandlesNear cs ds row base end op i j k n None
+handles_not same = record { within = λ w e. absurd (none-some w e); yes = λ w e. absurd (none-some w e); no = λ _. same }
 
 pub register_not : {cs : List Cell} {base end op i j k : ℕ} → RegisterNear cs cs base end op i j k false
 register_not = record { arm = op_null; is = λ e. absurd (true≢false (sym e)); near = arm-not }

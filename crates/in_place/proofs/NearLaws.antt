@@ -2,11 +2,10 @@
 -- what a row's number leads to. Assumes nothing.
 use mathlib.Core.Path.{◌≡◌, refl, sym, ap, subst, ◌∙◌}
 use mathlib.Core.Bool.{Bool, true, false, true≢false}
-use mathlib.Core.Option.{none}
+use Rattle.std.specs.Prelude.{None, Ok, Some, Option}
 use mathlib.Core.List.{List}
-use Prim.Native.Nat.{ℕ, ◌+◌, ◌-◌, ◌<◌, ◌≤◌}
+use Prim.Native.Nat.{ℕ, ◌+◌, ◌-◌, ◌≤◌}
 use native.Mathlib.Omega.{arith}
-use lib.Dec.{eqb}
 use lib.ListN.{get_or}
 use Rattle.type_info.specs.declared.DataType.{DataType}
 use Rattle.type_info.specs.declared.DataType.TheVariants.{Null}
@@ -19,12 +18,9 @@ use Rattle.model.specs.Operation.{RegisterOperation, op_arithmetic, op_halt_if_n
 use Rattle.model.specs.RegisterArms.{copy_to, register_arm}
 use Rattle.area.specs.Cells.{blank}
 use Rattle.area.specs.declared.Cell.{Cell}
-use Rattle.intmap.specs.Pack.{tag_of, kind_of, nullable_of}
-use Rattle.intmap.specs.Pick.{pick}
+use Rattle.intmap.specs.Pack.{tag_of}
 use Rattle.intmap.specs.Signed.{offset, int_of}
 use Rattle.intmap.specs.declared.IntMap.{IntMap}
-use Rattle.intmap.specs.declared.Slot.TheVariants as slot
-use Rattle.intmap.specs.declared.Stored.TheVariants as stored
 use Rattle.encoding.specs.Decode.{datatypes, nullables}
 use Rattle.rows.specs.Judged.{Judged}
 use Rattle.rows.specs.declared.Row.{Row}
@@ -40,7 +36,6 @@ use Rattle.state.proofs.StoreLeads.{leads_as}
 use Rattle.copy_arms.specs.Copies.{carry_one, carry_many}
 use Rattle.copy_arms.proofs.CopyLaws.{stores-alone, carry_copies, carry_copy-one, carries_open, carries_end, arm_copy_one, arm_copy}
 use Rattle.register_arms.specs.Values.{IsDatatype, AreNullable}
-use Rattle.register_arms.proofs.ValueLaws.{is_bad}
 use Rattle.register_arms.proofs.RegisterLaws.{same_leads, leads_where, integer_arm, constant_arm, variable_arm, operands_stored}
 use Rattle.register_arms.proofs.NullLaws.{null-turn, null-none, null_arm}
 use Rattle.register_arms.proofs.ChangeLaws.{halt_record, halt_int, halt_stored}
@@ -74,9 +69,9 @@ over f e = ap f (sym e)
 
 -- ---- a register that is read
 
-module _ {cs : List Cell} {base end i p : ℕ} (g : GetsNear cs base end i p) (lt : p < end) {c : Cell} (ce : c ≡ get_or cs p blank) where
-  pub near_reads : (v : Register) → v ≡ register_in c p → (a : IntMap) → a.base ≡ base → a.base + a.used ≡ end → {limit : ℕ} → Current limit cs a → Reads cs a i v
-  near_reads v ve a first last current = read_at cs a i (slot.At p) (g.is lt a first last (current_held current)) p refl c v ce ve
+module _ {cs : List Cell} {base end i p : ℕ} {near : Option ℕ} (g : GetsNear cs base end i near) (ge : near ≡ Some p) {c : Cell} (ce : c ≡ get_or cs p blank) where
+  pub near_reads : (v : Register) → v ≡ register_in c p → (a : IntMap) → a.base ≡ base → a.base + a.used ≡ end → {limit : ℕ} → Current limit cs a → Reads cs a i (Ok (Some v))
+  near_reads v ve a first last current = read_at cs a i (Ok (Some p)) (g.is p ge a first last (current_held current)) p refl c v ce ve
 
   -- and copied
   pub near_copied : {ds : List Cell} {j : ℕ} {r : Bool} → (tag_of c ≡ 2 → ⊥) → WritesNear cs ds base end j c r → LeadsNear cs ds base end (λ limit. copy_to limit (int_of i) (int_of j) (λ v. v)) r
@@ -84,19 +79,9 @@ module _ {cs : List Cell} {base end i p : ℕ} (g : GetsNear cs base end i p) (l
       record {
         yes = λ e a first last limit current.
             leads_as _ (carry_copy-one limit (int_of i) (int_of j))
-            (carry_copies limit cs a i current (slot.At p) (g.is lt a first last (current_held current)) false j p refl ds (stored.Done a) (stores-alone limit cs ds a p j c (stored.Done a) ce plain (w.yes e a first last limit current.room)) refl);
+            (carry_copies limit cs a i current (Ok (Some p)) (g.is p ge a first last (current_held current)) false j p refl ds (Ok a) (stores-alone limit cs ds a p j c (Ok a) ce plain (w.yes e a first last limit current.room)) refl);
         no = w.no;
       }
-
--- what a cell says can be read
-pub in_good : (c : Cell) (p : ℕ) (v : Register) → v ≡ register_in c p → is_bad v ≡ false
-unfolding register_in
-in_good c p v e = ap is_bad e ∙ go (eqb (tag_of c) 1) (eqb (tag_of c) 2)
-  where
-    go : (s t : Bool) → is_bad (pick s (register.Single (kind_of c) (nullable_of c)) (pick t (register.Record p) (register.Int c.payload))) ≡ false
-    go true t = refl
-    go false true = refl
-    go false false = refl
 
 -- ---- arms
 
@@ -134,12 +119,12 @@ module _ {cs ds : List Cell} {base end i j k : ℕ} {r : Bool} where
       over (λ n. store_register limit (int_of n) (Int (int_of i)) m) ops.second ∙ over (λ n. store_register limit (int_of x.p2) (Int (int_of n)) m) ops.first ∙ integer_arm limit meaning l x s jd m)
 
   -- a constant
-  pub constant_near : (d : DataType) → LeadsNear cs ds base end (λ limit. store_register limit (int_of j) (Column (Single d (get_or nullables 1 none)))) r → ArmNear cs ds base end i j k (op_constant d) r
+  pub constant_near : (d : DataType) → LeadsNear cs ds base end (λ limit. store_register limit (int_of j) (Column (Single d (get_or nullables 1 None)))) r → ArmNear cs ds base end i j k (op_constant d) r
   constant_near d w =
       arm_as w (λ x ops limit meaning l s jd m. over (λ n. store_register limit (int_of n) (never_null d) m) ops.second ∙ constant_arm limit meaning l x s jd m d)
 
   -- Variable, and Null of one
-  module _ (w : LeadsNear cs ds base end (λ limit. store_register limit (int_of j) (Column (Single Null (get_or nullables 2 none)))) r) where
+  module _ (w : LeadsNear cs ds base end (λ limit. store_register limit (int_of j) (Column (Single Null (get_or nullables 2 None)))) r) where
     pub variable_near : ArmNear cs ds base end i j k op_variable r
     variable_near = arm_as w (λ x ops limit meaning l s jd m. over (λ n. store_register limit (int_of n) (Column null) m) ops.second ∙ variable_arm limit meaning l x s jd m)
 
@@ -153,29 +138,29 @@ module _ {cs ds : List Cell} {base end i j k : ℕ} {r : Bool} where
 
 -- the operations on two operands
 module _
-    {cs : List Cell} {base end i j p q : ℕ}
-    (gi : GetsNear cs base end i p) (pl : p < end) (gj : GetsNear cs base end j q) (ql : q < end)
+    {cs : List Cell} {base end i j p q : ℕ} {s t : Option ℕ}
+    (gi : GetsNear cs base end i s) (pl : s ≡ Some p) (gj : GetsNear cs base end j t) (ql : t ≡ Some q)
     {c d : Cell} (ce : c ≡ get_or cs p blank) (de : d ≡ get_or cs q blank)
     (u v : Register) (ue : u ≡ register_in c p) (ve : v ≡ register_in d q)
   where
-    pub arithmetic_near : {ds : List Cell} {k : ℕ} {r : Bool} (s t e : DataType) (n : ℕ) → e ≡ first_datatype s t → IsDatatype u s → IsDatatype v t → AreNullable u v n → LeadsNear cs ds base end (λ limit. store_register limit (int_of k) (Column (Single e (get_or nullables n none)))) r → ArmNear cs ds base end i j k op_arithmetic r
+    pub arithmetic_near : {ds : List Cell} {k : ℕ} {r : Bool} (s t e : DataType) (n : ℕ) → e ≡ first_datatype s t → IsDatatype (Some u) s → IsDatatype (Some v) t → AreNullable (Some u) (Some v) n → LeadsNear cs ds base end (λ limit. store_register limit (int_of k) (Column (Single e (get_or nullables n None)))) r → ArmNear cs ds base end i j k op_arithmetic r
     arithmetic_near s t e n first us vt both w =
         arm_where w
         (λ yes x ops a from to limit current meaning l st jd bound m h.
-        over (λ z. store_register limit (int_of z) (Column (Single e (get_or nullables n none))) m) ops.third
-        ∙ operands_stored limit meaning l x st jd cs a u v (subst (λ z. Reads cs a z u) (sym ops.first) (near_reads gi pl ce u ue a from to current)) bound m h (subst (λ z. Reads cs a z v) (sym ops.second) (near_reads gj ql de v ve a from to current)) (in_good c p u ue) (in_good d q v ve) s t e n first us vt both)
+        over (λ z. store_register limit (int_of z) (Column (Single e (get_or nullables n None))) m) ops.third
+        ∙ operands_stored limit meaning l x st jd cs a (Ok (Some u)) (Ok (Some v)) (subst (λ z. Reads cs a z (Ok (Some u))) (sym ops.first) (near_reads gi pl ce u ue a from to current)) bound m h (subst (λ z. Reads cs a z (Ok (Some v))) (sym ops.second) (near_reads gj ql de v ve a from to current)) (Some u) refl (Some v) refl s t e n first us vt both)
 
 -- HaltIfNull
-module _ {cs : List Cell} {base end k p : ℕ} (g : GetsNear cs base end k p) (lt : p < end) {c : Cell} (ce : c ≡ get_or cs p blank) (v : Register) (ve : v ≡ register_in c p) where
-  reads : {i j : ℕ} (x : Row) → Operands x i j k → (a : IntMap) → a.base ≡ base → a.base + a.used ≡ end → {limit : ℕ} → Current limit cs a → Reads cs a x.p3 v
-  reads x ops a first last current = subst (λ z. Reads cs a z v) (sym ops.third) (near_reads g lt ce v ve a first last current)
+module _ {cs : List Cell} {base end k p : ℕ} {near : Option ℕ} (g : GetsNear cs base end k near) (ge : near ≡ Some p) {c : Cell} (ce : c ≡ get_or cs p blank) (v : Register) (ve : v ≡ register_in c p) where
+  reads : {i j : ℕ} (x : Row) → Operands x i j k → (a : IntMap) → a.base ≡ base → a.base + a.used ≡ end → {limit : ℕ} → Current limit cs a → Reads cs a x.p3 (Ok (Some v))
+  reads x ops a first last current = subst (λ z. Reads cs a z (Ok (Some v))) (sym ops.third) (near_reads g ge ce v ve a first last current)
 
-  pub halt_near : (kind n : ℕ) (d : DataType) → v ≡ register.Single kind n → d ≡ get_or datatypes kind Null → {ds : List Cell} {r : Bool} → LeadsNear cs ds base end (λ limit. store_register limit (int_of k) (Column (Single d (get_or nullables 1 none)))) r → {i j : ℕ} → ArmNear cs ds base end i j k op_halt_if_null r
+  pub halt_near : (kind n : ℕ) (d : DataType) → v ≡ register.Single kind n → d ≡ get_or datatypes kind Null → {ds : List Cell} {r : Bool} → LeadsNear cs ds base end (λ limit. store_register limit (int_of k) (Column (Single d (get_or nullables 1 None)))) r → {i j : ℕ} → ArmNear cs ds base end i j k op_halt_if_null r
   halt_near kind n d e de w =
       arm_where w
       (λ yes x ops a first last limit current meaning l s jd bound m h.
-      over (λ z. store_register limit (int_of z) (Column (Single d (get_or nullables 1 none))) m) ops.third
-      ∙ halt_stored limit meaning l x s jd cs a v bound m h (reads x ops a first last current) kind n d e de)
+      over (λ z. store_register limit (int_of z) (Column (Single d (get_or nullables 1 None))) m) ops.third
+      ∙ halt_stored limit meaning l x s jd cs a (Ok (Some v)) bound m h (reads x ops a first last current) kind n d (ap (λ q. Ok (Some q)) e) de)
 
   -- what is no plain column stays
   module _ {i j : ℕ} where
@@ -187,7 +172,7 @@ module _ {cs : List Cell} {base end k p : ℕ} (g : GetsNear cs base end k p) (l
         }
 
     pub halt_at_record : (at : ℕ) → v ≡ register.Record at → ArmNear cs cs base end i j k op_halt_if_null true
-    halt_at_record at e = stays (λ x ops a first last limit current meaning l s jd bound m h. halt_record limit meaning l x s jd cs a v bound m h (reads x ops a first last current) at e)
+    halt_at_record at e = stays (λ x ops a first last limit current meaning l s jd bound m h. halt_record limit meaning l x s jd cs a (Ok (Some v)) bound m h (reads x ops a first last current) at (ap (λ q. Ok (Some q)) e))
 
     pub halt_at_int : (n : ℕ) → v ≡ register.Int n → ArmNear cs cs base end i j k op_halt_if_null true
-    halt_at_int n e = stays (λ x ops a first last limit current meaning l s jd bound m h. halt_int limit meaning l x s jd cs a v bound m h (reads x ops a first last current) n e)
+    halt_at_int n e = stays (λ x ops a first last limit current meaning l s jd bound m h. halt_int limit meaning l x s jd cs a (Ok (Some v)) bound m h (reads x ops a first last current) n (ap (λ q. Ok (Some q)) e))

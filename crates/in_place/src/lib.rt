@@ -11,7 +11,6 @@ ghost use Rattle.rows.specs.Rows.{Operand};
 ghost use Rattle.state.specs.Own.{HeldAmong, LeadsNear};
 ghost use Rattle.in_place.specs.InPlace.{ArmNear, RegisterNear, TableNear, ColumnNear, CursorNear, ReadyAt, WithinListing, JumpNear, HandlesNear};
 
-use intmap::Index;
 use state::Register;
 use type_info::DataType;
 
@@ -20,10 +19,9 @@ fn copy(area: &mut [u8], base: usize, end: usize, i: u64, j: u64) -> bool
     requires { HeldAmong (cells area.old) base end }
     ensures { LeadsNear (cells area.old) (cells area.new) base end (λ limit. copy_to limit (int_of i) (int_of j) (λ v. v)) result }
 {
-    let p = state::register_near(area, base, end, i);
-    if end <= p {
+    let Some(p) = state::register_near(area, base, end, i) else {
         return false;
-    }
+    };
     let c = area::cell_at(area, p);
     if intmap::tag_of(c) == intmap::RECORD {
         return false;
@@ -47,19 +45,17 @@ fn arithmetic(area: &mut [u8], base: usize, end: usize, i: u64, j: u64, k: u64) 
     requires { HeldAmong (cells area.old) base end }
     ensures { ArmNear (cells area.old) (cells area.new) base end i j k op_arithmetic result }
 {
-    let p = state::register_near(area, base, end, i);
-    if end <= p {
+    let Some(p) = state::register_near(area, base, end, i) else {
         return false;
-    }
-    let q = state::register_near(area, base, end, j);
-    if end <= q {
+    };
+    let Some(q) = state::register_near(area, base, end, j) else {
         return false;
-    }
+    };
     let a = state::register_in(area::cell_at(area, p), p);
     let b = state::register_in(area::cell_at(area, q), q);
     let d = register_arms::first_datatype(
-        register_arms::map_to_datatype(a),
-        register_arms::map_to_datatype(b),
+        register_arms::map_to_datatype(Some(a)),
+        register_arms::map_to_datatype(Some(b)),
     );
     state::single_near(
         area,
@@ -67,7 +63,7 @@ fn arithmetic(area: &mut [u8], base: usize, end: usize, i: u64, j: u64, k: u64) 
         end,
         k,
         d,
-        register_arms::operands_nullable(a, b),
+        register_arms::operands_nullable(Some(a), Some(b)),
     )
 }
 
@@ -76,14 +72,11 @@ fn halt_if_null(area: &mut [u8], base: usize, end: usize, k: u64) -> bool
     requires { HeldAmong (cells area.old) base end }
     ensures { (i j : ℕ) → ArmNear (cells area.old) (cells area.new) base end i j k op_halt_if_null result }
 {
-    let p = state::register_near(area, base, end, k);
-    if end <= p {
+    let Some(p) = state::register_near(area, base, end, k) else {
         return false;
-    }
+    };
     let v = state::register_in(area::cell_at(area, p), p);
     match v {
-        Register::Bad(_) => false,
-        Register::Absent => false,
         Register::Single(kind, _) => {
             state::single_near(
                 area,
@@ -133,31 +126,24 @@ fn register(area: &mut [u8], base: usize, end: usize, op: u8, i: u64, j: u64, k:
     }
 }
 
-// Where the head of the table is that cursor i is on, if both are among the last entries, or `end`.
-fn table(area: &[u8], base: usize, end: usize, i: u64) -> usize
+// Where the head of the table is that cursor i is on, if both are among the last entries.
+fn table(area: &[u8], base: usize, end: usize, i: u64) -> Option<usize>
     requires { HeldAmong (cells area.now) base end }
     ensures { TableNear (cells area.now) base end i result }
 {
-    let x = intmap::judge_index(i);
-    let Index::At(k) = x else {
-        return end;
+    let Ok(k) = intmap::judge_index(i) else {
+        return None;
     };
-    let p = state::last_near(area, base, end, cursor_arms::CURSORS, k);
-    if end <= p {
-        return end;
-    }
+    let p = state::last_near(area, base, end, intmap::Class::Cursors, k)?;
     let c = area::cell_at(area, p);
     if intmap::tag_of(c) != intmap::NORMAL {
-        return end;
+        return None;
     }
-    let q = state::last_near(area, base, end, cursor_arms::TABLES, c.payload % 65536);
-    if end <= q {
-        return end;
-    }
+    let q = state::last_near(area, base, end, intmap::Class::Tables, c.payload % 65536)?;
     if intmap::tag_of(area::cell_at(area, q)) != intmap::RECORD {
-        return end;
+        return None;
     }
-    q
+    Some(q)
 }
 
 // Stores the column of a key, in a table of columns of one cell each whose head is at p, over register j's own cell.
@@ -187,34 +173,32 @@ fn column(area: &mut [u8], base: usize, end: usize, i: u64, j: u64, k: u64) -> b
     requires { HeldAmong (cells area.old) base end }
     ensures { CursorNear (cells area.old) (cells area.new) base end i j k op_column result }
 {
-    let x = intmap::judge_index(j);
-    let Index::At(key) = x else {
+    let Ok(key) = intmap::judge_index(j) else {
         return false;
     };
-    if end <= state::register_near(area, base, end, k) {
+    if state::register_near(area, base, end, k).is_none() {
         return false;
     }
-    let p = table(area, base, end, i);
-    if end <= p {
+    let Some(p) = table(area, base, end, i) else {
         return false;
-    }
+    };
     column_at(area, base, end, p, key, k)
 }
 
-// A row of the listing, or 0.
-fn listed(row: u64, n: usize) -> u64
+// A row, if it is one of the listing's.
+fn listed(row: u64, n: usize) -> Option<u64>
     ensures { WithinListing row n result }
 {
     if row < intmap::ZERO {
-        return 0;
+        return None;
     }
     if n as u64 <= row - intmap::ZERO {
-        return 0;
+        return None;
     }
-    row
+    Some(row)
 }
 
-// The arms that name the next row, by P1, P2 and P3: where they go, or 0.
+// The arms that name the next row, by P1, P2 and P3: where they go, if they are met.
 fn jump(
     area: &mut [u8],
     at: u64,
@@ -225,7 +209,7 @@ fn jump(
     j: u64,
     k: u64,
     n: usize,
-) -> u64
+) -> Option<u64>
     requires { ReadyAt (cells area.old) at base end op i j k }
     ensures { JumpNear (cells area.old) (cells area.new) at base end op i j k n result }
 {
@@ -233,30 +217,24 @@ fn jump(
         return listed(j, n);
     }
     if op == opcode::OP_GOSUB {
-        let next = listed(j, n);
-        if next == 0 {
-            return 0;
-        }
+        let next = listed(j, n)?;
         if state::int_near(area, base, end, i, at) {
-            return next;
+            return Some(next);
         }
-        return 0;
+        return None;
     }
     if op != opcode::OP_INIT_COROUTINE {
-        return 0;
+        return None;
     }
-    let next = listed(jump_arms::init_coroutine_to(at, j), n);
-    if next == 0 {
-        return 0;
-    }
+    let next = listed(jump_arms::init_coroutine_to(at, j), n)?;
     if state::int_near(area, base, end, i, k) {
-        return next;
+        return Some(next);
     }
-    0
+    None
 }
 
 // Handles the row of this number and these operands, at the state that stands on `at` and whose map is from `base` on and before `end`: the row of
-// the listing's n that it goes on to, or 0, if it is not handled so. The map is as it was.
+// the listing's n that it goes on to, if it is handled so. The map is as it was.
 pub fn next_row(
     area: &mut [u8],
     at: u64,
@@ -267,7 +245,7 @@ pub fn next_row(
     j: u64,
     k: u64,
     n: usize,
-) -> u64
+) -> Option<u64>
     requires { ReadyAt (cells area.old) at base end op i j k }
     ensures { HandlesNear (cells area.old) (cells area.new) at base end op i j k n result }
 {
@@ -277,21 +255,18 @@ pub fn next_row(
     if op < opcode::OP_IF_POS {
         return jump(area, at, base, end, op, i, j, k, n);
     }
-    let next = listed(at + 1, n);
-    if next == 0 {
-        return 0;
-    }
+    let next = listed(at + 1, n)?;
     if op < opcode::OP_COLUMN {
         if register(area, base, end, op, i, j, k) {
-            return next;
+            return Some(next);
         }
-        return 0;
+        return None;
     }
     if opcode::OP_COLUMN < op {
-        return 0;
+        return None;
     }
     if column(area, base, end, i, j, k) {
-        return next;
+        return Some(next);
     }
-    0
+    None
 }

@@ -11,12 +11,12 @@ use Rattle.intmap.specs.Swap.{lookup}
 use Rattle.intmap.specs.Find.{seek}
 use Rattle.intmap.specs.Map.{levels, runs_at, IsMap}
 use Rattle.intmap.specs.Signed.{int_of}
-use Rattle.intmap.specs.Get.{index_of, read_runs, Gets}
+use Rattle.std.specs.Prelude.{Some, None, Ok, Err}
+use Rattle.refusal.specs.Numbers.{number_of}
+use Rattle.refusal.specs.declared.Refusal.{Refusal}
+use Rattle.intmap.specs.Get.{Index, index_of, read_runs, Gets}
 use Rattle.intmap.specs.declared.Found.{Found}
 use Rattle.intmap.specs.declared.IntMap.{IntMap}
-use Rattle.intmap.specs.declared.Index.{Index}
-use Rattle.intmap.specs.declared.Index.TheVariants as index_is
-use Rattle.intmap.specs.declared.Slot.TheVariants as slot
 use Rattle.intmap.proofs.Swapped.{seek_some, seek_none}
 use Rattle.intmap.proofs.StoreLaws.{found_in, found_all}
 
@@ -26,18 +26,18 @@ module _ (cs : List Cell) (m : IntMap) (class i : ℕ) (x : Index) (ix : index_o
   unfolding read_runs
   looked t e = ap (λ (y : Tried ℕ). y >>= λ k. done (lookup (class_key class k) (runs_at cs m))) (sym e ∙ ix)
 
-  pub get_bad : (n : ℕ) → x ≡ index_is.Bad n → Gets cs m class i (slot.Bad n)
-  get_bad n e = record { answer = looked (refused n) (ap index_of e); place = tt }
+  pub get_bad : (n : Refusal) → x ≡ Err n → Gets cs m class i (Err n)
+  get_bad n e = record { answer = looked (refused (number_of n)) (ap index_of e); place = tt }
 
-  module _ (is : IsMap cs m) (k : ℕ) (e : x ≡ index_is.At k) (w : Found) (we : w ≡ seek cs levels (class_key class k) m.len m.base) where
-    pub get_absent : w.present ≡ false → Gets cs m class i slot.Absent
+  module _ (is : IsMap cs m) (k : ℕ) (e : x ≡ Ok k) (w : Found) (we : w ≡ seek cs levels (class_key class k) m.len m.base) where
+    pub get_absent : w.present ≡ false → Gets cs m class i (Ok None)
     get_absent h =
         record {
           answer = ap done (sym (seek_none cs levels (class_key class k) m.len m.base (rw we at h))) ∙ looked (done k) (ap index_of e);
           place = tt;
         }
 
-    pub get_at : w.present ≡ true → Gets cs m class i (slot.At w.at)
+    pub get_at : w.present ≡ true → Gets cs m class i (Ok (Some w.at))
     get_at h =
         record {
           answer = ap done (rw we (sym (seek_some cs levels (class_key class k) m.len m.base (rw we at h)))) ∙ looked (done k) (ap index_of e);

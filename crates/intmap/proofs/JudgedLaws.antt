@@ -1,5 +1,5 @@
 -- The laws of stores and removals by an index: the index is judged first, then a run's depth, then the cells. Assumes nothing.
-use mathlib.Core.Path.{◌≡◌, refl, sym, ap, subst, ◌∙◌}
+use mathlib.Core.Path.{◌≡◌, sym, ap, ◌∙◌}
 use mathlib.Core.List.{List, []}
 use mathlib.Core.Bool.{Bool}
 use Prim.Native.Nat.{ℕ, ◌<◌, ◌≤◌}
@@ -14,15 +14,13 @@ use Rattle.intmap.specs.Swap.{swap}
 use Rattle.intmap.specs.Map.{runs_at, IsMap, HasRoom}
 use Rattle.intmap.specs.Change.{rekey}
 use Rattle.intmap.specs.Signed.{int_of}
-use Rattle.intmap.specs.Get.{index_of}
-use Rattle.intmap.specs.Store.{put, judge_runs, answer_of, Leaves, Inserts, Removes, store_at, store_runs, remove_runs, stored_of, as_stored, StoreLeaves, Stores, RemovesAt}
+use Rattle.std.specs.Prelude.{Ok, Err}
+use Rattle.refusal.specs.Numbers.{number_of}
+use Rattle.refusal.specs.declared.Refusal.{Refusal}
+use Rattle.refusal.specs.declared.Refusal.TheVariants.{TooDeep}
+use Rattle.intmap.specs.Get.{Index, index_of}
+use Rattle.intmap.specs.Store.{put, judge_runs, Stored, Inserts, Removes, store_at, store_runs, remove_runs, Stores, RemovesAt}
 use Rattle.intmap.specs.declared.IntMap.{IntMap}
-use Rattle.intmap.specs.declared.Index.{Index}
-use Rattle.intmap.specs.declared.Index.TheVariants as index_is
-use Rattle.intmap.specs.declared.Insertion.{Insertion}
-use Rattle.intmap.specs.declared.Insertion.TheVariants as insertion
-use Rattle.intmap.specs.declared.Stored.{Stored}
-use Rattle.intmap.specs.declared.Stored.TheVariants as stored
 use Rattle.intmap.proofs.StoreLaws.{frame_same, removed_map}
 
 -- a run that is too deep, and one that is not
@@ -35,15 +33,6 @@ module _ (limit key depth : ℕ) (run : List Cell) (es : Runs) where
   unfolding store_at judge_depth
   store_flat h = ap (λ (b : Bool). depth_if b run >>= λ v. judge_runs limit (put (rekey key v) es)) (sym (le-leb depth 8 h))
 
--- an insertion's answer with 01's number says the same
-told : (ds : List Cell) (x : Insertion) → stored_of ds (as_stored x) ≡ answer_of ds x
-told ds insertion.Full = refl
-told ds (insertion.Done r) = refl
-
-told_leaves : (cs ds : List Cell) (limit : ℕ) (m : IntMap) (x : Insertion) → Leaves cs ds limit m x → StoreLeaves cs ds limit m (as_stored x)
-told_leaves cs ds limit m insertion.Full l = l
-told_leaves cs ds limit m (insertion.Done r) l = l
-
 -- ---- a store
 module _ (cs ds : List Cell) (limit : ℕ) (m : IntMap) (class i depth : ℕ) (run : List Cell) (x : Index) (ix : index_of x ≡ index (int_of i)) where
   -- what is tried, once the index is known
@@ -51,11 +40,11 @@ module _ (cs ds : List Cell) (limit : ℕ) (m : IntMap) (class i depth : ℕ) (r
   unfolding store_runs
   tried t e = ap (λ (y : Tried ℕ). y >>= λ k. store_at limit (class_key class k) depth run (runs_at cs m)) (sym e ∙ ix)
 
-  pub store_bad : (n : ℕ) → x ≡ index_is.Bad n → ds ≡ cs → Stores cs ds limit m class i depth run (stored.Refused n)
-  store_bad n e s = record { answer = tried (refused n) (ap index_of e); leaves = s; frame = frame_same cs ds m.base limit s }
+  pub store_bad : (n : Refusal) → x ≡ Err n → ds ≡ cs → Stores cs ds limit m class i depth run (Err n)
+  store_bad n e s = record { answer = tried (refused (number_of n)) (ap index_of e); leaves = s; frame = frame_same cs ds m.base limit s }
 
-  module _ (k : ℕ) (e : x ≡ index_is.At k) where
-    pub store_nested : 8 < depth → ds ≡ cs → Stores cs ds limit m class i depth run (stored.Refused 9)
+  module _ (k : ℕ) (e : x ≡ Ok k) where
+    pub store_nested : 8 < depth → ds ≡ cs → Stores cs ds limit m class i depth run (Err TooDeep)
     store_nested h s =
         record {
           answer = store_deep limit (class_key class k) depth run (runs_at cs m) h ∙ tried (done k) (ap index_of e);
@@ -63,12 +52,12 @@ module _ (cs ds : List Cell) (limit : ℕ) (m : IntMap) (class i depth : ℕ) (r
           frame = frame_same cs ds m.base limit s;
         }
 
-    pub store_tried : (key : ℕ) (new : List Cell) (y : Insertion) (r : Stored) → depth ≤ 8 → key ≡ class_key class k → new ≡ rekey key run → Inserts cs ds limit m new y → r ≡ as_stored y → Stores cs ds limit m class i depth run r
-    store_tried key new y r h ke ne ins re =
+    pub store_tried : (key : ℕ) (new : List Cell) (r : Stored) → depth ≤ 8 → key ≡ class_key class k → new ≡ rekey key run → Inserts cs ds limit m new r → Stores cs ds limit m class i depth run r
+    store_tried key new r h ke ne ins =
         let new' : put new (runs_at cs m) ≡ put (rekey (class_key class k) run) (runs_at cs m) = ap (λ (l : List Cell). put l (runs_at cs m)) (ne ∙ ap (λ (z : ℕ). rekey z run) ke) in
         record {
-          answer = ap (stored_of ds) re ∙ told ds y ∙ ins.answer ∙ ap (judge_runs limit) new' ∙ store_flat limit (class_key class k) depth run (runs_at cs m) h ∙ tried (done k) (ap index_of e);
-          leaves = subst (StoreLeaves cs ds limit m) (sym re) (told_leaves cs ds limit m y ins.leaves);
+          answer = ins.answer ∙ ap (judge_runs limit) new' ∙ store_flat limit (class_key class k) depth run (runs_at cs m) h ∙ tried (done k) (ap index_of e);
+          leaves = ins.leaves;
           frame = ins.frame;
         }
 
@@ -78,10 +67,10 @@ module _ (cs ds : List Cell) (m : IntMap) (class i : ℕ) (x : Index) (ix : inde
   unfolding remove_runs
   taken t e = ap (λ (y : Tried ℕ). y >>= λ k. done (swap (class_key class k) [] (runs_at cs m))) (sym e ∙ ix)
 
-  pub removal_bad : (n : ℕ) → x ≡ index_is.Bad n → ds ≡ cs → RemovesAt cs ds m class i (stored.Refused n)
-  removal_bad n e s = record { answer = taken (refused n) (ap index_of e); leaves = s; frame = frame_same cs ds m.base m.used s }
+  pub removal_bad : (n : Refusal) → x ≡ Err n → ds ≡ cs → RemovesAt cs ds m class i (Err n)
+  removal_bad n e s = record { answer = taken (refused (number_of n)) (ap index_of e); leaves = s; frame = frame_same cs ds m.base m.used s }
 
-  pub removal_done : (k key : ℕ) (r : IntMap) → x ≡ index_is.At k → key ≡ class_key class k → IsMap cs m → Removes cs ds m key r → RemovesAt cs ds m class i (stored.Done r)
+  pub removal_done : (k key : ℕ) (r : IntMap) → x ≡ Ok k → key ≡ class_key class k → IsMap cs m → Removes cs ds m key r → RemovesAt cs ds m class i (Ok r)
   removal_done k key r e ke is d =
       record {
         answer = ap done (d.runs ∙ ap (λ (z : ℕ). swap z [] (runs_at cs m)) ke) ∙ taken (done k) (ap index_of e);
@@ -90,7 +79,7 @@ module _ (cs ds : List Cell) (m : IntMap) (class i : ℕ) (x : Index) (ix : inde
       }
 
 -- what a removal leaves has the room that there was
-pub fewer_room : (cs ds : List Cell) (limit : ℕ) (m : IntMap) (class i : ℕ) (r : IntMap) → HasRoom cs limit m → RemovesAt cs ds m class i (stored.Done r) → HasRoom ds limit r
+pub fewer_room : (cs ds : List Cell) (limit : ℕ) (m : IntMap) (class i : ℕ) (r : IntMap) → HasRoom cs limit m → RemovesAt cs ds m class i (Ok r) → HasRoom ds limit r
 fewer_room cs ds limit m class i r has d =
     record {
       used = d.leaves.map.used;

@@ -12,6 +12,7 @@ use Rattle.area.specs.Cells.{blank}
 use Rattle.area.specs.Moves.{moved}
 use Rattle.area.specs.declared.Cell.{Cell}
 use Rattle.area.proofs.MoveLaws.{length_moved, moved_same, moved_below, moved_above, moved_in}
+use Rattle.std.specs.Prelude.{Ok}
 use Rattle.intmap.specs.Pack.{tag_of, key_of, with_key}
 use Rattle.intmap.specs.Runs.{size, sizes, IsColumn, Agree}
 use Rattle.intmap.specs.Entries.{span, entries, key_run}
@@ -21,8 +22,6 @@ use Rattle.intmap.specs.Change.{rekey}
 use Rattle.intmap.specs.Over.{Plain, ArePlain, Overlaid, Coverable, CopiesOver}
 use Rattle.intmap.specs.Store.{Opens, Inserts}
 use Rattle.intmap.specs.declared.IntMap.{IntMap}
-use Rattle.intmap.specs.declared.Place.TheVariants as place
-use Rattle.intmap.specs.declared.Insertion.TheVariants as insertion
 use Rattle.intmap.proofs.EntryLaws.{length-span, span_same, entries_few}
 use Rattle.intmap.proofs.PackLaws.{keyed_tag}
 use Rattle.intmap.proofs.RunLaws.{size-single, size_record}
@@ -144,14 +143,13 @@ copied_it {cs} {ms} {ds} {from} {to} {c} column tag same load d de tag' load' so
 module _ (cs ds : List Cell) (limit : ℕ) (m : IntMap) (key p : ℕ) (run : List Cell) (has : HasRoom cs limit m)
     (here : (seek cs levels key m.len m.base).at ≡ p) (present : (seek cs levels key m.len m.base).present ≡ true) (keyed : key_run run ≡ key) (over : Overlaid cs ds p run)
   where
-    opens : Opens cs cs limit m (seek cs levels key m.len m.base) (length run) (place.At p m)
+    opens : Opens cs cs limit m (seek cs levels key m.len m.base) (length run) (Ok m)
     opens =
         let w = seek cs levels key m.len m.base in
         let n = length run in
         let few = found_all cs m key w (room_map has) refl present in
-        opened_old cs cs limit m w w n (place.At p m) refl n present (sym (ap (size cs levels) here ∙ over.was))
+        opened_old cs cs limit m w w n (Ok m) refl n present (sym (ap (size cs levels) here ∙ over.was))
         (record {
-          here = sym here;
           base = refl;
           len = refl;
           used = omega (arith, few, here, ap (size cs levels) here, over.was, (found_in cs m key w (room_map has) refl).0);
@@ -160,10 +158,10 @@ module _ (cs ds : List Cell) (limit : ℕ) (m : IntMap) (key p : ℕ) (run : Lis
           long = refl;
         })
 
-    pub overwritten_run : Inserts cs ds limit m run (insertion.Done m)
+    pub overwritten_run : Inserts cs ds limit m run (Ok m)
     unfolding entries
     overwritten_run =
-        stored_done cs cs limit m key (length run) (place.At p m) has opens ds run p m keyed refl refl
+        stored_done cs cs limit m key (length run) (Ok m) has opens ds run p m keyed refl (sym here) refl
         over.frame.below
         (λ j. let x : 1 + j ≡ suc j = omega arith in rw (x, over.is) (ap (λ (l : List Cell). l ∷ entries ds levels j (p + length run)) over.stands))
         over.frame.above

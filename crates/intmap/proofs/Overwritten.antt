@@ -12,6 +12,7 @@ use lib.Seq.{get_or-set_same, get_or-set_other}
 use Rattle.area.specs.Cells.{blank}
 use Rattle.area.specs.declared.Cell.{Cell}
 use Rattle.area.proofs.MoveLaws.{moved_same}
+use Rattle.std.specs.Prelude.{Ok}
 use Rattle.intmap.specs.Alike.{Alike}
 use Rattle.intmap.specs.Entries.{key_run}
 use Rattle.intmap.specs.Find.{seek}
@@ -20,8 +21,6 @@ use Rattle.intmap.specs.Pack.{tag_of, key_of}
 use Rattle.intmap.specs.Runs.{size, sizes, whole}
 use Rattle.intmap.specs.Store.{Opens, Inserts}
 use Rattle.intmap.specs.declared.IntMap.{IntMap}
-use Rattle.intmap.specs.declared.Place.TheVariants as place
-use Rattle.intmap.specs.declared.Insertion.TheVariants as insertion
 use Rattle.intmap.proofs.FindLaws.{seek-pos}
 use Rattle.intmap.proofs.RunLaws.{size-single}
 use Rattle.intmap.proofs.StoreLaws.{room_map, few_entries, opened_old, cell_done}
@@ -89,12 +88,11 @@ module _ (cs ds : List Cell) (limit : ℕ) (m : IntMap) (key p : ℕ) (c : Cell)
     one : size cs levels p ≡ 1
     one = sym (size-single cs levels p (get_or cs p blank) refl old)
 
-    opens : Opens cs cs limit m (seek cs levels key m.len m.base) 1 (place.At p m)
+    opens : Opens cs cs limit m (seek cs levels key m.len m.base) 1 (Ok m)
     opens =
         let w = seek cs levels key m.len m.base in
-        opened_old cs cs limit m w w 1 (place.At p m) refl 1 present (sym (ap (size cs levels) here ∙ one))
+        opened_old cs cs limit m w w 1 (Ok m) refl 1 present (sym (ap (size cs levels) here ∙ one))
         (record {
-          here = sym here;
           base = refl;
           len = refl;
           used = omega (arith, seek-pos cs levels key m.len m.base present, few_entries cs m (room_map has));
@@ -103,6 +101,6 @@ module _ (cs ds : List Cell) (limit : ℕ) (m : IntMap) (key p : ℕ) (c : Cell)
           long = refl;
         })
 
-    pub overwritten : Inserts cs ds limit m (c ∷ []) (insertion.Done m)
+    pub overwritten : Inserts cs ds limit m (c ∷ []) (Ok m)
     unfolding key_run
-    overwritten = cell_done cs cs limit m c key (place.At p m) has new keyed opens ds p m refl e
+    overwritten = cell_done cs cs limit m c key (Ok m) has new keyed opens ds p m (sym here) refl e

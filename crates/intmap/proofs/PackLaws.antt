@@ -1,5 +1,7 @@
 -- Packing and then reading a head gives its parts back, so that equal heads have equal parts; another key or nullable changes that part alone.
 -- Assumes nothing.
+use Rattle.intmap.specs.declared.Class.TheVariants.{Registers, Cursors, Tables}
+use Rattle.intmap.specs.declared.Class.{Class}
 use mathlib.Core.Path.{◌≡◌, refl, sym, ap, ◌∙◌}
 use mathlib.Core.Bool.{Bool, true, false}
 use Prim.Native.Nat.{ℕ, ◌-◌, ◌*◌, ◌/◌, ◌%◌, ◌<◌, ◌≤◌}
@@ -8,7 +10,7 @@ use lib.Dec.{eqb, leb, ltb}
 use borrow.Author.Tests.{leb-true, leb-false, le-leb, lt-leb, ltb-true, ltb-false, eq-eqb, ne_eqb}
 use Rattle.area.specs.Cells.{cell}
 use Rattle.area.specs.declared.Cell.{Cell}
-use Rattle.intmap.specs.Pack.{head, tag_of, key_of, with_key, with_nullable}
+use Rattle.intmap.specs.Pack.{head, tag_of, key_of, with_key, with_nullable, class_number}
 
 module _ (tag kind nullable key : ℕ) (t : tag < 256) where
   pub head_tag : head tag kind nullable key % 256 ≡ tag
@@ -60,3 +62,8 @@ module _ (c : Cell) (key low : ℕ) (le : low ≡ 16777216 * key) where
       go : (b : Bool) → ltb (c.head - low) 16777216 ≡ b → b ≡ eqb (key_of c) key
       go true e = let l = ltb-true (c.head - low) 16777216 e in sym (eq-eqb (key_of c) key (omega arith))
       go false e = let l = ltb-false (c.head - low) 16777216 e in sym (ne_eqb (key_of c) key (λ q. omega arith))
+
+pub class_small : (c : Class) → class_number c < 3
+class_small Registers = omega arith
+class_small Cursors = omega arith
+class_small Tables = omega arith

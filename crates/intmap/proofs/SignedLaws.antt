@@ -2,14 +2,13 @@
 -- Assumes nothing.
 use mathlib.Core.Path.{◌≡◌, refl, sym, ap, ap₂, subst, ◌∙◌}
 use mathlib.Core.Bool.{Bool, true, false, cond}
-use mathlib.Core.Option.{none}
+use Rattle.std.specs.Prelude.{None, slice_get}
 use mathlib.Core.List.{List}
 use Prim.Native.Nat.{ℕ, zero, suc, ◌+◌, ◌-◌, ◌%◌, ◌<◌, ◌≤◌}
 use native.Mathlib.Omega.{arith}
 use native.Mathlib.Decide.{dec_lt}
 use lib.Dec.{leb, ltb, eqb}
 use lib.IntN.{ℤ, pos, negsuc, suc_ℤ, pred_ℤ, sub_ℕ, ◌-ℤ◌}
-use lib.ListN.{get_elem?}
 use lib.Signed.{le_z}
 use borrow.Author.Tests.{ltb-true, lt-ltb, le-ltb, leb-true, le-leb, lt-leb, eqb-true, eq-eqb}
 use Rattle.model.specs.Walk.{refused, done}
@@ -53,11 +52,11 @@ module _ (w : ℕ) where
   unfolding count_of
   count_above h = ap count_of (int_above h)
 
-  pub row_below : (rows : List Row) → w < offset → row_at rows (int_of w) ≡ none
+  pub row_below : (rows : List Row) → w < offset → row_at rows (int_of w) ≡ None
   unfolding row_at
   row_below rows h = ap (row_at rows) (int_below h)
 
-  pub row_above : (rows : List Row) → offset ≤ w → row_at rows (int_of w) ≡ get_elem? rows (w - offset)
+  pub row_above : (rows : List Row) → offset ≤ w → row_at rows (int_of w) ≡ slice_get rows (w - offset)
   unfolding row_at
   row_above rows h = ap (row_at rows) (int_above h)
 

@@ -21,12 +21,13 @@ use Rattle.intmap.specs.Entries.{Runs, span, entries, key_run, total}
 use Rattle.intmap.specs.Swap.{swap, lookup}
 use Rattle.intmap.specs.Map.{levels, runs_at, IsMap, HasRoom, Frame}
 use Rattle.intmap.specs.Change.{rekey}
-use Rattle.intmap.specs.Store.{RoomMade, old_cells, new_len, NewAt, Opens, put, Inserts, RunAbove, Removes}
+use Rattle.std.specs.Prelude.{Ok, Err}
+use Rattle.refusal.specs.Numbers.{number_of}
+use Rattle.refusal.specs.declared.Refusal.{Refusal}
+use Rattle.refusal.specs.declared.Refusal.TheVariants.{TooManyCells}
+use Rattle.intmap.specs.Store.{RoomMade, old_cells, new_len, NewAt, Opens, put, Stored, Inserts, RunAbove, Removes}
 use Rattle.intmap.specs.declared.Found.{Found}
 use Rattle.intmap.specs.declared.IntMap.{IntMap}
-use Rattle.intmap.specs.declared.Place.{Place}
-use Rattle.intmap.specs.declared.Place.TheVariants as place
-use Rattle.intmap.specs.declared.Insertion.TheVariants as insertion
 use Rattle.intmap.proofs.RunLaws.{size-pos, size-single}
 use Rattle.intmap.proofs.SameCells.{size_same}
 use Rattle.intmap.proofs.FindLaws.{seek-pos, seek_behind, found_within, found-whole}
@@ -104,7 +105,7 @@ module _ (cs : List Cell) (m : IntMap) (key : ℕ) (w : Found) (is : IsMap cs m)
           swapped_new cs es levels key w.at k n rs before new m.len m.base (ap (λ (x : Found). x.at) (sym we)) (rw we at h) (λ j lt. subst (λ (x : ℕ). get_or es (w.at + n + j) blank ≡ get_or cs (x + j) blank) z (a j (omega (arith, is.used))))
 
 -- ---- room for an entry: the two ways of a search
-module _ (cs ds : List Cell) (limit : ℕ) (m : IntMap) (w v : Found) (n : ℕ) (r : Place) (we : w ≡ v) where
+module _ (cs ds : List Cell) (limit : ℕ) (m : IntMap) (w v : Found) (n : ℕ) (r : Stored) (we : w ≡ v) where
   pub opened_old : (old : ℕ) → w.present ≡ true → old ≡ size cs levels w.at → RoomMade cs ds limit m w.at old n m.len r → Opens cs ds limit m v n r
   opened_old old h l t =
       let o : old ≡ old_cells cs w = l ∙ ap (λ (b : Bool). pick b (size cs levels w.at) 0) (sym h) in
@@ -125,16 +126,16 @@ longer m n = record { base = m.base; len = m.len + 1; used = m.used + n }
 
 -- room for a new entry where a search led
 module _ (cs : List Cell) (limit : ℕ) (m : IntMap) (w v : Found) (n : ℕ) (we : w ≡ v) (absent : w.present ≡ false) where
-  pub new_full : limit < m.used + n → Opens cs cs limit m v n place.Full
-  new_full over = opened_new cs cs limit m w v n place.Full we absent (record { over = omega arith; same = refl })
+  pub new_full : limit < m.used + n → Opens cs cs limit m v n (Err TooManyCells)
+  new_full over = opened_new cs cs limit m w v n (Err TooManyCells) we absent (record { is = refl; over = omega arith; same = refl })
 
-  pub new_opened : m.used + n ≤ limit → (at : ℕ) → w.at ≡ at → (es : List Cell) → es ≡ moved cs at (at + n) (m.base + m.used - at) → Opens cs es limit m v n (place.At at (longer m n))
+  pub new_opened : m.used + n ≤ limit → (at : ℕ) → w.at ≡ at → (es : List Cell) → es ≡ moved cs at (at + n) (m.base + m.used - at) → Opens cs es limit m v n (Ok (longer m n))
   new_opened most at here es e =
       let from : at ≡ w.at + 0 = omega (arith, here) in
       let to : at + n ≡ w.at + n = omega (arith, here) in
       let rest : m.base + m.used - at ≡ m.base + m.used - w.at - 0 = omega (arith, here) in
-      opened_new cs es limit m w v n (place.At at (longer m n)) we absent
-      (record { here = sym here; base = refl; len = refl; used = omega arith; most = most; cells = e ∙ ap (λ f. moved cs f (at + n) (m.base + m.used - at)) from ∙ ap₂ (λ t k. moved cs (w.at + 0) t k) to rest; long = ap length e ∙ length_moved cs at (at + n) (m.base + m.used - at) })
+      opened_new cs es limit m w v n (Ok (longer m n)) we absent
+      (record { base = refl; len = refl; used = omega arith; most = most; cells = e ∙ ap (λ f. moved cs f (at + n) (m.base + m.used - at)) from ∙ ap₂ (λ t k. moved cs (w.at + 0) t k) to rest; long = ap length e ∙ length_moved cs at (at + n) (m.base + m.used - at) })
 
 pub new_within : {cs : List Cell} {limit : ℕ} {m : IntMap} {key at : ℕ} → HasRoom cs limit m → NewAt cs m key at → (m.base ≤ at) × (at ≤ m.base + m.used)
 new_within {cs} {limit} {m} {key} has new = subst (λ q. (m.base ≤ q) × (q ≤ m.base + m.used)) new.here (found_in cs m key _ (room_map has) refl)
@@ -147,17 +148,17 @@ behind_new {cs} {m} {key} is none_left =
 
 -- and there nothing moves
 module _ (cs : List Cell) (limit : ℕ) (m : IntMap) (key n : ℕ) (has : HasRoom cs limit m) (new : NewAt cs m key (m.base + m.used)) where
-  pub behind_full : limit < m.used + n → Opens cs cs limit m (seek cs levels key m.len m.base) n place.Full
+  pub behind_full : limit < m.used + n → Opens cs cs limit m (seek cs levels key m.len m.base) n (Err TooManyCells)
   behind_full over = new_full cs limit m (seek cs levels key m.len m.base) _ n refl new.none over
 
-  pub behind_opened : m.used + n ≤ limit → Opens cs cs limit m (seek cs levels key m.len m.base) n (place.At (m.base + m.used) (longer m n))
+  pub behind_opened : m.used + n ≤ limit → Opens cs cs limit m (seek cs levels key m.len m.base) n (Ok (longer m n))
   behind_opened most = new_opened cs limit m (seek cs levels key m.len m.base) _ n refl new.none most (m.base + m.used) new.here cs (moved_none cs _ _ _ (omega arith))
 
 pub frame_same : (cs ds : List Cell) (base n : ℕ) → ds ≡ cs → Frame cs ds base n
 frame_same cs ds base n e = record { long = ap length e; below = λ j lt. ap (λ (l : List Cell). get_or l j blank) e; above = λ j le. ap (λ (l : List Cell). get_or l j blank) e }
 
 -- ---- a run stored: p is the answer of `open`, ds the cells that it leaves
-module _ (cs ds : List Cell) (limit : ℕ) (m : IntMap) (key n : ℕ) (p : Place) (has : HasRoom cs limit m)
+module _ (cs ds : List Cell) (limit : ℕ) (m : IntMap) (key n : ℕ) (p : Stored) (has : HasRoom cs limit m)
     (o : Opens cs ds limit m (seek cs levels key m.len m.base) n p)
   where
     is : IsMap cs m
@@ -167,38 +168,37 @@ module _ (cs ds : List Cell) (limit : ℕ) (m : IntMap) (key n : ℕ) (p : Place
     W = seek cs levels key m.len m.base
 
     -- the place lies in the map's room
-    pub opened_in : (at : ℕ) (r : IntMap) → p ≡ place.At at r → (at + n ≤ m.base + limit) × (length ds ≡ length cs)
-    opened_in at r e =
+    pub opened_in : (at : ℕ) (r : IntMap) → at ≡ W.at → p ≡ Ok r → (at + n ≤ m.base + limit) × (length ds ≡ length cs)
+    opened_in at r here e =
         let t = subst (Opens cs ds limit m W n) e o in
         let f = found_in cs m key W is refl in
         let old = old_end cs m key W is refl in
-        (omega (arith, f.0, f.1, old, t.here, t.used, t.most), t.long)
+        (omega (arith, f.0, f.1, old, here, t.used, t.most), t.long)
 
     -- there is no room
-    pub stored_full : (run : List Cell) → key_run run ≡ key → length run ≡ n → p ≡ place.Full → Inserts cs ds limit m run insertion.Full
+    pub stored_full : (run : List Cell) → key_run run ≡ key → length run ≡ n → (r : Refusal) → p ≡ Err r → Inserts cs ds limit m run (Err r)
     unfolding total
-    stored_full run k long e =
+    stored_full run k long r e =
         let t = subst (Opens cs ds limit m W n) e o in
         let over : limit < total (swap key (run ∷ []) (runs_at cs m)) = omega (arith, used_after cs m key W is refl (run ∷ []), t.over, long) in
         let over' : limit < total (put run (runs_at cs m)) = rw k over in
         record {
-          answer = ap (λ (b : Bool). pick b (done (put run (runs_at cs m))) (refused 8)) (sym (lt-leb (total (put run (runs_at cs m))) limit over'));
+          answer = ap (λ x. refused (number_of x)) t.is ∙ ap (λ (b : Bool). pick b (done (put run (runs_at cs m))) (refused 8)) (sym (lt-leb (total (put run (runs_at cs m))) limit over'));
           leaves = t.same;
           frame = frame_same cs ds m.base limit t.same;
         }
 
     -- es has the run at the place
-    module _ (es : List Cell) (run : List Cell) (at : ℕ) (r : IntMap) (k : key_run run ≡ key) (long : length run ≡ n) (e : p ≡ place.At at r)
+    module _ (es : List Cell) (run : List Cell) (at : ℕ) (r : IntMap) (k : key_run run ≡ key) (long : length run ≡ n) (q : at ≡ W.at) (e : p ≡ Ok r)
         (before : (j : ℕ) → j < at → get_or es j blank ≡ get_or ds j blank)
         (new : (j : ℕ) → entries es levels (1 + j) at ≡ run ∷ entries es levels j (at + n))
         (after : (j : ℕ) → at + n ≤ j → get_or es j blank ≡ get_or ds j blank)
         (kept : length es ≡ length ds)
       where
-        pub stored_done : Inserts cs es limit m run (insertion.Done r)
+        pub stored_done : Inserts cs es limit m run (Ok r)
         unfolding total
         stored_done =
             let t = subst (Opens cs ds limit m W n) e o in
-            let q : at ≡ W.at = t.here in
             let f = found_in cs m key W is refl in
             let old = old_end cs m key W is refl in
             let tail = m.base + m.used - W.at - old_cells cs W in
@@ -231,20 +231,20 @@ module _ (cs ds : List Cell) (limit : ℕ) (m : IntMap) (key n : ℕ) (p : Place
             }
 
 -- ---- one cell stored, and a run
-module _ (cs ds : List Cell) (limit : ℕ) (m : IntMap) (c : Cell) (key : ℕ) (p : Place) (has : HasRoom cs limit m) (plain : tag_of c ≡ 2 → ⊥) (k : key_run (c ∷ []) ≡ key)
+module _ (cs ds : List Cell) (limit : ℕ) (m : IntMap) (c : Cell) (key : ℕ) (p : Stored) (has : HasRoom cs limit m) (plain : tag_of c ≡ 2 → ⊥) (k : key_run (c ∷ []) ≡ key)
     (o : Opens cs ds limit m (seek cs levels key m.len m.base) 1 p)
   where
-    pub cell_full : p ≡ place.Full → Inserts cs ds limit m (c ∷ []) insertion.Full
-    cell_full e = stored_full cs ds limit m key 1 p has o (c ∷ []) k refl e
+    pub cell_full : (r : Refusal) → p ≡ Err r → Inserts cs ds limit m (c ∷ []) (Err r)
+    cell_full r e = stored_full cs ds limit m key 1 p has o (c ∷ []) k refl r e
 
-    pub cell_done : (es : List Cell) (at : ℕ) (r : IntMap) → p ≡ place.At at r → es ≡ set ds at c → Inserts cs es limit m (c ∷ []) (insertion.Done r)
+    pub cell_done : (es : List Cell) (at : ℕ) (r : IntMap) → at ≡ (seek cs levels key m.len m.base).at → p ≡ Ok r → es ≡ set ds at c → Inserts cs es limit m (c ∷ []) (Ok r)
     unfolding entries span
-    cell_done es at r e w =
-        let t = opened_in cs ds limit m key 1 p has o at r e in
+    cell_done es at r q e w =
+        let t = opened_in cs ds limit m key 1 p has o at r q e in
         let here : c ≡ get_or es at blank = rw w (sym (get_or-set_same ds at c blank (omega (arith, t.0, t.1, has.room)))) in
         let one : 1 ≡ size es levels at = size-single es levels at c here plain in
         let other : (j : ℕ) → (j ≡ at → ⊥) → get_or es j blank ≡ get_or ds j blank = λ j ne. rw w (get_or-set_other ds at j c blank ne) in
-        stored_done cs ds limit m key 1 p has o es (c ∷ []) at r k refl e
+        stored_done cs ds limit m key 1 p has o es (c ∷ []) at r k refl q e
         (λ j lt. other j (omega arith))
         (λ j. let x : 1 + j ≡ suc j = omega arith in rw (x, ← one, ← here))
         (λ j le. other j (omega arith))
@@ -261,16 +261,16 @@ module _ (cs : List Cell) (limit : ℕ) (m : IntMap) (from n : ℕ) (run : RunAb
   run_long : (key : ℕ) → length (rekey key (span cs from n)) ≡ n
   run_long key = rekey_long key (span cs from n) ∙ length-span cs from n
 
-module _ (cs ds : List Cell) (limit : ℕ) (m : IntMap) (key from n : ℕ) (p : Place) (has : HasRoom cs limit m) (run : RunAbove cs limit m from n)
+module _ (cs ds : List Cell) (limit : ℕ) (m : IntMap) (key from n : ℕ) (p : Stored) (has : HasRoom cs limit m) (run : RunAbove cs limit m from n)
     (o : Opens cs ds limit m (seek cs levels key m.len m.base) n p)
   where
-    pub run_full : p ≡ place.Full → Inserts cs ds limit m (rekey key (span cs from n)) insertion.Full
-    run_full e = stored_full cs ds limit m key n p has o (rekey key (span cs from n)) (run_key cs limit m from n run key) (run_long cs limit m from n run key) e
+    pub run_full : (r : Refusal) → p ≡ Err r → Inserts cs ds limit m (rekey key (span cs from n)) (Err r)
+    run_full r e = stored_full cs ds limit m key n p has o (rekey key (span cs from n)) (run_key cs limit m from n run key) (run_long cs limit m from n run key) r e
 
-    module _ (at : ℕ) (r : IntMap) (e : p ≡ place.At at r) where
+    module _ (at : ℕ) (r : IntMap) (q : at ≡ (seek cs levels key m.len m.base).at) (e : p ≡ Ok r) where
       pub run_fits : (from + n ≤ length ds) × (at + n ≤ length ds) × (length ds ≤ 1048576)
       run_fits =
-          let t = opened_in cs ds limit m key n p has o at r e in
+          let t = opened_in cs ds limit m key n p has o at r q e in
           (omega (arith, run.fits, t.1), omega (arith, t.0, t.1, has.room), omega (arith, has.small, t.1))
 
       -- the run is as it was once there is room
@@ -302,7 +302,7 @@ module _ (cs ds : List Cell) (limit : ℕ) (m : IntMap) (key from n : ℕ) (p : 
           let y : from + 0 ≡ from = omega arith in
           rw (x, y) at (copied 0 (run_pos cs limit m from n run))
 
-      pub run_done : (mid es : List Cell) (c h : Cell) → c ≡ get_or cs from blank → mid ≡ copy → h ≡ with_key key c → es ≡ set mid at h → Inserts cs es limit m (rekey key (span cs from n)) (insertion.Done r)
+      pub run_done : (mid es : List Cell) (c h : Cell) → c ≡ get_or cs from blank → mid ≡ copy → h ≡ with_key key c → es ≡ set mid at h → Inserts cs es limit m (rekey key (span cs from n)) (Ok r)
       unfolding entries
       run_done mid es c h ce me he w =
           let pos = run_pos cs limit m from n run in
@@ -310,7 +310,7 @@ module _ (cs ds : List Cell) (limit : ℕ) (m : IntMap) (key from n : ℕ) (p : 
           let sz : size es levels at ≡ n = ap (λ (l : List Cell). size l levels at) is ∙ with_size copy levels key at copied_fits ∙ copied_size in
           let same : span es at n ≡ rekey key (span cs from n) = ap (λ (l : List Cell). span l at n) is ∙ with_span copy levels key at copied_fits n pos ∙ ap (rekey key) (span_same cs copy n from at copied) in
           let other : (j : ℕ) → (j ≡ at → ⊥) → get_or es j blank ≡ get_or copy j blank = λ j ne. ap (λ (l : List Cell). get_or l j blank) is ∙ with_other copy levels key at j ne in
-          stored_done cs ds limit m key n p has o es (rekey key (span cs from n)) at r (run_key cs limit m from n run key) (run_long cs limit m from n run key) e
+          stored_done cs ds limit m key n p has o es (rekey key (span cs from n)) at r (run_key cs limit m from n run key) (run_long cs limit m from n run key) q e
           (λ j lt. other j (omega arith) ∙ moved_below ds from at n j lt)
           (λ j. let x : 1 + j ≡ suc j = omega arith in rw (x, sz) (ap (λ (l : List Cell). l ∷ entries es levels j (at + n)) same))
           (λ j le. other j (omega (arith, pos)) ∙ moved_above ds from at n j le)
@@ -373,5 +373,5 @@ removed_map cs ds m key r is d =
     }
 
 -- room where a search led, which is told otherwise
-pub opened_as : (cs ds : List Cell) (limit : ℕ) (m : IntMap) (n : ℕ) (p : Place) (w v : Found) → w ≡ v → Opens cs ds limit m w n p → Opens cs ds limit m v n p
+pub opened_as : (cs ds : List Cell) (limit : ℕ) (m : IntMap) (n : ℕ) (p : Stored) (w v : Found) → w ≡ v → Opens cs ds limit m w n p → Opens cs ds limit m v n p
 opened_as cs ds limit m n p w v e o = subst (λ x. Opens cs ds limit m x n p) e o

@@ -1,7 +1,7 @@
 -- `swap` and `lookup` by the first run's key, and in two lists of runs one after the other, by where the key belongs. Assumes nothing.
 use mathlib.Core.Path.{◌≡◌, refl, sym, ap, ◌∙◌}
 use mathlib.Core.Bool.{Bool, true, false}
-use mathlib.Core.Option.{Option, none, some}
+use Rattle.std.specs.Prelude.{Option, None, Some}
 use mathlib.Core.List.{List, [], ◌∷◌, ◌++◌, append-nil, append_assoc}
 use Prim.Native.Nat.{ℕ, ◌+◌, ◌<◌, ◌≤◌}
 use native.Mathlib.Omega.{arith}
@@ -62,7 +62,7 @@ module _ (key : ℕ) (r : List Cell) (rs : Runs) where
     unfolding swap
     swap_same new = rw (le-ltb (key_run r) key (omega arith), eq-eqb (key_run r) key h)
 
-    pub lookup_same : lookup key (r ∷ rs) ≡ some r
+    pub lookup_same : lookup key (r ∷ rs) ≡ Some r
     unfolding lookup
     lookup_same = rw (le-ltb (key_run r) key (omega arith), eq-eqb (key_run r) key h)
 
@@ -73,7 +73,7 @@ module _ (key : ℕ) where
   swap_from new [] h = sym (append-nil new)
   swap_from new (r ∷ rs) h = rw (le-ltb (key_run r) key (omega arith), ne_eqb (key_run r) key (omega arith))
 
-  pub lookup_from : (rs : Runs) → From (key + 1) rs → lookup key rs ≡ none
+  pub lookup_from : (rs : Runs) → From (key + 1) rs → lookup key rs ≡ None
   unfolding lookup
   lookup_from [] h = refl
   lookup_from (r ∷ rs) h = rw (le-ltb (key_run r) key (omega arith), ne_eqb (key_run r) key (omega arith))
@@ -104,12 +104,12 @@ module _ (key : ℕ) (b : Runs) (f : From (key + 1) b) where
   pub lookup_before : (a : Runs) → lookup key (a ++ b) ≡ lookup key a
   unfolding lookup
   lookup_before [] = lookup_from key b f
-  lookup_before (r ∷ a) = ap (λ o. pick (ltb (key_run r) key) o (pick (eqb (key_run r) key) (some r) none)) (lookup_before a)
+  lookup_before (r ∷ a) = ap (λ o. pick (ltb (key_run r) key) o (pick (eqb (key_run r) key) (Some r) None)) (lookup_before a)
 
 -- how many cells there are then
 abbrev pub cells_of : Option (List Cell) → ℕ
-cells_of none = 0
-cells_of (some r) = length r
+cells_of None = 0
+cells_of (Some r) = length r
 
 pub total_append : (a b : Runs) → total (a ++ b) ≡ total a + total b
 unfolding total
@@ -122,7 +122,7 @@ total-swap key new [] = omega arith
 total-swap key new (r ∷ rs) = by (ltb (key_run r) key) (eqb (key_run r) key) (total-swap key new rs)
   where
     by : (t u : Bool) → total (swap key new rs) + cells_of (lookup key rs) ≡ total rs + total new
-        → total (pick t (r ∷ swap key new rs) (pick u (new ++ rs) (new ++ r ∷ rs))) + cells_of (pick t (lookup key rs) (pick u (some r) none)) ≡ length r + total rs + total new
+        → total (pick t (r ∷ swap key new rs) (pick u (new ++ rs) (new ++ r ∷ rs))) + cells_of (pick t (lookup key rs) (pick u (Some r) None)) ≡ length r + total rs + total new
     by true u rest = omega arith
     by false true rest = omega (arith, total_append new rs)
     by false false rest = omega (arith, total_append new (r ∷ rs))

@@ -3,7 +3,7 @@
 use mathlib.Core.Path.{◌≡◌, refl, sym, ap, ap₂, ◌∙◌}
 use mathlib.Core.List.{List, [], ◌∷◌, ◌++◌}
 use mathlib.Core.Bool.{Bool, true, false, false≢true}
-use mathlib.Core.Option.{none, some}
+use Rattle.std.specs.Prelude.{None, Some}
 use Prim.Native.Nat.{ℕ, zero, suc, ◌+◌, ◌-◌, ◌<◌, ◌≤◌}
 use native.Mathlib.Omega.{arith}
 use lib.ListN.{get_or}
@@ -27,28 +27,28 @@ module _ (cs : List Cell) (d key : ℕ) where
   key_first n p = key-span cs p (size cs d p) (size-pos cs d p)
 
   -- what a search finds is what the key has
-  pub seek_some : (n p : ℕ) → (seek cs d key n p).present ≡ true → lookup key (entries cs d n p) ≡ some (span cs (seek cs d key n p).at (size cs d (seek cs d key n p).at))
+  pub seek_some : (n p : ℕ) → (seek cs d key n p).present ≡ true → lookup key (entries cs d n p) ≡ Some (span cs (seek cs d key n p).at (size cs d (seek cs d key n p).at))
   unfolding seek lookup entries
   seek_some zero p h = absurd (false≢true h)
   seek_some (suc n) p h = rw (key_first n p) (go (ltb (key_of (get_or cs p blank)) key) h (seek_some n (p + size cs d p)))
     where
       go : (t : Bool) → (pick t (seek cs d key n (p + size cs d p)) (place p (suc n) (eqb (key_of (get_or cs p blank)) key))).present ≡ true
-          → ((seek cs d key n (p + size cs d p)).present ≡ true → lookup key (entries cs d n (p + size cs d p)) ≡ some (span cs (seek cs d key n (p + size cs d p)).at (size cs d (seek cs d key n (p + size cs d p)).at)))
-          → pick t (lookup key (entries cs d n (p + size cs d p))) (pick (eqb (key_of (get_or cs p blank)) key) (some (span cs p (size cs d p))) none)
-          ≡ some (span cs (pick t (seek cs d key n (p + size cs d p)) (place p (suc n) (eqb (key_of (get_or cs p blank)) key))).at (size cs d (pick t (seek cs d key n (p + size cs d p)) (place p (suc n) (eqb (key_of (get_or cs p blank)) key))).at))
+          → ((seek cs d key n (p + size cs d p)).present ≡ true → lookup key (entries cs d n (p + size cs d p)) ≡ Some (span cs (seek cs d key n (p + size cs d p)).at (size cs d (seek cs d key n (p + size cs d p)).at)))
+          → pick t (lookup key (entries cs d n (p + size cs d p))) (pick (eqb (key_of (get_or cs p blank)) key) (Some (span cs p (size cs d p))) None)
+          ≡ Some (span cs (pick t (seek cs d key n (p + size cs d p)) (place p (suc n) (eqb (key_of (get_or cs p blank)) key))).at (size cs d (pick t (seek cs d key n (p + size cs d p)) (place p (suc n) (eqb (key_of (get_or cs p blank)) key))).at))
       go true h ih = ih h
-      go false h ih = ap (λ (b : Bool). pick b (some (span cs p (size cs d p))) none) h
+      go false h ih = ap (λ (b : Bool). pick b (Some (span cs p (size cs d p))) None) h
 
-  pub seek_none : (n p : ℕ) → (seek cs d key n p).present ≡ false → lookup key (entries cs d n p) ≡ none
+  pub seek_none : (n p : ℕ) → (seek cs d key n p).present ≡ false → lookup key (entries cs d n p) ≡ None
   unfolding seek lookup entries
   seek_none zero p h = refl
   seek_none (suc n) p h = rw (key_first n p) (go (ltb (key_of (get_or cs p blank)) key) h (seek_none n (p + size cs d p)))
     where
       go : (t : Bool) → (pick t (seek cs d key n (p + size cs d p)) (place p (suc n) (eqb (key_of (get_or cs p blank)) key))).present ≡ false
-          → ((seek cs d key n (p + size cs d p)).present ≡ false → lookup key (entries cs d n (p + size cs d p)) ≡ none)
-          → pick t (lookup key (entries cs d n (p + size cs d p))) (pick (eqb (key_of (get_or cs p blank)) key) (some (span cs p (size cs d p))) none) ≡ none
+          → ((seek cs d key n (p + size cs d p)).present ≡ false → lookup key (entries cs d n (p + size cs d p)) ≡ None)
+          → pick t (lookup key (entries cs d n (p + size cs d p))) (pick (eqb (key_of (get_or cs p blank)) key) (Some (span cs p (size cs d p))) None) ≡ None
       go true h ih = ih h
-      go false h ih = ap (λ (b : Bool). pick b (some (span cs p (size cs d p))) none) h
+      go false h ih = ap (λ (b : Bool). pick b (Some (span cs p (size cs d p))) None) h
 
   -- where all keys are lower, it leads behind them
   pub seek_under : (n p : ℕ) → Under key (entries cs d n p) → (seek cs d key n p).left ≡ 0

@@ -3,6 +3,8 @@
 use Rattle.std.specs.Prelude.{ℕ, ◌+◌, ◌*◌, ◌/◌, ◌%◌, ◌<◌}
 use Rattle.area.specs.Cells.{cell}
 use Rattle.area.specs.declared.Cell.{Cell}
+use Rattle.intmap.specs.declared.Class.{Class}
+use Rattle.intmap.specs.declared.Class.TheVariants.{Registers, Cursors, Tables}
 
 abbrev pub head : ℕ → ℕ → ℕ → ℕ → ℕ
 head tag kind nullable key = tag + 256 * kind + 65536 * nullable + 16777216 * key
@@ -25,6 +27,12 @@ with_key key c = cell (c.head % 16777216 + 16777216 * key) c.payload
 
 abbrev pub with_nullable : ℕ → Cell → Cell
 with_nullable nullable c = cell (c.head % 65536 + 65536 * nullable + c.head / 16777216 * 16777216) c.payload
+
+-- the number of a class
+abbrev pub class_number : Class → ℕ
+class_number Registers = 0
+class_number Cursors = 1
+class_number Tables = 2
 
 -- the key of an index: class 0 has the registers, 1 the cursors, 2 the tables; a record's columns have the keys below these
 abbrev pub class_key : ℕ → ℕ → ℕ

@@ -1,7 +1,10 @@
 -- An entry stored under its key, within a limit of cells, and one taken out; and both by an index, judged. 01, "Walk, refusals in order":
 -- 6 and 7 are for the index, 9 for records nested deeper than 8, 8 for "a store that makes a state of more than 512 cells" (here the limit
 -- is a number that is given), and "a store is judged on index, depth, cells". Assumes nothing.
-use Rattle.std.specs.Prelude.{◌≡◌, List, [], ◌∷◌, ℕ, ◌+◌, ◌-◌, ◌<◌, ◌≤◌, length, leb, false, ℤ}
+use Rattle.std.specs.Prelude.{◌≡◌, List, [], ◌∷◌, ℕ, ◌+◌, ◌-◌, ◌<◌, ◌≤◌, length, leb, false, ℤ, Result, Ok, Err}
+use Rattle.refusal.specs.Numbers.{number_of}
+use Rattle.refusal.specs.declared.Refusal.{Refusal}
+use Rattle.refusal.specs.declared.Refusal.TheVariants.{TooManyCells}
 use Rattle.model.specs.Walk.{Tried, refused, done}
 use Rattle.model.specs.Access.{index, judge_depth, ◌>>=◌}
 use Rattle.area.specs.Moves.{moved}
@@ -17,23 +20,21 @@ use Rattle.intmap.specs.Change.{rekey}
 use Rattle.intmap.specs.Signed.{int_of}
 use Rattle.intmap.specs.declared.Found.{Found}
 use Rattle.intmap.specs.declared.IntMap.{IntMap}
-use Rattle.intmap.specs.declared.Place.{Place}
-use Rattle.intmap.specs.declared.Place.TheVariants as place
-use Rattle.intmap.specs.declared.Insertion.{Insertion}
-use Rattle.intmap.specs.declared.Insertion.TheVariants as insertion
-use Rattle.intmap.specs.declared.Stored.{Stored}
-use Rattle.intmap.specs.declared.Stored.TheVariants as stored
+
+-- what a store gives: the map then, or why it is refused
+abbrev pub Stored : Type 0
+Stored = Result IntMap Refusal
 
 -- ---- room for n cells in the place of `old` at `at`, with k entries then
 
 -- there is none, and nothing has changed
-pub record NoRoom (cs ds : List Cell) (limit : ℕ) (m : IntMap) (old n : ℕ) : Type 0 where
+pub record NoRoom (cs ds : List Cell) (limit : ℕ) (m : IntMap) (old n : ℕ) (e : Refusal) : Type 0 where
+  pub is : e ≡ TooManyCells
   pub over : limit < m.used - old + n
   pub same : ds ≡ cs
 
--- the room is at p: what comes after has moved
-pub record Opened (cs ds : List Cell) (limit : ℕ) (m : IntMap) (at old n k p : ℕ) (r : IntMap) : Type 0 where
-  pub here : p ≡ at
+-- the room is there: what comes after has moved
+pub record Opened (cs ds : List Cell) (limit : ℕ) (m : IntMap) (at old n k : ℕ) (r : IntMap) : Type 0 where
   pub base : r.base ≡ m.base
   pub len : r.len ≡ k
   pub used : r.used ≡ m.used - old + n
@@ -41,9 +42,9 @@ pub record Opened (cs ds : List Cell) (limit : ℕ) (m : IntMap) (at old n k p :
   pub cells : ds ≡ moved cs (at + old) (at + n) (m.base + m.used - at - old)
   pub long : length ds ≡ length cs
 
-abbrev pub RoomMade : List Cell → List Cell → ℕ → IntMap → ℕ → ℕ → ℕ → ℕ → Place → Type 0
-RoomMade cs ds limit m at old n k place.Full = NoRoom cs ds limit m old n
-RoomMade cs ds limit m at old n k (place.At p r) = Opened cs ds limit m at old n k p r
+abbrev pub RoomMade : List Cell → List Cell → ℕ → IntMap → ℕ → ℕ → ℕ → ℕ → Stored → Type 0
+RoomMade cs ds limit m at old n k (Err e) = NoRoom cs ds limit m old n e
+RoomMade cs ds limit m at old n k (Ok r) = Opened cs ds limit m at old n k r
 
 -- the cells of the entry that a search found, and the entries with one in its place
 abbrev pub old_cells : List Cell → Found → ℕ
@@ -58,7 +59,7 @@ pub record IsFound (cs : List Cell) (m : IntMap) (w : Found) : Type 0 where
   pub is : w ≡ seek cs levels key m.len m.base
 
 -- room for n cells where a search led
-abbrev pub Opens : List Cell → List Cell → ℕ → IntMap → Found → ℕ → Place → Type 0
+abbrev pub Opens : List Cell → List Cell → ℕ → IntMap → Found → ℕ → Stored → Type 0
 Opens cs ds limit m w n p = RoomMade cs ds limit m w.at (old_cells cs w) n (new_len m.len w) p
 
 -- ---- an entry stored
@@ -72,22 +73,22 @@ abbrev pub judge_runs : ℕ → Runs → Tried Runs
 judge_runs limit es = pick (leb (total es) limit) (done es) (refused 8)
 
 -- the answer: 01's number, or the entries that the area then has
-abbrev pub answer_of : List Cell → Insertion → Tried Runs
-answer_of ds insertion.Full = refused 8
-answer_of ds (insertion.Done r) = done (runs_at ds r)
+abbrev pub stored_of : List Cell → Stored → Tried Runs
+stored_of ds (Err e) = refused (number_of e)
+stored_of ds (Ok r) = done (runs_at ds r)
 
 -- a refused store changes nothing, and one that is done leaves a map at the same place
 pub record Next (ds : List Cell) (limit : ℕ) (m r : IntMap) : Type 0 where
   pub base : r.base ≡ m.base
   pub room : HasRoom ds limit r
 
-abbrev pub Leaves : List Cell → List Cell → ℕ → IntMap → Insertion → Type 0
-Leaves cs ds limit m insertion.Full = ds ≡ cs
-Leaves cs ds limit m (insertion.Done r) = Next ds limit m r
+abbrev pub StoreLeaves : List Cell → List Cell → ℕ → IntMap → Stored → Type 0
+StoreLeaves cs ds limit m (Err e) = ds ≡ cs
+StoreLeaves cs ds limit m (Ok r) = Next ds limit m r
 
-pub record Inserts (cs ds : List Cell) (limit : ℕ) (m : IntMap) (run : List Cell) (r : Insertion) : Type 0 where
-  pub answer : answer_of ds r ≡ judge_runs limit (put run (runs_at cs m))
-  pub leaves : Leaves cs ds limit m r
+pub record Inserts (cs ds : List Cell) (limit : ℕ) (m : IntMap) (run : List Cell) (r : Stored) : Type 0 where
+  pub answer : stored_of ds r ≡ judge_runs limit (put run (runs_at cs m))
+  pub leaves : StoreLeaves cs ds limit m r
   pub frame : Frame cs ds m.base limit
 
 -- a search for the key leads there, and finds none
@@ -124,21 +125,6 @@ store_runs limit class i depth run es = index i >>= λ k. store_at limit (class_
 unfoldable pub remove_runs : ℕ → ℤ → Runs → Tried Runs
 remove_runs class i es = index i >>= λ k. done (swap (class_key class k) [] es)
 
--- the answer: 01's number, or the entries that the area then has
-abbrev pub stored_of : List Cell → Stored → Tried Runs
-stored_of ds (stored.Refused n) = refused n
-stored_of ds (stored.Done r) = done (runs_at ds r)
-
--- an insertion's answer with 01's number
-abbrev pub as_stored : Insertion → Stored
-as_stored insertion.Full = stored.Refused 8
-as_stored (insertion.Done r) = stored.Done r
-
--- a refused store changes nothing, and one that is done leaves a map at the same place
-abbrev pub StoreLeaves : List Cell → List Cell → ℕ → IntMap → Stored → Type 0
-StoreLeaves cs ds limit m (stored.Refused n) = ds ≡ cs
-StoreLeaves cs ds limit m (stored.Done r) = Next ds limit m r
-
 pub record Stores (cs ds : List Cell) (limit : ℕ) (m : IntMap) (class i depth : ℕ) (run : List Cell) (r : Stored) : Type 0 where
   pub answer : stored_of ds r ≡ store_runs limit class (int_of i) depth run (runs_at cs m)
   pub leaves : StoreLeaves cs ds limit m r
@@ -151,8 +137,8 @@ pub record Fewer (ds : List Cell) (m r : IntMap) : Type 0 where
   pub map : IsMap ds r
 
 abbrev pub RemovalLeaves : List Cell → List Cell → IntMap → Stored → Type 0
-RemovalLeaves cs ds m (stored.Refused n) = ds ≡ cs
-RemovalLeaves cs ds m (stored.Done r) = Fewer ds m r
+RemovalLeaves cs ds m (Err e) = ds ≡ cs
+RemovalLeaves cs ds m (Ok r) = Fewer ds m r
 
 pub record RemovesAt (cs ds : List Cell) (m : IntMap) (class i : ℕ) (r : Stored) : Type 0 where
   pub answer : stored_of ds r ≡ remove_runs class (int_of i) (runs_at cs m)

@@ -1,6 +1,5 @@
 -- The entries of a map with those of one key put in the place of what the key has: an insertion and a removal, as lists of runs. Assumes nothing.
-use Rattle.std.specs.Prelude.{List, [], ◌∷◌, ◌++◌, ℕ, eqb, ltb}
-use Rattle.std.proofs.Math.Option.{Option, none, some}
+use Rattle.std.specs.Prelude.{List, [], ◌∷◌, ◌++◌, ℕ, eqb, ltb, Option, None, Some}
 use Rattle.area.specs.declared.Cell.{Cell}
 use Rattle.intmap.specs.Pick.{pick}
 use Rattle.intmap.specs.Entries.{Runs, key_run}
@@ -12,5 +11,5 @@ swap key rs (e ∷ es) = pick (ltb (key_run e) key) (e ∷ swap key rs es) (pick
 
 -- the run that has a key
 unfoldable pub lookup : ℕ → Runs → Option (List Cell)
-lookup key [] = none
-lookup key (e ∷ es) = pick (ltb (key_run e) key) (lookup key es) (pick (eqb (key_run e) key) (some e) none)
+lookup key [] = None
+lookup key (e ∷ es) = pick (ltb (key_run e) key) (lookup key es) (pick (eqb (key_run e) key) (Some e) None)

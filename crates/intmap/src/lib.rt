@@ -3,18 +3,19 @@
 
 ghost use Rattle.std.specs.Prelude.{◌≡◌, ◌+◌, ◌<◌, ◌≤◌, max, eqb, leb, length, get_or, [], ◌∷◌};
 ghost use Rattle.area.specs.Cells.{blank, cells};
-ghost use Rattle.intmap.specs.Pack.{Parts, head, tag_of, kind_of, nullable_of, key_of, with_key, with_nullable, class_key};
+ghost use Rattle.intmap.specs.Pack.{Parts, head, tag_of, kind_of, nullable_of, key_of, with_key, with_nullable, class_number, class_key};
 ghost use Rattle.intmap.specs.Runs.{size, sizes, IsColumn, AreColumns, eq_column, eq_columns, Copyable, Copied};
 ghost use Rattle.intmap.specs.Depth.{nesting};
 ghost use Rattle.intmap.specs.Find.{seek};
 ghost use Rattle.intmap.specs.Map.{levels, empty, IsMap, HasRoom, SameCells, Compares, CopiedMap};
-ghost use Rattle.intmap.specs.Store.{RoomMade, IsFound, Opens, Inserts, NewAt, RunAbove, Removes, as_stored, Stores, RemovesAt};
+ghost use Rattle.intmap.specs.Store.{RoomMade, IsFound, Opens, Inserts, NewAt, RunAbove, Removes, Stores, RemovesAt};
 ghost use Rattle.intmap.specs.Get.{Judges, Gets};
 ghost use Rattle.intmap.specs.Change.{rekey, Writable, FromElem};
 ghost use Rattle.intmap.specs.Entries.{span};
 ghost use Rattle.intmap.specs.Over.{ArePlain, CopiesOver};
 
 use area::Cell;
+use refusal::Refusal;
 
 // The tags of cells.
 pub const SINGLE: u64 = 1;
@@ -26,6 +27,14 @@ pub const INT: u64 = 3;
 pub const NORMAL: u64 = 4;
 
 pub const PSEUDO: u64 = 5;
+
+// The three maps of a state, which stand in one: each index has a key by its class.
+#[derive(Clone, Copy, Debug, PartialEq, Eq)]
+pub enum Class {
+    Registers,
+    Cursors,
+    Tables,
+}
 
 // The word that stands for 0.
 pub const ZERO: u64 = 9223372036854775808;
@@ -366,62 +375,26 @@ pub struct Found {
     pub present: bool,
 }
 
-// Where room was made for an entry, and the map with it, or that there is none.
-#[derive(Clone, Copy)]
-enum Place {
-    Full,
-    At(usize, IntMap),
-}
-
-// What a store gives: a refusal, which is 01's 8, or the map.
-#[derive(Clone, Copy)]
-pub enum Insertion {
-    Full,
-    Done(IntMap),
-}
-
-// What a store or a removal by an index gives: 01's number, or the map.
-#[derive(Clone, Copy)]
-pub enum Stored {
-    Refused(u64),
-    Done(IntMap),
-}
-
-// A map index, judged: 01's number, or the place in its class.
-#[derive(Clone, Copy)]
-pub enum Index {
-    Bad(u64),
-    At(u64),
-}
-
-// Where an entry is: 01's number for a bad index, nowhere, or there.
-#[derive(Clone, Copy)]
-pub enum Slot {
-    Bad(u64),
-    Absent,
-    At(usize),
-}
-
 // Judges a map index, of which 2^63 stands for 0.
-pub fn judge_index(i: u64) -> Index
+pub fn judge_index(i: u64) -> Result<u64, Refusal>
     ensures { Judges i result }
 {
     if i < ZERO {
-        return Index::Bad(6);
+        return Err(Refusal::Negative);
     }
     let k = i - ZERO;
     if 65535 < k {
-        return Index::Bad(7);
+        return Err(Refusal::IndexTooLarge);
     }
-    Index::At(k)
+    Ok(k)
 }
 
 // The key of an index in its class.
-pub fn class_key(class: u64, index: u64) -> u64
-    requires { (class < 3) × (index ≤ 65535) }
-    ensures { result ≡ class_key class index }
+pub fn class_key(class: Class, index: u64) -> u64
+    requires { index ≤ 65535 }
+    ensures { result ≡ class_key (class_number class) index }
 {
-    class * 65536 + 65536 + index
+    class as u64 * 65536 + 65536 + index
 }
 
 // Looks for a key among the n columns from `at` on, where records nest at most `depth` deep.
@@ -448,16 +421,6 @@ pub fn find_from(area: &[u8], at: usize, n: u64, key: u64, depth: usize) -> Foun
         at: p,
         left: 0,
         present: false,
-    }
-}
-
-// An insertion's answer with 01's number.
-pub fn as_stored(x: Insertion) -> Stored
-    ensures { result ≡ as_stored x }
-{
-    match x {
-        Insertion::Full => Stored::Refused(8),
-        Insertion::Done(m) => Stored::Done(m),
     }
 }
 
@@ -490,7 +453,7 @@ impl IntMap {
         n: usize,
         len: u64,
         limit: usize,
-    ) -> Place
+    ) -> Result<IntMap, Refusal>
         requires { HasRoom (cells area.old) limit self × (self.base ≤ at) × (at + old ≤ self.base + self.used) × (n ≤ 1048576) }
         ensures { RoomMade (cells area.old) (cells area.new) limit self at old n len result }
     {
@@ -498,14 +461,20 @@ impl IntMap {
         let before = self.used;
         let used = before - old + n;
         if limit < used {
-            return Place::Full;
+            return Err(Refusal::TooManyCells);
         }
         area::move_cells(area, at + old, at + n, base + before - at - old);
-        Place::At(at, IntMap { base, len, used })
+        Ok(IntMap { base, len, used })
     }
 
     // Makes room for an entry of n cells where a search led, in the place of the one that is there, unless that makes more than `limit` cells.
-    fn room_at(self, area: &mut [u8], found: Found, n: usize, limit: usize) -> Place
+    fn room_at(
+        self,
+        area: &mut [u8],
+        found: Found,
+        n: usize,
+        limit: usize,
+    ) -> Result<IntMap, Refusal>
         requires { HasRoom (cells area.old) limit self × (n ≤ 1048576) × IsFound (cells area.old) self found }
         ensures { Opens (cells area.old) (cells area.new) limit self found n result }
     {
@@ -520,31 +489,39 @@ impl IntMap {
     }
 
     // Puts a cell that is no record in the place of the entry that a search for its key found.
-    fn replace(self, area: &mut [u8], found: Found, c: Cell, limit: usize) -> Insertion
+    fn replace(
+        self,
+        area: &mut [u8],
+        found: Found,
+        c: Cell,
+        limit: usize,
+    ) -> Result<IntMap, Refusal>
         requires { HasRoom (cells area.old) limit self × (tag_of c ≡ 2 → ⊥) × (found ≡ seek (cells area.old) levels (key_of c) self.len self.base) }
         ensures { Inserts (cells area.old) (cells area.new) limit self (c ∷ []) result }
     {
-        let p = self.room_at(area, found, 1, limit);
-        match p {
-            Place::Full => Insertion::Full,
-            Place::At(at, r) => {
-                area::put_cell(area, at, c);
-                Insertion::Done(r)
-            }
-        }
+        let at = found.at;
+        let map = self.room_at(area, found, 1, limit)?;
+        area::put_cell(area, at, c);
+        Ok(map)
     }
 
     // Puts a cell that is no record under its key, where a search for that led and found none.
-    pub fn insert_new(self, area: &mut [u8], at: usize, c: Cell, limit: usize) -> Insertion
+    pub fn insert_new(
+        self,
+        area: &mut [u8],
+        at: usize,
+        c: Cell,
+        limit: usize,
+    ) -> Result<IntMap, Refusal>
         requires { HasRoom (cells area.old) limit self × (tag_of c ≡ 2 → ⊥) × NewAt (cells area.old) self (key_of c) at }
         ensures { Inserts (cells area.old) (cells area.new) limit self (c ∷ []) result }
     {
         if limit <= self.used {
-            return Insertion::Full;
+            return Err(Refusal::TooManyCells);
         }
         area::move_cells(area, at, at + 1, self.base + self.used - at);
         area::put_cell(area, at, c);
-        Insertion::Done(IntMap {
+        Ok(IntMap {
             base: self.base,
             len: self.len + 1,
             used: self.used + 1,
@@ -552,7 +529,7 @@ impl IntMap {
     }
 
     // Puts a cell that is no record under its key: where there is none, or in the place of another, without a call that takes or gives a struct.
-    pub fn insert_cell(self, area: &mut [u8], c: Cell, limit: usize) -> Insertion
+    pub fn insert_cell(self, area: &mut [u8], c: Cell, limit: usize) -> Result<IntMap, Refusal>
         requires { HasRoom (cells area.old) limit self × (tag_of c ≡ 2 → ⊥) }
         ensures { Inserts (cells area.old) (cells area.new) limit self (c ∷ []) result }
     {
@@ -564,7 +541,7 @@ impl IntMap {
                 return self.replace(area, found, c, limit);
             }
             area::put_cell(area, at, c);
-            return Insertion::Done(self);
+            return Ok(self);
         }
         self.insert_new(area, at, c, limit)
     }
@@ -578,20 +555,16 @@ impl IntMap {
         from: usize,
         n: usize,
         limit: usize,
-    ) -> Insertion
+    ) -> Result<IntMap, Refusal>
         requires { HasRoom (cells area.old) limit self × RunAbove (cells area.old) limit self from n × (key < 1099511627776) × (found ≡ seek (cells area.old) levels key self.len self.base) }
         ensures { Inserts (cells area.old) (cells area.new) limit self (rekey key (span (cells area.old) from n)) result }
     {
         let c = area::cell_at(area, from);
-        let p = self.room_at(area, found, n, limit);
-        match p {
-            Place::Full => Insertion::Full,
-            Place::At(at, r) => {
-                area::move_cells(area, from, at, n);
-                area::put_cell(area, at, with_key(c, key));
-                Insertion::Done(r)
-            }
-        }
+        let at = found.at;
+        let map = self.room_at(area, found, n, limit)?;
+        area::move_cells(area, from, at, n);
+        area::put_cell(area, at, with_key(c, key));
+        Ok(map)
     }
 
     // The same after a search.
@@ -602,7 +575,7 @@ impl IntMap {
         from: usize,
         n: usize,
         limit: usize,
-    ) -> Insertion
+    ) -> Result<IntMap, Refusal>
         requires { HasRoom (cells area.old) limit self × RunAbove (cells area.old) limit self from n × (key < 1099511627776) }
         ensures { Inserts (cells area.old) (cells area.new) limit self (rekey key (span (cells area.old) from n)) result }
     {
@@ -618,18 +591,18 @@ impl IntMap {
         from: usize,
         n: usize,
         limit: usize,
-    ) -> Insertion
+    ) -> Result<IntMap, Refusal>
         requires { HasRoom (cells area.old) limit self × RunAbove (cells area.old) limit self from n × (key < 1099511627776) × NewAt (cells area.old) self key (self.base + self.used) }
         ensures { Inserts (cells area.old) (cells area.new) limit self (rekey key (span (cells area.old) from n)) result }
     {
         if limit < self.used + n {
-            return Insertion::Full;
+            return Err(Refusal::TooManyCells);
         }
         let end = self.base + self.used;
         let c = area::cell_at(area, from);
         area::move_cells(area, from, end, n);
         area::put_cell(area, end, with_key(c, key));
-        Insertion::Done(IntMap {
+        Ok(IntMap {
             base: self.base,
             len: self.len + 1,
             used: self.used + n,
@@ -661,48 +634,48 @@ impl IntMap {
     }
 
     // Stores a cell that is no record under index i of a class.
-    pub fn store_cell(self, area: &mut [u8], class: u64, i: u64, c: Cell, limit: usize) -> Stored
-        requires { HasRoom (cells area.old) limit self × (class < 3) × (tag_of c ≡ 2 → ⊥) }
-        ensures { Stores (cells area.old) (cells area.new) limit self class i 0 (c ∷ []) result }
+    pub fn store_cell(
+        self,
+        area: &mut [u8],
+        class: Class,
+        i: u64,
+        c: Cell,
+        limit: usize,
+    ) -> Result<IntMap, Refusal>
+        requires { HasRoom (cells area.old) limit self × (tag_of c ≡ 2 → ⊥) }
+        ensures { Stores (cells area.old) (cells area.new) limit self (class_number class) i 0 (c ∷ []) result }
     {
-        let x = judge_index(i);
-        match x {
-            Index::Bad(n) => Stored::Refused(n),
-            Index::At(k) => {
-                let keyed = with_key(c, class_key(class, k));
-                as_stored(self.insert_cell(area, keyed, limit))
-            }
-        }
+        let k = judge_index(i)?;
+        self.insert_cell(area, with_key(c, class_key(class, k)), limit)
     }
 
     // Stores the run at `from`, above the map's room, under index i of a class. Its depth is judged before its cells.
-    pub fn store_run(self, area: &mut [u8], class: u64, i: u64, from: usize, limit: usize) -> Stored
-        requires { HasRoom (cells area.old) limit self × (class < 3) × RunAbove (cells area.old) limit self from (size (cells area.old) levels from) }
-        ensures { Stores (cells area.old) (cells area.new) limit self class i (nesting (cells area.old) levels from) (span (cells area.old) from (size (cells area.old) levels from)) result }
+    pub fn store_run(
+        self,
+        area: &mut [u8],
+        class: Class,
+        i: u64,
+        from: usize,
+        limit: usize,
+    ) -> Result<IntMap, Refusal>
+        requires { HasRoom (cells area.old) limit self × RunAbove (cells area.old) limit self from (size (cells area.old) levels from) }
+        ensures { Stores (cells area.old) (cells area.new) limit self (class_number class) i (nesting (cells area.old) levels from) (span (cells area.old) from (size (cells area.old) levels from)) result }
     {
-        let x = judge_index(i);
-        match x {
-            Index::Bad(n) => Stored::Refused(n),
-            Index::At(k) => {
-                if 8 < depth_of(area, from, LEVELS) {
-                    return Stored::Refused(9);
-                }
-                let n = count(area, from, LEVELS);
-                as_stored(self.insert_run(area, class_key(class, k), from, n, limit))
-            }
+        let k = judge_index(i)?;
+        if 8 < depth_of(area, from, LEVELS) {
+            return Err(Refusal::TooDeep);
         }
+        let n = count(area, from, LEVELS);
+        self.insert_run(area, class_key(class, k), from, n, limit)
     }
 
     // Takes the entry of index i in a class out.
-    pub fn remove_at(self, area: &mut [u8], class: u64, i: u64) -> Stored
-        requires { IsMap (cells area.old) self × (class < 3) }
-        ensures { RemovesAt (cells area.old) (cells area.new) self class i result }
+    pub fn remove_at(self, area: &mut [u8], class: Class, i: u64) -> Result<IntMap, Refusal>
+        requires { IsMap (cells area.old) self }
+        ensures { RemovesAt (cells area.old) (cells area.new) self (class_number class) i result }
     {
-        let x = judge_index(i);
-        match x {
-            Index::Bad(n) => Stored::Refused(n),
-            Index::At(k) => Stored::Done(self.remove(area, class_key(class, k))),
-        }
+        let k = judge_index(i)?;
+        Ok(self.remove(area, class_key(class, k)))
     }
 
     // Whether two maps have the same entries. States that are compared are nearly always the same, and then all their cells are.
@@ -722,22 +695,16 @@ impl IntMap {
     }
 
     // Where the entry of index i in a class is.
-    pub fn get(self, area: &[u8], class: u64, i: u64) -> Slot
-        requires { IsMap (cells area.now) self × (class < 3) }
-        ensures { Gets (cells area.now) self class i result }
+    pub fn get(self, area: &[u8], class: Class, i: u64) -> Result<Option<usize>, Refusal>
+        requires { IsMap (cells area.now) self }
+        ensures { Gets (cells area.now) self (class_number class) i result }
     {
-        let x = judge_index(i);
-        match x {
-            Index::Bad(n) => Slot::Bad(n),
-            Index::At(k) => {
-                let found = self.find(area, class_key(class, k));
-                let there = found.present;
-                if there {
-                    return Slot::At(found.at);
-                }
-                Slot::Absent
-            }
+        let k = judge_index(i)?;
+        let found = self.find(area, class_key(class, k));
+        if found.present {
+            return Ok(Some(found.at));
         }
+        Ok(None)
     }
 
     // Copies the entries to another place, which may overlap.

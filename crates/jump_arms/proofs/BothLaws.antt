@@ -1,6 +1,8 @@
 -- Both ways: the branch is an access behind the map, judged first, and what goes on is an access in place. Assumes nothing.
+use Rattle.refusal.specs.declared.Refusal.{Refusal}
+use Rattle.intmap.specs.Store.{Stored}
 use mathlib.Core.Path.{◌≡◌, sym, ap, ap₂, subst, ◌∙◌}
-use mathlib.Core.Option.{some}
+use Rattle.std.specs.Prelude.{Some, Ok, Err}
 use mathlib.Core.List.{List, [], ◌∷◌}
 use Prim.Native.Nat.{ℕ, ◌+◌}
 use native.Mathlib.Omega.{arith}
@@ -16,8 +18,6 @@ use Rattle.intmap.specs.Runs.{Agree}
 use Rattle.intmap.specs.Map.{HasRoom, Frame, CopiedMap}
 use Rattle.intmap.specs.Signed.{int_of}
 use Rattle.intmap.specs.declared.IntMap.{IntMap}
-use Rattle.intmap.specs.declared.Stored.{Stored}
-use Rattle.intmap.specs.declared.Stored.TheVariants as stored
 use Rattle.intmap.proofs.MapLaws.{placed_room, frame_below, frame_above}
 use Rattle.intmap.proofs.StoreLaws.{room_map}
 use Rattle.encoding.proofs.Held.{held_elsewhere, held_go_to, held-copied}
@@ -26,8 +26,6 @@ use Rattle.rows.specs.declared.Row.{Row}
 use Rattle.state.specs.Leads.{Held, Current, HoldsMap, Tells, Stays, Leaves}
 use Rattle.state.specs.Steps.{HoldsState, Offered, TellsStep, LeavesStep}
 use Rattle.state.specs.declared.MemoryState.{MemoryState}
-use Rattle.state.specs.declared.Way.TheVariants as way
-use Rattle.state.specs.declared.Step.TheVariants as step
 use Rattle.jump_arms.specs.Arms.{at, both_after, Puts, BothArm}
 use Rattle.jump_arms.proofs.StepLaws.{next_row, held_next, branches_and_goes}
 use Rattle.jump_arms.proofs.StoreSteps.{SameRow}
@@ -128,8 +126,8 @@ module _ (limit : ℕ) (cs there : List Cell) (s : MemoryState) (current : Curre
           }
 
       pub both_leaves : (p q : ℕ) (r : Stored) → Leaves limit ds s.map r → LeavesStep limit ds s (both_after (at p b) q r)
-      both_leaves p q (stored.Refused k) leaves = tt
-      both_leaves p q (stored.Done c) leaves = (
+      both_leaves p q (Err k) leaves = tt
+      both_leaves p q (Ok c) leaves = (
         record {
           above = omega (arith, base_is, branch.base);
           below = omega (arith, base_is, branch.base);
@@ -139,31 +137,31 @@ module _ (limit : ℕ) (cs there : List Cell) (s : MemoryState) (current : Curre
       )
 
       -- t and u are what the two accesses answer
-      pub both_tells : (x : Row) (l : Listed) → Judged l x → (bound : ℕ) (m : Defined) → int_of s.row ≡ m.program_i → (t u : Tried Defined) → Tells limit bound two (stored.Done b) t → Kept (SameRow (go_to l.p2 m)) t → (r : Stored) → Tells limit bound ds r u → Kept (SameRow (next m)) u → TellsStep limit bound ds (both_after (at x.p2 b) (s.row + 1) r) (t >>= λ branch. u >>= λ stays. offers (branch ∷ []) (some stays))
-      both_tells x l j bound m e t u told t-row (stored.Refused k) is u-row =
-          ap (λ t. t >>= λ branch. u >>= λ stays. offers (branch ∷ []) (some stays)) told.answer
-          ∙ ap (λ u. u >>= λ stays. offers (told.state ∷ []) (some stays)) is
-      both_tells x l j bound m e t u told t-row (stored.Done c) is u-row =
-          subst (Offered limit bound ds (way.To (at x.p2 b)) (way.To (at (s.row + 1) c)))
-          (sym (ap₂ (λ t u. t >>= λ branch. u >>= λ stays. offers (branch ∷ []) (some stays)) told.answer is.answer))
+      pub both_tells : (x : Row) (l : Listed) → Judged l x → (bound : ℕ) (m : Defined) → int_of s.row ≡ m.program_i → (t u : Tried Defined) → Tells limit bound two (Ok b) t → Kept (SameRow (go_to l.p2 m)) t → (r : Stored) → Tells limit bound ds r u → Kept (SameRow (next m)) u → TellsStep limit bound ds (both_after (at x.p2 b) (s.row + 1) r) (t >>= λ branch. u >>= λ stays. offers (branch ∷ []) (Some stays))
+      both_tells x l j bound m e t u told t-row (Err k) is u-row =
+          ap (λ t. t >>= λ branch. u >>= λ stays. offers (branch ∷ []) (Some stays)) told.answer
+          ∙ ap (λ u. u >>= λ stays. offers (told.state ∷ []) (Some stays)) is
+      both_tells x l j bound m e t u told t-row (Ok c) is u-row =
+          subst (Offered limit bound ds (Some (at x.p2 b)) (Some (at (s.row + 1) c)))
+          (sym (ap₂ (λ t u. t >>= λ branch. u >>= λ stays. offers (branch ∷ []) (Some stays)) told.answer is.answer))
           (branches_and_goes
           (record { row = j.p2 ∙ sym (kept t-row told.answer); map = held_elsewhere limit bound two _ _ _ told.state told.holds ds _ branch_same })
           (record { row = next_row s.row e ∙ sym (kept u-row is.answer); map = is.holds }))
 
   module _ (x : Row) (two : List Cell) (f g : Defined → Tried Defined) (f-row : (m : Defined) → Kept (SameRow m) (f m)) (g-row : (m : Defined) → Kept (SameRow m) (g m)) where
-    pub both_refused : (k : ℕ) (r : Stored) → Puts limit there two behind r f → r ≡ stored.Refused k → BothArm limit cs two s x f g (step.Refused k)
+    pub both_refused : (k : Refusal) (r : Stored) → Puts limit there two behind r f → r ≡ Err k → BothArm limit cs two s x f g (Err k)
     both_refused k r tried e =
         let put = subst (λ y. Puts limit there two behind y f) e tried in
         record {
           says = λ l j bound m le h.
-              ap (λ t. t >>= λ branch. g (next m) >>= λ stays. offers (branch ∷ []) (some stays)) (put.leads.says bound _ le (behind_holds l bound m h));
+              ap (λ t. t >>= λ branch. g (next m) >>= λ stays. offers (branch ∷ []) (Some stays)) (put.leads.says bound _ le (behind_holds l bound m h));
           leaves = tt;
           frame = first_frame two put.frame;
         }
 
-    pub both_arm : (b : IntMap) (r : Stored) → Puts limit there two behind r f → r ≡ stored.Done b → (ds : List Cell) (q : Stored) → Puts limit two ds s.map q g → BothArm limit cs ds s x f g (both_after (at x.p2 b) (s.row + 1) q)
+    pub both_arm : (b : IntMap) (r : Stored) → Puts limit there two behind r f → r ≡ Ok b → (ds : List Cell) (q : Stored) → Puts limit two ds s.map q g → BothArm limit cs ds s x f g (both_after (at x.p2 b) (s.row + 1) q)
     both_arm b r tried e ds q last =
-        let put : Puts limit there two behind (stored.Done b) f = subst (λ y. Puts limit there two behind y f) e tried in
+        let put : Puts limit there two behind (Ok b) f = subst (λ y. Puts limit there two behind y f) e tried in
         record {
           says = λ l j bound m le h.
               both_tells two put.frame b put.leads.leaves ds last.frame x l j bound m h.row (f (go_to l.p2 m)) (g (next m))

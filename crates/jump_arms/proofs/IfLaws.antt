@@ -1,7 +1,9 @@
 -- If: a store where P3 is 0, the ways of a known number, and both ways, by `BothLaws`. Assumes nothing.
+use Rattle.refusal.specs.Numbers.{number_of}
+use Rattle.refusal.specs.declared.Refusal.{Refusal}
 use mathlib.Core.Path.{◌≡◌, refl, sym, ap, ap₂, subst, ◌∙◌}
 use mathlib.Core.Bool.{Bool, true, false}
-use mathlib.Core.Option.{Option, none, some}
+use Rattle.std.specs.Prelude.{Option, None, Some, Ok, Err}
 use mathlib.Core.List.{List, [], ◌∷◌}
 use Prim.Native.Nat.{ℕ, ◌+◌}
 use lib.IntN.{ℤ, pos}
@@ -18,21 +20,16 @@ use Rattle.area.specs.Cells.{cell}
 use Rattle.area.specs.declared.Cell.{Cell}
 use Rattle.intmap.specs.Map.{HasRoom}
 use Rattle.intmap.specs.Signed.{offset, int_of}
-use Rattle.intmap.specs.Store.{Stores}
+use Rattle.intmap.specs.Store.{Stores, Stored}
 use Rattle.intmap.specs.declared.IntMap.{IntMap}
-use Rattle.intmap.specs.declared.Stored.{Stored}
-use Rattle.intmap.specs.declared.Stored.TheVariants as stored
 use Rattle.rows.specs.Rows.{Operand}
 use Rattle.rows.specs.Judged.{Judged}
 use Rattle.rows.specs.declared.Row.{Row}
 use Rattle.state.specs.Leads.{Leads}
-use Rattle.state.specs.Steps.{TellsStep, JumpArm}
+use Rattle.state.specs.Steps.{TellsStep, JumpArm, Step}
 use Rattle.state.specs.declared.MemoryState.{MemoryState}
-use Rattle.state.specs.declared.Step.{Step}
-use Rattle.state.specs.declared.Step.TheVariants as step
 use Rattle.state.proofs.StoreLeads.{int_leads, leads_as}
 use Rattle.jump_arms.specs.Arms.{step_after, branch_after, Knows, Puts, BothArm, IfArm}
-use Rattle.jump_arms.specs.declared.Known.TheVariants as known
 use Rattle.jump_arms.proofs.StepLaws.{unchanged, zero_word, other_word, held_at, held_next}
 use Rattle.jump_arms.proofs.StoreSteps.{SameRow, store-row, goes_after, leaves_after, branches_after, branch_leaves}
 
@@ -50,7 +47,7 @@ module _ (limit : ℕ) (cs : List Cell) (a : IntMap) (p1 p3 w : ℕ) where
         frame = st.frame;
       }
 
-  pub put_not : HasRoom cs limit a → (p3 ≡ offset → ⊥) → Puts limit cs cs a (stored.Done a) (store_if (is_zero_int (int_of p3)) limit (int_of p1) (int_of w))
+  pub put_not : HasRoom cs limit a → (p3 ≡ offset → ⊥) → Puts limit cs cs a (Ok a) (store_if (is_zero_int (int_of p3)) limit (int_of p1) (int_of w))
   put_not room z =
       record {
         leads =
@@ -85,7 +82,7 @@ module _ (limit : ℕ) (x : Row) (l : Listed) (j : Judged l x) (m : Defined) whe
 -- ---- a known number
 
 module _ (limit : ℕ) (cs ds : List Cell) (s : MemoryState) (x : Row) (w : ℕ) where
-  pub if_zero : (r : Stored) → w ≡ offset → Leads limit cs ds s.map r (stores limit x offset) → IfArm limit cs ds s x (some (int_of w)) (step_after (s.row + 1) r)
+  pub if_zero : (r : Stored) → w ≡ offset → Leads limit cs ds s.map r (stores limit x offset) → IfArm limit cs ds s x (Some (int_of w)) (step_after (s.row + 1) r)
   unfolding if_arm
   if_zero r z leads =
       record {
@@ -96,10 +93,10 @@ module _ (limit : ℕ) (cs ds : List Cell) (s : MemoryState) (x : Row) (w : ℕ)
         frame = leads.frame;
       }
     where
-      is : (l : Listed) → Judged l x → (m : Defined) → if_arm limit l m (some (int_of w)) ≡ (stores limit x offset (next m) >>= λ n. goes_on n)
+      is : (l : Listed) → Judged l x → (m : Defined) → if_arm limit l m (Some (int_of w)) ≡ (stores limit x offset (next m) >>= λ n. goes_on n)
       is l j m = ap (if_known limit l m) (zero_word w (int_of w) refl z) ∙ ap (λ t. t >>= λ n. goes_on n) (stay_is limit x l j m)
 
-  pub if_other : (r : Stored) → (w ≡ offset → ⊥) → Leads limit cs ds s.map r (stores limit x one) → IfArm limit cs ds s x (some (int_of w)) (branch_after x.p2 r)
+  pub if_other : (r : Stored) → (w ≡ offset → ⊥) → Leads limit cs ds s.map r (stores limit x one) → IfArm limit cs ds s x (Some (int_of w)) (branch_after x.p2 r)
   unfolding if_arm
   if_other r z leads =
       record {
@@ -110,13 +107,13 @@ module _ (limit : ℕ) (cs ds : List Cell) (s : MemoryState) (x : Row) (w : ℕ)
         frame = leads.frame;
       }
     where
-      is : (l : Listed) → Judged l x → (m : Defined) → if_arm limit l m (some (int_of w)) ≡ (stores limit x one (go_to l.p2 m) >>= λ n. offers (n ∷ []) none)
-      is l j m = ap (if_known limit l m) (other_word w (int_of w) refl z) ∙ ap (λ t. t >>= λ n. offers (n ∷ []) none) (branch_is limit x l j m)
+      is : (l : Listed) → Judged l x → (m : Defined) → if_arm limit l m (Some (int_of w)) ≡ (stores limit x one (go_to l.p2 m) >>= λ n. offers (n ∷ []) None)
+      is l j m = ap (if_known limit l m) (other_word w (int_of w) refl z) ∙ ap (λ t. t >>= λ n. offers (n ∷ []) None) (branch_is limit x l j m)
 
 -- ---- both ways
 
 module _ (limit : ℕ) (cs ds : List Cell) (s : MemoryState) (x : Row) where
-  pub if_both : (r : Step) → BothArm limit cs ds s x (stores limit x one) (stores limit x offset) r → IfArm limit cs ds s x none r
+  pub if_both : (r : Step) → BothArm limit cs ds s x (stores limit x one) (stores limit x offset) r → IfArm limit cs ds s x None r
   unfolding if_arm
   if_both r arm =
       record {
@@ -125,8 +122,8 @@ module _ (limit : ℕ) (cs ds : List Cell) (s : MemoryState) (x : Row) where
         frame = arm.frame;
       }
     where
-      is : (l : Listed) → Judged l x → (m : Defined) → if_arm limit l m none ≡ (stores limit x one (go_to l.p2 m) >>= λ branch. stores limit x offset (next m) >>= λ stays. offers (branch ∷ []) (some stays))
-      is l j m = ap₂ (λ t u. t >>= λ branch. u >>= λ stays. offers (branch ∷ []) (some stays)) (branch_is limit x l j m) (stay_is limit x l j m)
+      is : (l : Listed) → Judged l x → (m : Defined) → if_arm limit l m None ≡ (stores limit x one (go_to l.p2 m) >>= λ branch. stores limit x offset (next m) >>= λ stays. offers (branch ∷ []) (Some stays))
+      is l j m = ap₂ (λ t u. t >>= λ branch. u >>= λ stays. offers (branch ∷ []) (Some stays)) (branch_is limit x l j m) (stay_is limit x l j m)
 
 -- ---- the arm
 
@@ -135,11 +132,11 @@ module _ (limit : ℕ) (cs : List Cell) (s : MemoryState) (x : Row) where
   unfolding jump_arm
   if_is rows l m j t e = ap (λ u. u >>= λ v. if_arm limit l m (known_int v)) (ap (λ i. read_register i m) (sym j.p1) ∙ e)
 
-  pub if_bad : (n : ℕ) → Knows cs s.map x.p1 (known.Bad n) → JumpArm limit cs cs s x op_if (step.Refused n)
+  pub if_bad : (n : Refusal) → Knows cs s.map x.p1 (Err n) → JumpArm limit cs cs s x op_if (Err n)
   if_bad n k =
-      record { says = λ rows l j bound m le h. if_is rows l m j (refused n) (k.says limit bound m h.map); leaves = tt; frame = unchanged cs _ _ }
+      record { says = λ rows l j bound m le h. if_is rows l m j (refused (number_of n)) (k.says limit bound m h.map); leaves = tt; frame = unchanged cs _ _ }
 
-  pub if_unknown : (ds : List Cell) (r : Step) → Knows cs s.map x.p1 known.Unknown → IfArm limit cs ds s x none r → JumpArm limit cs ds s x op_if r
+  pub if_unknown : (ds : List Cell) (r : Step) → Knows cs s.map x.p1 (Ok None) → IfArm limit cs ds s x None r → JumpArm limit cs ds s x op_if r
   if_unknown ds r k arm =
       record {
         says = λ rows l j bound m le h.
@@ -149,7 +146,7 @@ module _ (limit : ℕ) (cs : List Cell) (s : MemoryState) (x : Row) where
         frame = arm.frame;
       }
 
-  pub if_int : (ds : List Cell) (w : ℕ) (r : Step) → Knows cs s.map x.p1 (known.Int w) → IfArm limit cs ds s x (some (int_of w)) r → JumpArm limit cs ds s x op_if r
+  pub if_int : (ds : List Cell) (w : ℕ) (r : Step) → Knows cs s.map x.p1 (Ok (Some w)) → IfArm limit cs ds s x (Some (int_of w)) r → JumpArm limit cs ds s x op_if r
   if_int ds w r k arm =
       record {
         says = λ rows l j bound m le h.

@@ -1,7 +1,9 @@
 -- IsNull and NotNull: what is asked of the register, the two changes to it by a store, and the two arms by one law. Assumes nothing.
+use Rattle.refusal.specs.Numbers.{number_of}
+use Rattle.refusal.specs.declared.Refusal.{Refusal}
 use mathlib.Core.Path.{◌≡◌, refl, sym, ap, ap₂, subst, ◌∙◌}
 use mathlib.Core.Bool.{Bool, true, false, not}
-use mathlib.Core.Option.{Option, none, some}
+use Rattle.std.specs.Prelude.{Option, None, Some, Ok, Err, eqb}
 use mathlib.Core.List.{List, [], ◌∷◌}
 use Prim.Native.Nat.{ℕ, zero, suc, ◌+◌, ◌<◌}
 use native.Mathlib.Omega.{arith}
@@ -21,10 +23,8 @@ use Rattle.model.proofs.InPlace.{to_default_no_larger, to_not_null_no_larger}
 use Rattle.area.specs.declared.Cell.{Cell}
 use Rattle.intmap.specs.Map.{HasRoom}
 use Rattle.intmap.specs.Signed.{int_of}
-use Rattle.intmap.specs.Store.{Stores}
+use Rattle.intmap.specs.Store.{Stores, Stored}
 use Rattle.intmap.specs.declared.IntMap.{IntMap}
-use Rattle.intmap.specs.declared.Stored.{Stored}
-use Rattle.intmap.specs.declared.Stored.TheVariants as stored
 use Rattle.encoding.specs.Encode.{single}
 use Rattle.encoding.specs.Decode.{datatypes, nullables}
 use Rattle.model.specs.IntMap.{get, update}
@@ -33,77 +33,57 @@ use Rattle.encoding.proofs.Updates.{update_stored, update_kept, update_refused}
 use Rattle.rows.specs.Judged.{Judged}
 use Rattle.rows.specs.declared.Row.{Row}
 use Rattle.state.specs.Leads.{HoldsMap, Tells}
-use Rattle.state.specs.Reads.{Reads}
-use Rattle.state.specs.Steps.{HoldsState, Offered, TellsStep, JumpArm}
+use Rattle.state.specs.Reads.{Reads, Reading}
+use Rattle.state.specs.Steps.{HoldsState, Offered, TellsStep, JumpArm, Step, offered}
 use Rattle.state.specs.declared.MemoryState.{MemoryState}
 use Rattle.state.specs.declared.Register.{Register}
 use Rattle.state.specs.declared.Register.TheVariants as register
-use Rattle.state.specs.declared.Way.TheVariants as way
-use Rattle.state.specs.declared.Step.{Step}
-use Rattle.state.specs.declared.Step.TheVariants as step
 use Rattle.state.proofs.StoreLeads.{single_leads}
-use Rattle.register_arms.specs.Values.{IsDatatype}
 use Rattle.jump_arms.specs.Arms.{step_after, branch_after, Puts, BothArm, IsAsked, Asks, changed}
-use Rattle.jump_arms.specs.declared.Asked.TheVariants as asked
+use Rattle.jump_arms.specs.declared.Asked.{Asked}
 use Rattle.jump_arms.proofs.StepLaws.{unchanged, held_at, held_next, ends_here}
 use Rattle.jump_arms.proofs.StoreSteps.{SameRow, goes_after, leaves_after, branches_after, branch_leaves}
 
 -- ---- what is asked
 
-never-false : (n : ℕ) → n ≡ 1 → not (is_false (get_or nullables n none)) ≡ false
-never-false n e = ap (λ k. not (is_false (get_or nullables k none))) e
+abbrev pub asked : Bool → Bool → Asked
+asked null kind = record { null = null; kind = kind }
 
-may_be : (n : ℕ) → n < 3 → (n ≡ 1 → ⊥) → not (is_false (get_or nullables n none)) ≡ true
-may_be zero h e = refl
-may_be (suc zero) h e = absurd (e refl)
-may_be (suc (suc zero)) h e = refl
-may_be (suc (suc (suc n))) h e = absurd (omega arith)
+may_be : (n : ℕ) → n < 3 → not (is_false (get_or nullables n None)) ≡ not (eqb n 1)
+may_be zero h = refl
+may_be (suc zero) h = refl
+may_be (suc (suc zero)) h = refl
+may_be (suc (suc (suc n))) h = absurd (omega arith)
 
-no_kind : (k : ℕ) → k ≡ 0 → not (is_null_type (get_or datatypes k Null)) ≡ false
-no_kind k e = ap (λ j. not (is_null_type (get_or datatypes j Null))) e
+has_kind_lem : (k : ℕ) → k < 11 → not (is_null_type (get_or datatypes k Null)) ≡ not (eqb k 0)
+has_kind_lem zero h = refl
+has_kind_lem (suc zero) h = refl
+has_kind_lem (suc (suc zero)) h = refl
+has_kind_lem (suc (suc (suc zero))) h = refl
+has_kind_lem (suc (suc (suc (suc zero)))) h = refl
+has_kind_lem (suc (suc (suc (suc (suc zero))))) h = refl
+has_kind_lem (suc (suc (suc (suc (suc (suc zero)))))) h = refl
+has_kind_lem (suc (suc (suc (suc (suc (suc (suc zero))))))) h = refl
+has_kind_lem (suc (suc (suc (suc (suc (suc (suc (suc zero)))))))) h = refl
+has_kind_lem (suc (suc (suc (suc (suc (suc (suc (suc (suc zero))))))))) h = refl
+has_kind_lem (suc (suc (suc (suc (suc (suc (suc (suc (suc (suc zero)))))))))) h = refl
+has_kind_lem (suc (suc (suc (suc (suc (suc (suc (suc (suc (suc (suc k))))))))))) h = absurd (omega arith)
 
-has_kind_lem : (k : ℕ) → k < 11 → (k ≡ 0 → ⊥) → not (is_null_type (get_or datatypes k Null)) ≡ true
-has_kind_lem zero h e = absurd (e refl)
-has_kind_lem (suc zero) h e = refl
-has_kind_lem (suc (suc zero)) h e = refl
-has_kind_lem (suc (suc (suc zero))) h e = refl
-has_kind_lem (suc (suc (suc (suc zero)))) h e = refl
-has_kind_lem (suc (suc (suc (suc (suc zero))))) h e = refl
-has_kind_lem (suc (suc (suc (suc (suc (suc zero)))))) h e = refl
-has_kind_lem (suc (suc (suc (suc (suc (suc (suc zero))))))) h e = refl
-has_kind_lem (suc (suc (suc (suc (suc (suc (suc (suc zero)))))))) h e = refl
-has_kind_lem (suc (suc (suc (suc (suc (suc (suc (suc (suc zero))))))))) h e = refl
-has_kind_lem (suc (suc (suc (suc (suc (suc (suc (suc (suc (suc zero)))))))))) h e = refl
-has_kind_lem (suc (suc (suc (suc (suc (suc (suc (suc (suc (suc (suc k))))))))))) h e = absurd (omega arith)
-
-module _ (cs : List Cell) (a : IntMap) (i : ℕ) (x : Register) (reads : Reads cs a i x) where
-  pub asks_bad : (n : ℕ) → x ≡ register.Bad n → Asks cs a i (asked.Bad n)
+module _ (cs : List Cell) (a : IntMap) (i : ℕ) (x : Reading) (reads : Reads cs a i x) where
+  pub asks_bad : (n : Refusal) → x ≡ Err n → Asks cs a i (Err n)
   asks_bad n e = record { says = λ limit bound m h. (subst (Reads cs a i) e reads).says limit bound m h }
 
-  pub asks_absent : x ≡ register.Absent → Asks cs a i asked.Neither
-  asks_absent e = record { says = λ limit bound m h. record { value = none; answer = (subst (Reads cs a i) e reads).says limit bound m h; null = refl; kind = refl } }
+  pub asks_absent : x ≡ Ok None → Asks cs a i (Ok (asked false false))
+  asks_absent e = record { says = λ limit bound m h. record { value = None; answer = (subst (Reads cs a i) e reads).says limit bound m h; null = refl; kind = refl } }
 
-  pub asks_record : (p : ℕ) → x ≡ register.Record p → Asks cs a i asked.Null
+  pub asks_record : (p : ℕ) → x ≡ Ok (Some (register.Record p)) → Asks cs a i (Ok (asked true false))
   asks_record p e = record { says = λ limit bound m h. record { value = _; answer = ((subst (Reads cs a i) e reads).says limit bound m h).answer; null = refl; kind = refl } }
 
-  pub asks_int : (w : ℕ) → x ≡ register.Int w → Asks cs a i asked.Kind
+  pub asks_int : (w : ℕ) → x ≡ Ok (Some (register.Int w)) → Asks cs a i (Ok (asked false true))
   asks_int w e = record { says = λ limit bound m h. record { value = _; answer = ((subst (Reads cs a i) e reads).says limit bound m h).answer; null = refl; kind = refl } }
 
-  module _ (k n : ℕ) (e : x ≡ register.Single k n) where
-    told : Reads cs a i (register.Single k n)
-    told = subst (Reads cs a i) e reads
-
-    pub asks_neither : n ≡ 1 → k ≡ 0 → Asks cs a i asked.Neither
-    asks_neither p q = record { says = λ limit bound m h. record { value = _; answer = (told.says limit bound m h).answer; null = never-false n p; kind = no_kind k q } }
-
-    pub asks_kind : n ≡ 1 → (k ≡ 0 → ⊥) → Asks cs a i asked.Kind
-    asks_kind p q = record { says = λ limit bound m h. (let t = told.says limit bound m h in record { value = _; answer = t.answer; null = never-false n p; kind = has_kind_lem k t.kind_small q }) }
-
-    pub asks_null : (n ≡ 1 → ⊥) → k ≡ 0 → Asks cs a i asked.Null
-    asks_null p q = record { says = λ limit bound m h. (let t = told.says limit bound m h in record { value = _; answer = t.answer; null = may_be n t.nullable_small p; kind = no_kind k q }) }
-
-    pub asks_either : (n ≡ 1 → ⊥) → (k ≡ 0 → ⊥) → Asks cs a i asked.Either
-    asks_either p q = record { says = λ limit bound m h. (let t = told.says limit bound m h in record { value = _; answer = t.answer; null = may_be n t.nullable_small p; kind = has_kind_lem k t.kind_small q }) }
+  pub asks_single : (k n : ℕ) → x ≡ Ok (Some (register.Single k n)) → Asks cs a i (Ok (asked (not (eqb n 1)) (not (eqb k 0))))
+  asks_single k n e = record { says = λ limit bound m h. (let t = (subst (Reads cs a i) e reads).says limit bound m h in record { value = _; answer = t.answer; null = may_be n t.nullable_small; kind = has_kind_lem k t.kind_small }) }
 
 -- ---- the changes
 
@@ -111,23 +91,23 @@ pub update-row : (i : ℤ) (f : RegDataType → RegDataType) (m : Defined) → K
 unfolding update_register
 update-row i f m = anything (index i) >> λ k _. value refl
 
-pub put-single : (limit : ℕ) (cs ds : List Cell) (a : IntMap) (i : ℕ) (r : Stored) (d : DataType) (n : ℕ) (c : Cell) → n < 3 → c ≡ single (datatype_code d) n 0 → Stores cs ds limit a 0 i 0 (c ∷ []) r → Puts limit cs ds a r (store_register limit (int_of i) (Column (Single d (get_or nullables n none))))
+pub put-single : (limit : ℕ) (cs ds : List Cell) (a : IntMap) (i : ℕ) (r : Stored) (d : DataType) (n : ℕ) (c : Cell) → n < 3 → c ≡ single (datatype_code d) n 0 → Stores cs ds limit a 0 i 0 (c ∷ []) r → Puts limit cs ds a r (store_register limit (int_of i) (Column (Single d (get_or nullables n None))))
 put-single limit cs ds a i r d n c small e st = record { leads = single_leads limit cs ds a i r d n c small e st; frame = st.frame }
 
-module _ (limit : ℕ) (cs : List Cell) (a : IntMap) (i : ℕ) (x : Register) (reads : Reads cs a i x) where
-  pub put_bad : (f : RegDataType → RegDataType) (n : ℕ) → x ≡ register.Bad n → Puts limit cs cs a (stored.Refused n) (update_register (int_of i) f)
+module _ (limit : ℕ) (cs : List Cell) (a : IntMap) (i : ℕ) (x : Reading) (reads : Reads cs a i x) where
+  pub put_bad : (f : RegDataType → RegDataType) (n : Refusal) → x ≡ Err n → Puts limit cs cs a (Err n) (update_register (int_of i) f)
   put_bad f n e =
       record {
         leads =
             record {
-              says = λ bound m le h. update_refused h.good (int_of i) f n ((subst (Reads cs a i) e reads).says limit bound m h);
+              says = λ bound m le h. update_refused h.good (int_of i) f (number_of n) ((subst (Reads cs a i) e reads).says limit bound m h);
               leaves = tt;
               frame = unchanged cs _ _;
             };
         frame = unchanged cs _ _;
       }
 
-  put_kept : HasRoom cs limit a → (f : RegDataType → RegDataType) → ((bound : ℕ) (m : Defined) → HoldsMap limit bound cs a m → update_register (int_of i) f m ≡ done m) → Puts limit cs cs a (stored.Done a) (update_register (int_of i) f)
+  put_kept : HasRoom cs limit a → (f : RegDataType → RegDataType) → ((bound : ℕ) (m : Defined) → HoldsMap limit bound cs a m → update_register (int_of i) f m ≡ done m) → Puts limit cs cs a (Ok a) (update_register (int_of i) f)
   put_kept room f same =
       record {
         leads =
@@ -139,13 +119,13 @@ module _ (limit : ℕ) (cs : List Cell) (a : IntMap) (i : ℕ) (x : Register) (r
         frame = unchanged cs _ _;
       }
 
-  pub put_absent : HasRoom cs limit a → (f : RegDataType → RegDataType) → x ≡ register.Absent → Puts limit cs cs a (stored.Done a) (update_register (int_of i) f)
-  put_absent room f e = put_kept room f (λ bound m h. update_kept h.good (int_of i) f none ((subst (Reads cs a i) e reads).says limit bound m h) tt)
+  pub put_absent : HasRoom cs limit a → (f : RegDataType → RegDataType) → x ≡ Ok None → Puts limit cs cs a (Ok a) (update_register (int_of i) f)
+  put_absent room f e = put_kept room f (λ bound m h. update_kept h.good (int_of i) f None ((subst (Reads cs a i) e reads).says limit bound m h) tt)
 
-  pub never_record : HasRoom cs limit a → (p : ℕ) → x ≡ register.Record p → Puts limit cs cs a (stored.Done a) (update_register (int_of i) to_not_null)
+  pub never_record : HasRoom cs limit a → (p : ℕ) → x ≡ Ok (Some (register.Record p)) → Puts limit cs cs a (Ok a) (update_register (int_of i) to_not_null)
   never_record room p e = put_kept room to_not_null (λ bound m h. update_kept h.good (int_of i) to_not_null _ ((subst (Reads cs a i) e reads).says limit bound m h).answer refl)
 
-  pub never_int : HasRoom cs limit a → (w : ℕ) → x ≡ register.Int w → Puts limit cs cs a (stored.Done a) (update_register (int_of i) to_not_null)
+  pub never_int : HasRoom cs limit a → (w : ℕ) → x ≡ Ok (Some (register.Int w)) → Puts limit cs cs a (Ok a) (update_register (int_of i) to_not_null)
   never_int room w e = put_kept room to_not_null (λ bound m h. update_kept h.good (int_of i) to_not_null _ ((subst (Reads cs a i) e reads).says limit bound m h).answer refl)
 
   module _ (ds : List Cell) (r : Stored) where
@@ -161,24 +141,18 @@ module _ (limit : ℕ) (cs : List Cell) (a : IntMap) (i : ℕ) (x : Register) (r
           frame = put.frame;
         }
 
-    module _ (put : Puts limit cs ds a r (store_register limit (int_of i) (Column (Single Null none)))) where
-      pub default_single : (k n : ℕ) → x ≡ register.Single k n → Puts limit cs ds a r (update_register (int_of i) to_default)
-      default_single k n e = put_as (λ bound m h. update_stored h.good (int_of i) to_default _ ((subst (Reads cs a i) e reads).says limit bound m h).answer to_default_no_larger) put
+    module _ (put : Puts limit cs ds a r (store_register limit (int_of i) (Column (Single Null None)))) where
+      pub default_some : (q : Register) → x ≡ Ok (Some q) → Puts limit cs ds a r (update_register (int_of i) to_default)
+      default_some (register.Single k n) e = put_as (λ bound m h. update_stored h.good (int_of i) to_default _ ((subst (Reads cs a i) e reads).says limit bound m h).answer to_default_no_larger) put
+      default_some (register.Record p) e = put_as (λ bound m h. update_stored h.good (int_of i) to_default _ ((subst (Reads cs a i) e reads).says limit bound m h).answer to_default_no_larger) put
+      default_some (register.Int w) e = put_as (λ bound m h. update_stored h.good (int_of i) to_default _ ((subst (Reads cs a i) e reads).says limit bound m h).answer to_default_no_larger) put
 
-      pub default_record : (p : ℕ) → x ≡ register.Record p → Puts limit cs ds a r (update_register (int_of i) to_default)
-      default_record p e = put_as (λ bound m h. update_stored h.good (int_of i) to_default _ ((subst (Reads cs a i) e reads).says limit bound m h).answer to_default_no_larger) put
-
-      pub default_int : (w : ℕ) → x ≡ register.Int w → Puts limit cs ds a r (update_register (int_of i) to_default)
-      default_int w e = put_as (λ bound m h. update_stored h.good (int_of i) to_default _ ((subst (Reads cs a i) e reads).says limit bound m h).answer to_default_no_larger) put
-
-    pub never_single : (d : DataType) → IsDatatype x d → Puts limit cs ds a r (store_register limit (int_of i) (Column (Single d (some false)))) → (k n : ℕ) → x ≡ register.Single k n → Puts limit cs ds a r (update_register (int_of i) to_not_null)
-    never_single d isd put k n e =
+    pub never_single : (k n : ℕ) (d : DataType) → d ≡ get_or datatypes k Null → Puts limit cs ds a r (store_register limit (int_of i) (Column (Single d (Some false)))) → x ≡ Ok (Some (register.Single k n)) → Puts limit cs ds a r (update_register (int_of i) to_not_null)
+    never_single k n d kind put e =
         put_as
         (λ bound m h.
-        (let t = (subst (Reads cs a i) e reads).says limit bound m h in
-        update_stored h.good (int_of i) to_not_null _ t.answer to_not_null_no_larger
-        ∙ ap (λ y. store_register limit (int_of i) (Column (Single y (some false))) m)
-        (sym ((subst (λ y. IsDatatype y d) e isd).says bound cs a _ (record { answer = refl; kind_small = t.kind_small; nullable_small = t.nullable_small })))))
+        update_stored h.good (int_of i) to_not_null _ ((subst (Reads cs a i) e reads).says limit bound m h).answer to_not_null_no_larger
+        ∙ ap (λ y. store_register limit (int_of i) (Column (Single y (Some false))) m) (sym kind))
         put
 
 pub put-changed : (limit : ℕ) (cs ds : List Cell) (a : IntMap) (i : ℕ) (r : Stored) (null b : Bool) → null ≡ b → Puts limit cs ds a r (update_register (int_of i) (changed b)) → Puts limit cs ds a r (update_register (int_of i) (changed null))
@@ -217,9 +191,9 @@ module _ (f g : RegDataType → RegDataType) (p q : ℤ) (i : ℤ) (m : Defined)
   unfolding update_register
   ways_end = ap (ways_at false false) (indexed i m o read).is
 
-  ways_branch : ways f g p q true false i m ≡ (update_register i f (go_to p m) >>= λ n. offers (n ∷ []) none)
+  ways_branch : ways f g p q true false i m ≡ (update_register i f (go_to p m) >>= λ n. offers (n ∷ []) None)
   unfolding update_register
-  ways_branch = let e = (indexed i m o read).is in ap (ways_at true false) e ∙ sym (ap (λ t. changed_to f p t >>= λ n. offers (n ∷ []) none) e)
+  ways_branch = let e = (indexed i m o read).is in ap (ways_at true false) e ∙ sym (ap (λ t. changed_to f p t >>= λ n. offers (n ∷ []) None) e)
 
   ways_stay : ways f g p q false true i m ≡ (update_register i g (go_to q m) >>= λ n. goes_on n)
   unfolding update_register
@@ -261,9 +235,9 @@ module _ (limit : ℕ) (cs : List Cell) (s : MemoryState) (x : Row) (o : JumpOpe
       ∙ ap (λ i. read_register i m >>= λ v. ways (changed null) (changed (not null)) l.p2 (suc_ℤ m.program_i) (test v) (may_be_null v) i m) (sym j.p1)
       ∙ ap (λ u. u >>= λ v. after l m (test v) (may_be_null v)) e
 
-  pub change_bad : (n : ℕ) → Asks cs s.map x.p1 (asked.Bad n) → JumpArm limit cs cs s x o (step.Refused n)
+  pub change_bad : (n : Refusal) → Asks cs s.map x.p1 (Err n) → JumpArm limit cs cs s x o (Err n)
   change_bad n k =
-      record { says = λ rows l j bound m le h. read_is rows l m j (refused n) (k.says limit bound m h.map); leaves = tt; frame = unchanged cs _ _ }
+      record { says = λ rows l j bound m le h. read_is rows l m j (refused (number_of n)) (k.says limit bound m h.map); leaves = tt; frame = unchanged cs _ _ }
 
   module _ (b c : Bool) (told : (bound : ℕ) (m : Defined) → HoldsState limit bound cs s m → Decided test b c (read_register (int_of x.p1) m)) where
     told_is : (rows : List Listed) (l : Listed) (bound : ℕ) (m : Defined) → Judged l x → HoldsState limit bound cs s m → jump_arm limit rows l m o ≡ after l m b c
@@ -271,12 +245,12 @@ module _ (limit : ℕ) (cs : List Cell) (s : MemoryState) (x : Row) (o : JumpOpe
         let u = told bound m h in
         read_is rows l m j _ u.answer ∙ ap₂ (after l m) u.branch u.stays
 
-  pub change_ends : ((bound : ℕ) (m : Defined) → HoldsState limit bound cs s m → Decided test false false (read_register (int_of x.p1) m)) → JumpArm limit cs cs s x o (step.Ways way.Nowhere way.Nowhere)
+  pub change_ends : ((bound : ℕ) (m : Defined) → HoldsState limit bound cs s m → Decided test false false (read_register (int_of x.p1) m)) → JumpArm limit cs cs s x o (offered None None)
   change_ends told =
       record {
         says = λ rows l j bound m le h.
             (let u = told bound m h in
-            subst (Offered limit bound cs way.Nowhere way.Nowhere)
+            subst (Offered limit bound cs None None)
             (sym (told_is false false told rows l bound m j h ∙ ways_end _ _ _ _ (int_of x.p1) m u.value u.answer))
             ends_here);
         leaves = (tt, tt);
@@ -316,9 +290,9 @@ module _ (limit : ℕ) (cs : List Cell) (s : MemoryState) (x : Row) (o : JumpOpe
       }
 
 -- what the answers decide
-module _ {b k : Bool} {t : Tried (Option RegDataType)} (u : IsAsked b k t) where
+module _ {q : Asked} {b : Bool} {t : Tried (Option RegDataType)} (u : IsAsked q.null q.kind t) (e : q.null ≡ b) where
   pub decided_null : Decided may_be_null b b t
-  decided_null = record { value = u.value; answer = u.answer; branch = u.null; stays = u.null }
+  decided_null = record { value = u.value; answer = u.answer; branch = u.null ∙ e; stays = u.null ∙ e }
 
-  pub decided_kind : Decided has_kind k b t
-  decided_kind = record { value = u.value; answer = u.answer; branch = u.kind; stays = u.null }
+  pub decided_kind : {c : Bool} → q.kind ≡ c → Decided has_kind c b t
+  decided_kind f = record { value = u.value; answer = u.answer; branch = u.kind ∙ f; stays = u.null ∙ e }

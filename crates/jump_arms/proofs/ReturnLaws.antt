@@ -1,7 +1,9 @@
 -- Whether a register is known to hold a number; a register removed; and Return, which goes to the row after the number. Assumes nothing.
+use Rattle.refusal.specs.Numbers.{number_of}
+use Rattle.refusal.specs.declared.Refusal.{Refusal}
 use mathlib.Core.Path.{◌≡◌, refl, sym, ap, subst, ◌∙◌}
 use mathlib.Core.Bool.{Bool, true, false}
-use mathlib.Core.Option.{Option, none}
+use Rattle.std.specs.Prelude.{Option, None, Ok, Err, Some}
 use mathlib.Core.List.{List}
 use Prim.Native.Nat.{ℕ, ◌+◌, ◌<◌, ◌≤◌}
 use native.Mathlib.Omega.{arith}
@@ -20,43 +22,37 @@ use Rattle.model.proofs.Tried.{Kept, value, ◌>>◌, anything}
 use Rattle.area.specs.declared.Cell.{Cell}
 use Rattle.intmap.specs.Map.{runs_at}
 use Rattle.intmap.specs.Signed.{int_of, word_of, Small}
-use Rattle.intmap.specs.Store.{RemovesAt}
+use Rattle.intmap.specs.Store.{RemovesAt, Stored}
 use Rattle.intmap.specs.declared.IntMap.{IntMap}
-use Rattle.intmap.specs.declared.Stored.{Stored}
-use Rattle.intmap.specs.declared.Stored.TheVariants as stored
 use Rattle.intmap.proofs.SignedLaws.{int_suc, int_same, word_int}
 use Rattle.encoding.proofs.HeldAfter.{held_removal}
 use Rattle.rows.specs.Judged.{Judged}
 use Rattle.rows.specs.declared.Row.{Row}
 use Rattle.state.specs.Leads.{Current, Leads}
-use Rattle.state.specs.Reads.{Reads}
-use Rattle.state.specs.Steps.{HoldsState, Offered, TellsStep, JumpArm}
+use Rattle.state.specs.Reads.{Reads, Reading}
+use Rattle.state.specs.Steps.{HoldsState, Offered, TellsStep, JumpArm, offered}
 use Rattle.state.specs.declared.MemoryState.{MemoryState}
-use Rattle.state.specs.declared.Register.{Register}
 use Rattle.state.specs.declared.Register.TheVariants as register
-use Rattle.state.specs.declared.Way.TheVariants as way
-use Rattle.state.specs.declared.Step.TheVariants as step
 use Rattle.jump_arms.specs.Arms.{RowAfter, at, step_after, Knows}
-use Rattle.jump_arms.specs.declared.Known.TheVariants as known
 use Rattle.jump_arms.proofs.StepLaws.{unchanged, held_at, held_next, goes_on_lem, ends_here}
 use Rattle.jump_arms.proofs.StoreSteps.{SameRow, goes_after, leaves_after}
 
 -- ---- a known number
 
-module _ (cs : List Cell) (a : IntMap) (i : ℕ) (x : Register) (reads : Reads cs a i x) where
-  pub knows_bad : (n : ℕ) → x ≡ register.Bad n → Knows cs a i (known.Bad n)
+module _ (cs : List Cell) (a : IntMap) (i : ℕ) (x : Reading) (reads : Reads cs a i x) where
+  pub knows_bad : (n : Refusal) → x ≡ Err n → Knows cs a i (Err n)
   knows_bad n e = record { says = λ limit bound m h. (subst (Reads cs a i) e reads).says limit bound m h }
 
-  pub knows_absent : x ≡ register.Absent → Knows cs a i known.Unknown
-  knows_absent e = record { says = λ limit bound m h. record { value = none; answer = (subst (Reads cs a i) e reads).says limit bound m h; is = refl } }
+  pub knows_absent : x ≡ Ok None → Knows cs a i (Ok None)
+  knows_absent e = record { says = λ limit bound m h. record { value = None; answer = (subst (Reads cs a i) e reads).says limit bound m h; is = refl } }
 
-  pub knows_single : (k n : ℕ) → x ≡ register.Single k n → Knows cs a i known.Unknown
+  pub knows_single : (k n : ℕ) → x ≡ Ok (Some (register.Single k n)) → Knows cs a i (Ok None)
   knows_single k n e = record { says = λ limit bound m h. record { value = _; answer = ((subst (Reads cs a i) e reads).says limit bound m h).answer; is = refl } }
 
-  pub knows_record : (p : ℕ) → x ≡ register.Record p → Knows cs a i known.Unknown
+  pub knows_record : (p : ℕ) → x ≡ Ok (Some (register.Record p)) → Knows cs a i (Ok None)
   knows_record p e = record { says = λ limit bound m h. record { value = _; answer = ((subst (Reads cs a i) e reads).says limit bound m h).answer; is = refl } }
 
-  pub knows_int : (w : ℕ) → x ≡ register.Int w → Knows cs a i (known.Int w)
+  pub knows_int : (w : ℕ) → x ≡ Ok (Some (register.Int w)) → Knows cs a i (Ok (Some w))
   knows_int w e = record { says = λ limit bound m h. (subst (Reads cs a i) e reads).says limit bound m h }
 
 -- a word of a small number is not the last
@@ -74,13 +70,13 @@ unfolding remove_register
 remove-row i m = anything (index i) >> λ k _. value refl
 
 pub removal_leads : (limit : ℕ) (cs ds : List Cell) (a : IntMap) (i : ℕ) (r : Stored) → Current limit cs a → RemovesAt cs ds a 0 i r → Leads limit cs ds a r (remove_register (int_of i))
-removal_leads limit cs ds a i (stored.Refused n) current st =
+removal_leads limit cs ds a i (Err n) current st =
     record {
-      says = λ bound m le h. (held_removal h (int_of i)).refuses n (sym st.answer);
+      says = λ bound m le h. (held_removal h (int_of i)).refuses (number_of n) (sym st.answer);
       leaves = tt;
       frame = record { long = st.frame.long; below = st.frame.below; above = λ j le. st.frame.above j (omega (arith, current.room.most)) };
     }
-removal_leads limit cs ds a i (stored.Done b) current st =
+removal_leads limit cs ds a i (Ok b) current st =
     record {
       says = λ bound m le h. (held_removal h (int_of i)).next ds b.base b.len b.used (runs_at ds b) (sym st.answer) refl st.leaves.map.used;
       leaves =
@@ -105,11 +101,11 @@ module _ (limit : ℕ) (cs : List Cell) (s : MemoryState) (x : Row) where
   unfolding jump_arm
   return_is rows l m j t e = ap (λ u. u >>= λ v. return_arm l m (known_int v)) (ap (λ i. read_register i m) (sym j.p1) ∙ e)
 
-  pub return_bad : (n : ℕ) → Knows cs s.map x.p1 (known.Bad n) → JumpArm limit cs cs s x op_return (step.Refused n)
+  pub return_bad : (n : Refusal) → Knows cs s.map x.p1 (Err n) → JumpArm limit cs cs s x op_return (Err n)
   return_bad n k =
-      record { says = λ rows l j bound m le h. return_is rows l m j (refused n) (k.says limit bound m h.map); leaves = tt; frame = unchanged cs _ _ }
+      record { says = λ rows l j bound m le h. return_is rows l m j (refused (number_of n)) (k.says limit bound m h.map); leaves = tt; frame = unchanged cs _ _ }
 
-  module _ (k : Knows cs s.map x.p1 known.Unknown) where
+  module _ (k : Knows cs s.map x.p1 (Ok None)) where
     else_is : (rows : List Listed) (l : Listed) (m : Defined) (bound : ℕ) (t : Bool) → Judged l x → eqb x.p3 9223372036854775809 ≡ t → HoldsState limit bound cs s m → jump_arm limit rows l m op_return ≡ return_else t m
     unfolding return_arm int_of
     else_is rows l m bound t j e h =
@@ -117,25 +113,25 @@ module _ (limit : ℕ) (cs : List Cell) (s : MemoryState) (x : Row) where
         return_is rows l m j (done u.value) u.answer ∙ ap (return_arm l m) u.is
         ∙ ap (λ b. return_else b m) (ap (λ i. eq_int i (pos 1)) (sym j.p3) ∙ int_same x.p3 9223372036854775809 ∙ e)
 
-    pub return_on : Current limit cs s.map → x.p3 ≡ 9223372036854775809 → JumpArm limit cs cs s x op_return (step.Ways way.Nowhere (way.To (at (s.row + 1) s.map)))
+    pub return_on : Current limit cs s.map → x.p3 ≡ 9223372036854775809 → JumpArm limit cs cs s x op_return (offered None (Some (at (s.row + 1) s.map)))
     return_on current e =
         record {
           says = λ rows l j bound m le h.
-              subst (Offered limit bound cs way.Nowhere (way.To (at (s.row + 1) s.map))) (sym (else_is rows l m bound true j (eq-eqb _ _ e) h))
+              subst (Offered limit bound cs None (Some (at (s.row + 1) s.map))) (sym (else_is rows l m bound true j (eq-eqb _ _ e) h))
               (goes_on_lem (held_next s.row h.row h.map));
           leaves = (tt, (refl, current.room));
           frame = unchanged cs _ _;
         }
 
-    pub return_ends : (x.p3 ≡ 9223372036854775809 → ⊥) → JumpArm limit cs cs s x op_return (step.Ways way.Nowhere way.Nowhere)
+    pub return_ends : (x.p3 ≡ 9223372036854775809 → ⊥) → JumpArm limit cs cs s x op_return (offered None None)
     return_ends e =
         record {
-          says = λ rows l j bound m le h. subst (Offered limit bound cs way.Nowhere way.Nowhere) (sym (else_is rows l m bound false j (ne_eqb _ _ e) h)) ends_here;
+          says = λ rows l j bound m le h. subst (Offered limit bound cs None None) (sym (else_is rows l m bound false j (ne_eqb _ _ e) h)) ends_here;
           leaves = (tt, tt);
           frame = unchanged cs _ _;
         }
 
-  pub return_to : (ds : List Cell) (w row : ℕ) (r : Stored) → Knows cs s.map x.p1 (known.Int w) → RowAfter w row → Leads limit cs ds s.map r (remove_register (int_of x.p1)) → JumpArm limit cs ds s x op_return (step_after row r)
+  pub return_to : (ds : List Cell) (w row : ℕ) (r : Stored) → Knows cs s.map x.p1 (Ok (Some w)) → RowAfter w row → Leads limit cs ds s.map r (remove_register (int_of x.p1)) → JumpArm limit cs ds s x op_return (step_after row r)
   unfolding return_arm
   return_to ds w row r k after leads =
       record {

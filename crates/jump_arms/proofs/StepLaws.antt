@@ -2,7 +2,7 @@
 -- nothing. Assumes nothing.
 use mathlib.Core.Path.{◌≡◌, refl, sym, ap, subst, ◌∙◌}
 use mathlib.Core.Bool.{true, false, not}
-use mathlib.Core.Option.{none, some}
+use Rattle.std.specs.Prelude.{None, Some}
 use mathlib.Core.List.{List, [], ◌∷◌}
 use Prim.Native.Nat.{ℕ, ◌+◌}
 use native.Mathlib.Omega.{arith}
@@ -22,10 +22,8 @@ use Rattle.intmap.proofs.SignedLaws.{int_suc, int_same}
 use Rattle.encoding.proofs.Held.{held_go_to}
 use Rattle.rows.specs.declared.Row.{Row}
 use Rattle.state.specs.Leads.{Current, HoldsMap}
-use Rattle.state.specs.Steps.{HoldsState, Offered, Lies, JumpArm}
+use Rattle.state.specs.Steps.{HoldsState, Offered, Lies, JumpArm, offered}
 use Rattle.state.specs.declared.MemoryState.{MemoryState}
-use Rattle.state.specs.declared.Way.TheVariants as way
-use Rattle.state.specs.declared.Step.TheVariants as step
 use Rattle.jump_arms.specs.Arms.{at}
 
 -- nothing has changed
@@ -55,22 +53,22 @@ module _ {limit bound : ℕ} {ds : List Cell} where
   pub held_next : {a : IntMap} {m : Defined} (w : ℕ) → int_of w ≡ m.program_i → HoldsMap limit bound ds a m → HoldsState limit bound ds (at (w + 1) a) (next m)
   held_next {m = m} w e h = held_at (w + 1) (suc_ℤ m.program_i) (next_row w e) h
 
-  pub ends_here : Offered limit bound ds way.Nowhere way.Nowhere ends
-  ends_here = record { the_branch = none; the_state = none; answer = refl; branches = refl; goes_on = refl }
+  pub ends_here : Offered limit bound ds None None ends
+  ends_here = record { the_branch = None; the_state = None; answer = refl; branches = refl; goes_on = refl }
 
-  pub goes_on_lem : {t : MemoryState} {m : Defined} → HoldsState limit bound ds t m → Offered limit bound ds way.Nowhere (way.To t) (goes_on m)
+  pub goes_on_lem : {t : MemoryState} {m : Defined} → HoldsState limit bound ds t m → Offered limit bound ds None (Some t) (goes_on m)
   goes_on_lem {m = m} h =
-      record { the_branch = none; the_state = some m; answer = refl; branches = refl; goes_on = record { state = m; is = refl; held = h } }
+      record { the_branch = None; the_state = Some m; answer = refl; branches = refl; goes_on = record { state = m; is = refl; held = h } }
 
-  pub branches_only : {t : MemoryState} {m : Defined} → HoldsState limit bound ds t m → Offered limit bound ds (way.To t) way.Nowhere (offers (m ∷ []) none)
+  pub branches_only : {t : MemoryState} {m : Defined} → HoldsState limit bound ds t m → Offered limit bound ds (Some t) None (offers (m ∷ []) None)
   branches_only {m = m} h =
-      record { the_branch = some m; the_state = none; answer = refl; branches = record { state = m; is = refl; held = h }; goes_on = refl }
+      record { the_branch = Some m; the_state = None; answer = refl; branches = record { state = m; is = refl; held = h }; goes_on = refl }
 
-  pub branches_and_goes : {t u : MemoryState} {m n : Defined} → HoldsState limit bound ds t m → HoldsState limit bound ds u n → Offered limit bound ds (way.To t) (way.To u) (offers (m ∷ []) (some n))
+  pub branches_and_goes : {t u : MemoryState} {m n : Defined} → HoldsState limit bound ds t m → HoldsState limit bound ds u n → Offered limit bound ds (Some t) (Some u) (offers (m ∷ []) (Some n))
   branches_and_goes {m = m} {n = n} h g =
       record {
-        the_branch = some m;
-        the_state = some n;
+        the_branch = Some m;
+        the_state = Some n;
         answer = refl;
         branches = record { state = m; is = refl; held = h };
         goes_on = record { state = n; is = refl; held = g };
@@ -83,7 +81,7 @@ lies_here w h = record { above = omega arith; below = omega arith; room = h.room
 -- ---- the arms that write nothing
 
 module _ (limit : ℕ) (cs : List Cell) (s : MemoryState) (x : Row) (current : Current limit cs s.map) where
-  pub goto_arm : JumpArm limit cs cs s x op_goto (step.Ways way.Nowhere (way.To (at x.p2 s.map)))
+  pub goto_arm : JumpArm limit cs cs s x op_goto (offered None (Some (at x.p2 s.map)))
   unfolding jump_arm
   goto_arm =
       record {
@@ -92,11 +90,11 @@ module _ (limit : ℕ) (cs : List Cell) (s : MemoryState) (x : Row) (current : C
         frame = unchanged cs _ _;
       }
 
-  pub halt_arm : JumpArm limit cs cs s x op_halt (step.Ways way.Nowhere way.Nowhere)
+  pub halt_arm : JumpArm limit cs cs s x op_halt (offered None None)
   unfolding jump_arm
   halt_arm = record { says = λ rows l j bound m le h. ends_here; leaves = (tt, tt); frame = unchanged cs _ _ }
 
-  pub branch_arm : JumpArm limit cs cs s x op_branch (step.Ways (way.To (at x.p2 s.map)) (way.To (at (s.row + 1) s.map)))
+  pub branch_arm : JumpArm limit cs cs s x op_branch (offered (Some (at x.p2 s.map)) (Some (at (s.row + 1) s.map)))
   unfolding jump_arm
   branch_arm =
       record {
@@ -105,23 +103,23 @@ module _ (limit : ℕ) (cs : List Cell) (s : MemoryState) (x : Row) (current : C
         frame = unchanged cs _ _;
       }
 
-  pub must_here : x.p2 ≡ offset → JumpArm limit cs cs s x op_must_be_int (step.Ways way.Nowhere (way.To (at (s.row + 1) s.map)))
+  pub must_here : x.p2 ≡ offset → JumpArm limit cs cs s x op_must_be_int (offered None (Some (at (s.row + 1) s.map)))
   unfolding jump_arm
   must_here z =
       record {
         says = λ rows l j bound m le h.
-            subst (λ b. Offered limit bound cs way.Nowhere (way.To (at (s.row + 1) s.map)) (offers (branch_if (not b) (go_to l.p2 m)) (some (next m)))) (sym (zero_word x.p2 l.p2 j.p2 z))
+            subst (λ b. Offered limit bound cs None (Some (at (s.row + 1) s.map)) (offers (branch_if (not b) (go_to l.p2 m)) (Some (next m)))) (sym (zero_word x.p2 l.p2 j.p2 z))
             (goes_on_lem (held_next s.row h.row h.map));
         leaves = (tt, (refl, current.room));
         frame = unchanged cs _ _;
       }
 
-  pub must_branch : (x.p2 ≡ offset → ⊥) → JumpArm limit cs cs s x op_must_be_int (step.Ways (way.To (at x.p2 s.map)) (way.To (at (s.row + 1) s.map)))
+  pub must_branch : (x.p2 ≡ offset → ⊥) → JumpArm limit cs cs s x op_must_be_int (offered (Some (at x.p2 s.map)) (Some (at (s.row + 1) s.map)))
   unfolding jump_arm
   must_branch z =
       record {
         says = λ rows l j bound m le h.
-            subst (λ b. Offered limit bound cs (way.To (at x.p2 s.map)) (way.To (at (s.row + 1) s.map)) (offers (branch_if (not b) (go_to l.p2 m)) (some (next m)))) (sym (other_word x.p2 l.p2 j.p2 z))
+            subst (λ b. Offered limit bound cs (Some (at x.p2 s.map)) (Some (at (s.row + 1) s.map)) (offers (branch_if (not b) (go_to l.p2 m)) (Some (next m)))) (sym (other_word x.p2 l.p2 j.p2 z))
             (branches_and_goes (held_at x.p2 l.p2 j.p2 h.map) (held_next s.row h.row h.map));
         leaves = (lies_here x.p2 current, (refl, current.room));
         frame = unchanged cs _ _;

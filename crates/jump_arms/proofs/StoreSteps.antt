@@ -1,7 +1,8 @@
 -- An access that changes the map, followed by a step; and the arms that store a number and then name the next row. Assumes nothing.
+use Rattle.intmap.specs.Store.{Stored}
 use mathlib.Core.Path.{◌≡◌, refl, sym, ap, ap₂, subst, ◌∙◌}
 use mathlib.Core.Bool.{Bool, true, false}
-use mathlib.Core.Option.{none}
+use Rattle.std.specs.Prelude.{None, Ok, Err, Some}
 use mathlib.Core.List.{List, [], ◌∷◌}
 use Prim.Native.Nat.{ℕ, ◌+◌, ◌≤◌}
 use native.Mathlib.Omega.{arith}
@@ -21,14 +22,11 @@ use Rattle.model.proofs.Tried.{Kept, refusal, value, ◌>>◌, anything, kept}
 use Rattle.area.specs.declared.Cell.{Cell}
 use Rattle.intmap.specs.Signed.{offset, int_of}
 use Rattle.intmap.specs.declared.IntMap.{IntMap}
-use Rattle.intmap.specs.declared.Stored.{Stored}
-use Rattle.intmap.specs.declared.Stored.TheVariants as stored
 use Rattle.rows.specs.Judged.{Judged}
 use Rattle.rows.specs.declared.Row.{Row}
 use Rattle.state.specs.Leads.{HoldsMap, Tells, Leaves, operands, Leads}
 use Rattle.state.specs.Steps.{HoldsState, Offered, TellsStep, LeavesStep, JumpArm}
 use Rattle.state.specs.declared.MemoryState.{MemoryState}
-use Rattle.state.specs.declared.Way.TheVariants as way
 use Rattle.jump_arms.specs.Arms.{InitTo, at, step_after, branch_after}
 use Rattle.jump_arms.proofs.StepLaws.{held_at, held_next, goes_on_lem, branches_only, zero_word, other_word}
 
@@ -49,30 +47,30 @@ store-row limit i v m = anything (index i) >> λ k _. anything (judge_depth (reg
 
 -- an access to a state at the row of a word, after which the state goes on there
 pub goes_after : {limit : ℕ} {cs ds : List Cell} {a : IntMap} {f : Defined → Tried Defined} (r : Stored) (w bound : ℕ) (m : Defined) → operands ≤ bound → Leads limit cs ds a r f → Kept (SameRow m) (f m) → HoldsState limit bound cs (at w a) m → TellsStep limit bound ds (step_after w r) (f m >>= λ n. goes_on n)
-goes_after (stored.Refused k) w bound m le leads keeps h = ap (λ t. t >>= λ n. goes_on n) (leads.says bound m le h.map)
-goes_after {limit} {ds = ds} (stored.Done b) w bound m le leads keeps h =
+goes_after (Err k) w bound m le leads keeps h = ap (λ t. t >>= λ n. goes_on n) (leads.says bound m le h.map)
+goes_after {limit} {ds = ds} (Ok b) w bound m le leads keeps h =
     let t = leads.says bound m le h.map in
-    subst (Offered limit bound ds way.Nowhere (way.To (at w b))) (sym (ap (λ t. t >>= λ n. goes_on n) t.answer))
+    subst (Offered limit bound ds None (Some (at w b))) (sym (ap (λ t. t >>= λ n. goes_on n) t.answer))
     (goes_on_lem (record { row = h.row ∙ sym (kept keeps t.answer); map = t.holds }))
 
 -- it lies where it was
 pub leaves_after : {limit : ℕ} {cs ds : List Cell} {f : Defined → Tried Defined} (s : MemoryState) (r : Stored) (w : ℕ) → Leads limit cs ds s.map r f → LeavesStep limit ds s (step_after w r)
-leaves_after s (stored.Refused k) w leads = tt
-leaves_after s (stored.Done b) w leads = (tt, (leads.leaves.base, leads.leaves.room))
+leaves_after s (Err k) w leads = tt
+leaves_after s (Ok b) w leads = (tt, (leads.leaves.base, leads.leaves.room))
 
 -- a branch at the row of a word, where t is what the access answers
-pub branches_told : (limit bound : ℕ) (ds : List Cell) (r : Stored) (w : ℕ) (m : Defined) (t : Tried Defined) → Tells limit bound ds r t → Kept (SameRow m) t → int_of w ≡ m.program_i → TellsStep limit bound ds (branch_after w r) (t >>= λ n. offers (n ∷ []) none)
-branches_told limit bound ds (stored.Refused k) w m t told keeps e = ap (λ t. t >>= λ n. offers (n ∷ []) none) told
-branches_told limit bound ds (stored.Done b) w m t told keeps e =
-    subst (Offered limit bound ds (way.To (at w b)) way.Nowhere) (sym (ap (λ t. t >>= λ n. offers (n ∷ []) none) told.answer))
+pub branches_told : (limit bound : ℕ) (ds : List Cell) (r : Stored) (w : ℕ) (m : Defined) (t : Tried Defined) → Tells limit bound ds r t → Kept (SameRow m) t → int_of w ≡ m.program_i → TellsStep limit bound ds (branch_after w r) (t >>= λ n. offers (n ∷ []) None)
+branches_told limit bound ds (Err k) w m t told keeps e = ap (λ t. t >>= λ n. offers (n ∷ []) None) told
+branches_told limit bound ds (Ok b) w m t told keeps e =
+    subst (Offered limit bound ds (Some (at w b)) None) (sym (ap (λ t. t >>= λ n. offers (n ∷ []) None) told.answer))
     (branches_only (record { row = e ∙ sym (kept keeps told.answer); map = told.holds }))
 
-pub branches_after : {limit : ℕ} {cs ds : List Cell} {a : IntMap} {f : Defined → Tried Defined} (r : Stored) (w bound : ℕ) (m : Defined) → operands ≤ bound → Leads limit cs ds a r f → Kept (SameRow m) (f m) → HoldsState limit bound cs (at w a) m → TellsStep limit bound ds (branch_after w r) (f m >>= λ n. offers (n ∷ []) none)
+pub branches_after : {limit : ℕ} {cs ds : List Cell} {a : IntMap} {f : Defined → Tried Defined} (r : Stored) (w bound : ℕ) (m : Defined) → operands ≤ bound → Leads limit cs ds a r f → Kept (SameRow m) (f m) → HoldsState limit bound cs (at w a) m → TellsStep limit bound ds (branch_after w r) (f m >>= λ n. offers (n ∷ []) None)
 branches_after {limit} {ds = ds} {f = f} r w bound m le leads keeps h = branches_told limit bound ds r w m (f m) (leads.says bound m le h.map) keeps h.row
 
 pub branch_leaves : (limit : ℕ) (ds : List Cell) (s : MemoryState) (r : Stored) (w : ℕ) → Leaves limit ds s.map r → LeavesStep limit ds s (branch_after w r)
-branch_leaves limit ds s (stored.Refused k) w leaves = tt
-branch_leaves limit ds s (stored.Done b) w leaves = (record { above = omega (arith, leaves.base); below = omega (arith, leaves.base); room = leaves.room }, tt)
+branch_leaves limit ds s (Err k) w leaves = tt
+branch_leaves limit ds s (Ok b) w leaves = (record { above = omega (arith, leaves.base); below = omega (arith, leaves.base); room = leaves.room }, tt)
 
 -- the arm is an access f to the map that keeps the row, and then goes to another row, whose word is w
 module _
@@ -91,17 +89,17 @@ module _
     access_goes w keeps to = go r leads
       where
         go : (r : Stored) → Leads limit cs ds s.map r f → JumpArm limit cs ds s x o (step_after w r)
-        go (stored.Refused n) told =
+        go (Err n) told =
             record {
               says = λ rows l j bound m le h. arm rows l j m h.row ∙ ap (λ t. t >>= λ n. goes_on (g l n)) (told.says bound m le h.map);
               leaves = tt;
               frame = told.frame;
             }
-        go (stored.Done b) told =
+        go (Ok b) told =
             record {
               says = λ rows l j bound m le h.
                   (let t = told.says bound m le h.map in
-                  subst (Offered limit bound ds way.Nowhere (way.To (at w b))) (sym (arm rows l j m h.row ∙ ap (λ t. t >>= λ n. goes_on (g l n)) t.answer))
+                  subst (Offered limit bound ds None (Some (at w b))) (sym (arm rows l j m h.row ∙ ap (λ t. t >>= λ n. goes_on (g l n)) t.answer))
                   (goes_on_lem (to b l j bound t.state (h.row ∙ sym (kept (keeps m) t.answer)) t.holds)));
               leaves = (tt, (told.leaves.base, told.leaves.room));
               frame = told.frame;

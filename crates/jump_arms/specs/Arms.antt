@@ -2,8 +2,10 @@
 -- that a listing has at most. And what the arms have in common: a step after an access to the map, the row that InitCoroutine and Return name,
 -- whether a register is known to hold a number or may be null and how it changes then, a store that stays within the map's room, If by what is
 -- known, and both ways by two accesses. Assumes nothing.
-use Rattle.std.specs.Prelude.{◌≡◌, Bool, true, false, List, [], ◌∷◌, ℕ, ◌+◌, ◌<◌, ◌≤◌, ℤ}
-use Rattle.std.proofs.Math.Option.{Option, none, some}
+use Rattle.refusal.specs.Numbers.{number_of}
+use Rattle.refusal.specs.declared.Refusal.{Refusal}
+use Rattle.intmap.specs.Store.{Stored}
+use Rattle.std.specs.Prelude.{◌≡◌, Bool, true, false, List, [], ◌∷◌, ℕ, ◌+◌, ◌<◌, ◌≤◌, ℤ, Option, None, Some, Ok, Err, Result}
 use Rattle.model.specs.Walk.{Tried, refused, done}
 use Rattle.model.specs.Row.{Row as Listed}
 use Rattle.model.specs.State.{RegDataType, MemoryState as Defined, to_not_null}
@@ -14,21 +16,13 @@ use Rattle.area.specs.declared.Cell.{Cell}
 use Rattle.intmap.specs.Map.{Frame}
 use Rattle.intmap.specs.Signed.{offset, int_of}
 use Rattle.intmap.specs.declared.IntMap.{IntMap}
-use Rattle.intmap.specs.declared.Stored.{Stored}
-use Rattle.intmap.specs.declared.Stored.TheVariants as stored
 use Rattle.rows.specs.Judged.{Judged, IsRow}
 use Rattle.rows.specs.declared.Row.{Row}
 use Rattle.state.specs.Leads.{Current, HoldsMap, operands, Leads}
 use Rattle.state.specs.Reads.{IsInt}
-use Rattle.state.specs.Steps.{HoldsState, TellsStep, LeavesStep}
+use Rattle.state.specs.Steps.{HoldsState, TellsStep, LeavesStep, Step, offered}
 use Rattle.state.specs.declared.MemoryState.{MemoryState}
-use Rattle.state.specs.declared.Way.TheVariants as way
-use Rattle.state.specs.declared.Step.{Step}
-use Rattle.state.specs.declared.Step.TheVariants as step
-use Rattle.jump_arms.specs.declared.Known.{Known}
-use Rattle.jump_arms.specs.declared.Known.TheVariants as known
 use Rattle.jump_arms.specs.declared.Asked.{Asked}
-use Rattle.jump_arms.specs.declared.Asked.TheVariants as asked
 
 pub record Ready (limit : ℕ) (cs : List Cell) (s : MemoryState) (x : Row) : Type 0 where
   pub current : Current limit cs s.map
@@ -52,28 +46,32 @@ at w a = record { row = w; map = a }
 
 -- an access to the map, after which the state goes on at a row
 abbrev pub step_after : ℕ → Stored → Step
-step_after w (stored.Refused n) = step.Refused n
-step_after w (stored.Done a) = step.Ways way.Nowhere (way.To (at w a))
+step_after w (Err n) = Err n
+step_after w (Ok a) = offered None (Some (at w a))
 
 -- the same as a branch, and with a branch
 abbrev pub branch_after : ℕ → Stored → Step
-branch_after w (stored.Refused n) = step.Refused n
-branch_after w (stored.Done a) = step.Ways (way.To (at w a)) way.Nowhere
+branch_after w (Err n) = Err n
+branch_after w (Ok a) = offered (Some (at w a)) None
 
 abbrev pub both_after : MemoryState → ℕ → Stored → Step
-both_after branch w (stored.Refused n) = step.Refused n
-both_after branch w (stored.Done a) = step.Ways (way.To branch) (way.To (at w a))
+both_after branch w (Err n) = Err n
+both_after branch w (Ok a) = offered (Some branch) (Some (at w a))
 
 -- what is read is no known number
 pub record IsUnknown (t : Tried (Option RegDataType)) : Type 0 where
   pub value : Option RegDataType
   pub answer : t ≡ done value
-  pub is : known_int value ≡ none
+  pub is : known_int value ≡ None
+
+-- the number that a register is known to hold, if it is, or why the index is refused
+abbrev pub Known : Type 0
+Known = Result (Option ℕ) Refusal
 
 abbrev pub TellsKnown : ℕ → Known → Tried (Option RegDataType) → Type 0
-TellsKnown bound (known.Bad n) t = t ≡ refused n
-TellsKnown bound known.Unknown t = IsUnknown t
-TellsKnown bound (known.Int w) t = IsInt bound w t
+TellsKnown bound (Err n) t = t ≡ refused (number_of n)
+TellsKnown bound (Ok None) t = IsUnknown t
+TellsKnown bound (Ok (Some w)) t = IsInt bound w t
 
 pub record Knows (cs : List Cell) (a : IntMap) (i : ℕ) (r : Known) : Type 0 where
   pub says : (limit bound : ℕ) (m : Defined) → HoldsMap limit bound cs a m → TellsKnown bound r (read_register (int_of i) m)
@@ -85,7 +83,7 @@ pub record Puts (limit : ℕ) (cs ds : List Cell) (a : IntMap) (r : Stored) (f :
 
 -- a branch at P2 after one access, and the next row after another
 pub record BothArm (limit : ℕ) (cs ds : List Cell) (s : MemoryState) (x : Row) (f g : Defined → Tried Defined) (r : Step) : Type 0 where
-  pub says : (l : Listed) → Judged l x → (bound : ℕ) (m : Defined) → operands ≤ bound → HoldsState limit bound cs s m → TellsStep limit bound ds r (f (go_to l.p2 m) >>= λ branch. g (next m) >>= λ stays. offers (branch ∷ []) (some stays))
+  pub says : (l : Listed) → Judged l x → (bound : ℕ) (m : Defined) → operands ≤ bound → HoldsState limit bound cs s m → TellsStep limit bound ds r (f (go_to l.p2 m) >>= λ branch. g (next m) >>= λ stays. offers (branch ∷ []) (Some stays))
   pub leaves : LeavesStep limit ds s r
   pub frame : Frame cs ds s.map.base (limit + limit)
 
@@ -96,14 +94,11 @@ pub record IsAsked (b k : Bool) (t : Tried (Option RegDataType)) : Type 0 where
   pub null : may_be_null value ≡ b
   pub kind : has_kind value ≡ k
 
-abbrev pub TellsAsked : Asked → Tried (Option RegDataType) → Type 0
-TellsAsked (asked.Bad n) t = t ≡ refused n
-TellsAsked asked.Neither t = IsAsked false false t
-TellsAsked asked.Kind t = IsAsked false true t
-TellsAsked asked.Null t = IsAsked true false t
-TellsAsked asked.Either t = IsAsked true true t
+abbrev pub TellsAsked : Result Asked Refusal → Tried (Option RegDataType) → Type 0
+TellsAsked (Err n) t = t ≡ refused (number_of n)
+TellsAsked (Ok q) t = IsAsked q.null q.kind t
 
-pub record Asks (cs : List Cell) (a : IntMap) (i : ℕ) (r : Asked) : Type 0 where
+pub record Asks (cs : List Cell) (a : IntMap) (i : ℕ) (r : Result Asked Refusal) : Type 0 where
   pub says : (limit bound : ℕ) (m : Defined) → HoldsMap limit bound cs a m → TellsAsked r (read_register (int_of i) m)
 
 -- how the two change a register, by whether it is null from then on

@@ -1,12 +1,12 @@
 -- Rows laid down one after the other: the rows read so far are in their cells, as far as there is room. Assumes nothing.
 use mathlib.Core.Path.{◌≡◌, refl, sym, ap, ◌∙◌, subst}
 use mathlib.Core.Bool.{Bool, true, false}
-use mathlib.Core.Option.{none, some}
+use Rattle.std.specs.Prelude.{Option, None, Some, Ok, Err, slice_get}
 use mathlib.Core.List.{List, [], ◌∷◌, ◌++◌}
 use Prim.Native.Nat.{ℕ, zero, suc, ◌+◌, ◌≤◌, ◌<◌}
 use native.Mathlib.Omega.{arith}
 use lib.Dec.{leb, ltb}
-use lib.ListN.{length, get_or, set, get_elem?}
+use lib.ListN.{length, get_or, set}
 use lib.Seq.{get_or-set_same, get_or-set_other}
 use borrow.Author.Tests.{lt-ltb, le-ltb, ltb-true}
 use Rattle.model.specs.Row.{Row as Listed}
@@ -22,24 +22,19 @@ use Rattle.rows.specs.Rows.{cell_of, row_in}
 use Rattle.rows.specs.Judged.{Judged, HaveRows}
 use Rattle.rows.specs.declared.Row.{Row}
 use Rattle.rows.proofs.RowLaws.{row_again}
-use Rattle.text.specs.ReadAt.{ReadsAt}
-use Rattle.text.specs.declared.Counted.TheVariants.{Refused, Count}
+use Rattle.text.specs.Reads.{Reads}
 use Rattle.text.proofs.ItemLaws.{ItemsRead, items_start, items_bad, items_next, items_end, judged, count_refused, count_over, count_is}
-use Rattle.listing.specs.ListingRows.{found_row, row_at, FoundIn, FoundWhere, RowAt, RowJudged, JudgedAs, JudgedAt, Room, set_if, PutWhere, Loaded}
-use Rattle.listing.specs.declared.Found.{Found}
-use Rattle.listing.specs.declared.RowRead.{RowRead}
-use Rattle.listing.specs.declared.RowRead.TheVariants.{Is, Bad}
-use Rattle.listing.specs.declared.JudgedRow.{JudgedRow}
-use Rattle.listing.specs.declared.JudgedRow.TheVariants.{Is as Read, Bad as Unread}
+use Rattle.refusal.specs.declared.Refusal.TheVariants.{IllFormedListing, TooManyLines}
+use Rattle.listing.specs.ListingRows.{RowJudged, ReadsRow, Room, set_if, PutWhere, Loaded}
 
 -- an item of a list with one more at its end
-last_or_before : {A P : Type 0} (xs : List A) (x y : A) (i : ℕ) → get_elem? (xs ++ (x ∷ [])) i ≡ some y → (i < length xs → get_elem? xs i ≡ some y → P) → (i ≡ length xs → x ≡ y → P) → P
+last_or_before : {A P : Type 0} (xs : List A) (x y : A) (i : ℕ) → slice_get (xs ++ (x ∷ [])) i ≡ Some y → (i < length xs → slice_get xs i ≡ Some y → P) → (i ≡ length xs → x ≡ y → P) → P
 last_or_before [] x y zero e f g = g refl (some_same e)
 last_or_before [] x y (suc i) e f g = never e
 last_or_before (a ∷ xs) x y zero e f g = f (omega arith) e
 last_or_before (a ∷ xs) x y (suc i) e f g = last_or_before xs x y i e (λ l h. f (omega arith) h) (λ l h. g (omega arith) h)
 
-found_inside : {A : Type 0} (xs : List A) (i : ℕ) {x : A} → get_elem? xs i ≡ some x → i < length xs
+found_inside : {A : Type 0} (xs : List A) (i : ℕ) {x : A} → slice_get xs i ≡ Some x → i < length xs
 found_inside [] i e = never e
 found_inside (a ∷ xs) zero e = omega arith
 found_inside (a ∷ xs) (suc i) e = omega (arith, found_inside xs i e)
@@ -89,15 +84,15 @@ module _ {before after : List ℕ} (from room k : ℕ) (r : Row) (p : PutWhere b
 pub room_kept : {entry now : List ℕ} {from room : ℕ} → length now ≡ length entry → Room entry from room → Room now from room
 room_kept {entry} {now} {from} {room} e r = record { inside = λ h. inside-kept entry now from room e (r.inside h) }
 
-pub record Loading (t entry now : List ℕ) (from room at k : ℕ) : Type 0 where
+pub record Loading (t rest entry now : List ℕ) (from room k : ℕ) : Type 0 where
   pub before : List Listed
-  pub read : ItemsRead take_row t at k before
-  pub placed : (i : ℕ) (x : Listed) → i < room → get_elem? before i ≡ some x → Judged x (row_in (get_or (cells now) (from + i) blank))
+  pub read : ItemsRead take_row t rest k before
+  pub placed : (i : ℕ) (x : Listed) → i < room → slice_get before i ≡ Some x → Judged x (row_in (get_or (cells now) (from + i) blank))
   pub below : (j : ℕ) → j < from → get_or (cells now) j blank ≡ get_or (cells entry) j blank
   pub above : (j : ℕ) → from + room ≤ j → get_or (cells now) j blank ≡ get_or (cells entry) j blank
   pub bytes : length now ≡ length entry
 
-pub load_start : (t area : List ℕ) (from room : ℕ) → Loading t area area from room 0 0
+pub load_start : (t area : List ℕ) (from room : ℕ) → Loading t t area area from room 0
 load_start t area from room = record {
   before = [];
   read = items_start take_row t;
@@ -107,9 +102,9 @@ load_start t area from room = record {
   bytes = refl;
 }
 
-module _ {t entry now : List ℕ} {from room at k : ℕ} (l : Loading t entry now from room at k) where
-  pub load_next : {after : List ℕ} {r : Row} {next : ℕ} → Room entry from room → at < length t → RowJudged t at k r next → PutWhere now after from room k r → Loading t entry after from room next (k + 1)
-  load_next {after} {r} {next} has h j p = record {
+module _ {t rest entry now : List ℕ} {from room k : ℕ} (l : Loading t rest entry now from room k) where
+  pub load_next : {after last : List ℕ} {r : Row} → Room entry from room → (length rest ≡ 0 → ⊥) → RowJudged k rest last r → PutWhere now after from room k r → Loading t last entry after from room (k + 1)
+  load_next {after} {last} {r} has h j p = record {
     before = l.before ++ (j.given ∷ []);
     read = items_next take_row l.read h j.reads refl;
     placed = λ i x within e.
@@ -126,7 +121,7 @@ module _ {t entry now : List ℕ} {from room at k : ℕ} (l : Loading t entry no
     bytes = p.bytes ∙ l.bytes;
   }
 
-  pub load_refused : at < length t → ReadsAt (take_row k) t at none → Loaded t entry now from room (Refused 1)
+  pub load_refused : {last : List ℕ} → (length rest ≡ 0 → ⊥) → Reads (take_row k) rest last None → Loaded t entry now from room (Err IllFormedListing)
   unfolding rows_of read_listing
   load_refused h n =
       let bad = items_bad take_row l.read h n refl in
@@ -138,16 +133,16 @@ module _ {t entry now : List ℕ} {from room at k : ℕ} (l : Loading t entry no
         bytes = l.bytes;
       }
 
-  module _ (h : length t ≤ at) where
-    all_read : read_items take_row t ≡ some l.before
+  module _ (h : length rest ≡ 0) where
+    all_read : read_items take_row t ≡ Some l.before
     all_read = items_end take_row l.read h
 
     have_rows : (xs : List Listed) → judged 1 2048 (read_items take_row t) ≡ done xs → length xs ≤ room → HaveRows (cells now) from xs
     have_rows xs e fits i x is =
         let all : l.before ≡ xs = done-is (leb (length l.before) 2048) (sym (ap (judged 1 2048) all_read) ∙ e) in
-        l.placed i x (omega (arith, found_inside xs i is)) (ap (λ ys. get_elem? ys i) all ∙ is)
+        l.placed i x (omega (arith, found_inside xs i is)) (ap (λ ys. slice_get ys i) all ∙ is)
 
-    pub load_over : 2048 < k → Loaded t entry now from room (Refused 3)
+    pub load_over : 2048 < k → Loaded t entry now from room (Err TooManyLines)
     unfolding rows_of read_listing
     load_over m = record {
       count = count_over 1 2048 all_read l.read.count m;
@@ -157,7 +152,7 @@ module _ {t entry now : List ℕ} {from room at k : ℕ} (l : Loading t entry no
       bytes = l.bytes;
     }
 
-    pub load_count : k ≤ 2048 → Loaded t entry now from room (Count k)
+    pub load_count : k ≤ 2048 → Loaded t entry now from room (Ok k)
     unfolding rows_of read_listing
     load_count m = record {
       count = count_is 1 2048 all_read l.read.count m;
@@ -167,26 +162,10 @@ module _ {t entry now : List ℕ} {from room at k : ℕ} (l : Loading t entry no
       bytes = l.bytes;
     }
 
--- a row that was read, judged
-module _ {t p4 : List ℕ} {at k : ℕ} {r : RowRead} (h : RowAt t at k p4 r) where
-  pub row_unread : r ≡ Bad → JudgedAt t at k Unread
-  row_unread e = record { says = subst (λ x. ReadsAt (take_row k) t at (row_at t p4 x)) e h.reads }
+-- what the reader of a row says, once it is known
+module _ (k : ℕ) (t rest : List ℕ) {o : Option Row} (h : ReadsRow k t rest o) where
+  pub row_none : o ≡ None → Reads (take_row k) t rest None
+  row_none e = subst (λ x. ReadsRow k t rest x) e h
 
-  pub row_found : {f : Found} → r ≡ Is f → FoundIn t f
-  row_found e = subst (λ x. FoundWhere t x) e h.found
-
-  pub row_judged : {f : Found} {row : Row} → r ≡ Is f → Judged (found_row t p4 f) row → JudgedAt t at k (Read row f.next)
-  row_judged {f} e j = record {
-    says = record {
-      given = found_row t p4 f;
-      reads = subst (λ x. ReadsAt (take_row k) t at (row_at t p4 x)) e h.reads;
-      judged = j;
-    };
-  }
-
--- what a judged row says, once it is known
-pub judged_bad : {t : List ℕ} {at k : ℕ} {r : JudgedRow} → JudgedAt t at k r → r ≡ Unread → ReadsAt (take_row k) t at none
-judged_bad {t} {at} {k} h e = subst (λ x. JudgedAs t at k x) e h.says
-
-pub judged-row : {t : List ℕ} {at k next : ℕ} {r : JudgedRow} {row : Row} → JudgedAt t at k r → r ≡ Read row next → RowJudged t at k row next
-judged-row {t} {at} {k} h e = subst (λ x. JudgedAs t at k x) e h.says
+  pub row_some : {r : Row} → o ≡ Some r → RowJudged k t rest r
+  row_some e = subst (λ x. ReadsRow k t rest x) e h

@@ -2,7 +2,7 @@
 -- Assumes nothing.
 use mathlib.Core.Path.{◌≡◌, refl, sym, ap, ap₂, ◌∙◌}
 use mathlib.Core.Bool.{Bool, true, false}
-use mathlib.Core.Option.{Option, none, some}
+use Rattle.std.specs.Prelude.{Option, None, Some}
 use mathlib.Core.List.{List, [], ◌∷◌}
 use Prim.Native.Nat.{ℕ, zero, suc, ◌+◌, ◌*◌, ◌/◌, ◌%◌, ◌<◌, max}
 use native.Mathlib.Omega.{arith}
@@ -82,9 +82,9 @@ code_few Time = omega arith
 code_few Datetime = omega arith
 
 nullable_few : (n : Option Bool) → nullable_code n < 4
-nullable_few none = omega arith
-nullable_few (some false) = omega arith
-nullable_few (some true) = omega arith
+nullable_few None = omega arith
+nullable_few (Some false) = omega arith
+nullable_few (Some true) = omega arith
 
 -- the codes in a column's byte
 pub byte_kind : (c : ResultColumn) → column_byte c / 4 ≡ datatype_code c.datatype
@@ -114,15 +114,15 @@ first_code zero a b = refl
 first_code (suc k) a b = ap (λ t. pick t (datatype_code b) (datatype_code a)) (sym (ne_eqb (suc k) 0 (omega arith)))
 
 either-code : (a b : Option Bool) → nullable_code (either_nullable a b) ≡ max (nullable_code a) (nullable_code b)
-either-code none none = refl
-either-code none (some false) = refl
-either-code none (some true) = refl
-either-code (some false) none = refl
-either-code (some false) (some false) = refl
-either-code (some false) (some true) = refl
-either-code (some true) none = refl
-either-code (some true) (some false) = refl
-either-code (some true) (some true) = refl
+either-code None None = refl
+either-code None (Some false) = refl
+either-code None (Some true) = refl
+either-code (Some false) None = refl
+either-code (Some false) (Some false) = refl
+either-code (Some false) (Some true) = refl
+either-code (Some true) None = refl
+either-code (Some true) (Some false) = refl
+either-code (Some true) (Some true) = refl
 
 pub byte_merged : (new old : ResultColumn) → column_byte (merge_column new old) ≡ merge_byte (column_byte new) (column_byte old)
 byte_merged new old =

@@ -1,6 +1,6 @@
 -- A state's registers merged by its runs are what the definition merges: column by column, for a good state. Assumes nothing.
 use mathlib.Core.Path.{◌≡◌, refl, sym, ap, ap₂, subst, ◌∙◌}
-use mathlib.Core.Option.{Option, none}
+use Rattle.std.specs.Prelude.{Option, None}
 use mathlib.Core.List.{List, [], ◌∷◌, ◌++◌}
 use Prim.Native.Nat.{ℕ, zero, suc, ◌+◌, ◌<◌, ◌≤◌, max}
 use native.Mathlib.Omega.{arith}
@@ -65,7 +65,7 @@ abbrev register_byte : Option RegDataType → ℕ
 register_byte o = column_byte (result_column (register_column o))
 
 -- an absent register says nothing
-absent_byte : (o : Option RegDataType) (x : ℕ) → o ≡ none → merge_byte (register_byte o) x ≡ x
+absent_byte : (o : Option RegDataType) (x : ℕ) → o ≡ None → merge_byte (register_byte o) x ≡ x
 unfolding column_byte
 absent_byte o x e = ap (λ y. merge_byte (register_byte y) x) e ∙ merge-nothing x
 

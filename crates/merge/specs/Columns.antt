@@ -1,7 +1,6 @@
 -- The columns that the result rows counted so far make, as bytes, one for each column: four times its kind's code, and its nullable's code
 -- (0 not known, 1 no, 2 yes). 0 is a column of which nothing is known. Assumes nothing.
-use Rattle.std.specs.Prelude.{◌≡◌, List, ℕ, ◌+◌, ◌*◌, max, pos, length, get_or}
-use Rattle.std.proofs.Math.Option.{none}
+use Rattle.std.specs.Prelude.{◌≡◌, List, ℕ, ◌+◌, ◌*◌, max, pos, length, get_or, None}
 use Rattle.type_info.specs.declared.DataType.TheVariants.{Null}
 use Rattle.model.specs.Walk.{done}
 use Rattle.model.specs.State.{ColumnType, MemoryState, datatype_code}
@@ -18,7 +17,7 @@ use Rattle.merge.specs.Entries.{merge_runs}
 
 -- nothing is known of it
 abbrev pub unsaid : ResultColumn
-unsaid = record { datatype = Null; nullable = none }
+unsaid = record { datatype = Null; nullable = None }
 
 unfoldable pub column_byte : ResultColumn → ℕ
 column_byte c = datatype_code c.datatype * 4 + nullable_code c.nullable

@@ -15,41 +15,28 @@ use area::Cell;
 use intmap::IntMap;
 
 // The byte of a register, by its run's first cell.
+#[tactic(auto, using(crate::proofs::ByteLaws::cell_single, crate::proofs::ByteLaws::cell_int, crate::proofs::ByteLaws::cell_record))]
 fn cell_byte(c: Cell) -> u8
     ensures { result ≡ cell_byte c }
 {
-    let tag = intmap::tag_of(c);
-    if tag == intmap::SINGLE {
-        return (intmap::kind_of(c) % 64 * 4 + intmap::nullable_of(c) % 4) as u8;
+    match intmap::tag_of(c) {
+        intmap::SINGLE => (intmap::kind_of(c) % 64 * 4 + intmap::nullable_of(c) % 4) as u8,
+        intmap::INT => 5,
+        _ => 0,
     }
-    if tag == intmap::INT {
-        return 5;
-    }
-    0
-}
-
-// The larger of two nullables.
-fn larger(a: u8, b: u8) -> u8
-    ensures { result ≡ max a b }
-{
-    if a <= b {
-        return b;
-    }
-    a
 }
 
 // A column of a newer row, and what the older ones say.
+#[tactic(auto, using(crate::proofs::ByteLaws::merge_older, crate::proofs::ByteLaws::merge_newer))]
 fn merge_byte(new: u8, old: u8) -> u8
     ensures { result ≡ merge_byte new old }
 {
-    let nullable = larger(new % 4, old % 4);
-    if new / 4 == 0 {
-        return old / 4 * 4 + nullable;
-    }
-    new / 4 * 4 + nullable
+    let kind = if new / 4 == 0 { old / 4 } else { new / 4 };
+    kind * 4 + (new % 4).max(old % 4)
 }
 
 // Merges an entry into the column of its key; i is the key of the first column.
+#[tactic(auto, using(crate::proofs::EntryLaws::cell_left, crate::proofs::EntryLaws::cell_set))]
 fn merge_cell(columns: &mut [u8], i: u64, c: Cell)
     requires { key_of c < i + length columns.old }
     ensures { columns.new ≡ merge_cell i c columns.old }
@@ -58,8 +45,8 @@ fn merge_cell(columns: &mut [u8], i: u64, c: Cell)
     if key < i {
         return;
     }
-    let j = (key - i) as usize;
-    columns[j] = merge_byte(cell_byte(c), columns[j]);
+    let column = &mut columns[(key - i) as usize];
+    *column = merge_byte(cell_byte(c), *column);
 }
 
 // Merges the `left` entries from `at` on, up to the first whose key is past the n columns.
@@ -68,27 +55,14 @@ fn merge_entries(columns: &mut [u8], area: &[u8], i: u64, n: u64, at: usize, lef
     ensures { columns.new ≡ merge_runs i n (entries (cells area.now) levels left at) columns.old }
 {
     let mut p = at;
-    let mut k = left;
-    while 0 < k {
+    for _ in 0..left {
         let c = area::cell_at(area, p);
-        let key = intmap::key_of(c);
-        if i + n <= key {
+        if i + n <= intmap::key_of(c) {
             return;
         }
         merge_cell(columns, i, c);
         p += intmap::count(area, p, intmap::LEVELS);
-        k -= 1;
     }
-}
-
-// The larger of two widths.
-fn wider(a: usize, b: usize) -> usize
-    ensures { result ≡ max a b }
-{
-    if a <= b {
-        return b;
-    }
-    a
 }
 
 // Merges the n registers from index i on, as a newer row, into the columns, of which there are `width` so far. An absent register says nothing,
@@ -104,8 +78,8 @@ pub fn merge_row(
     requires { IsMap (cells area.now) map × (i + n ≤ 65536) × (n ≤ length columns.old) }
     ensures { Merges (cells area.now) map i n columns.old columns.new width result }
 {
-    let first = intmap::class_key(state::REGISTERS, 0) + i;
+    let first = intmap::class_key(intmap::Class::Registers, 0) + i;
     let found = map.find(area, first);
     merge_entries(columns, area, first, n, found.at, found.left);
-    wider(width, n as usize)
+    width.max(n as usize)
 }

@@ -1,7 +1,7 @@
 -- Every access to a good state leaves a good state, and what it reads is good. Assumes nothing.
 use mathlib.Core.Path.{◌≡◌, refl}
 use mathlib.Core.Bool.{Bool, true, false}
-use mathlib.Core.Option.{Option, none, some}
+use Rattle.std.specs.Prelude.{Option, None, Some}
 use mathlib.Core.List.{List}
 use Prim.Native.Nat.{ℕ, zero, suc, ◌≤◌}
 use native.Mathlib.Omega.{arith}
@@ -45,8 +45,8 @@ module _ {A : Type 0} (P : A → Type 0) (es : List (Entry A)) (s : GoodMap P es
   get_good = second (get k es) (rising_get (λ j v. (j ≤ 65535) × P v) k 0 es s)
     where
       second : (o : Option A) → OnSome (λ v. (k ≤ 65535) × P v) o → OnSome P o
-      second none h = tt
-      second (some v) h = h.1
+      second None h = tt
+      second (Some v) h = h.1
 
   insert_good : k ≤ 65535 → (v : A) → P v → GoodMap P (insert k v es)
   insert_good h v p = rising_insert (λ j v. (j ≤ 65535) × P v) k v (h, p) 0 (omega arith) es s
@@ -84,8 +84,8 @@ module _ {limit : ℕ} {m : MemoryState} (g : Good limit m) where
   read_columns_good (suc n) i = read_register_good i >> λ v h. read_columns_good n (suc_ℤ i) >> λ cs s. value (of v h, s)
     where
       of : (v : Option RegDataType) → OnSome GoodRegister v → SortedColumn (register_column v)
-      of none h = tt
-      of (some v) h = h.sorted
+      of None h = tt
+      of (Some v) h = h.sorted
 
   -- stores: depth and cells are judged, so that only the order is asked for, of a value within the limit
   pub store_register_good : (i : ℤ) (v : RegDataType) → (register_cells v ≤ limit → SortedColumn (map_to_columntype v)) → Kept (Good limit) (store_register limit i v m)
@@ -150,9 +150,9 @@ module _ {limit : ℕ} {m : MemoryState} (g : Good limit m) where
   -- of the table that a cursor stands for
   pub update_cursor_table_good : (f : TableDataType → TableDataType) → NeverLarger table_cells GoodTable f → (c : Option CursorDataType) → Good limit (update_cursor_table f c m)
   unfolding update_cursor_table
-  update_cursor_table_good f no_larger none = g
-  update_cursor_table_good f no_larger (some (Normal row)) = update_table_good row f no_larger
-  update_cursor_table_good f no_larger (some (Pseudo i)) = g
+  update_cursor_table_good f no_larger None = g
+  update_cursor_table_good f no_larger (Some (Normal row)) = update_table_good row f no_larger
+  update_cursor_table_good f no_larger (Some (Pseudo i)) = g
 
   pub remove_register_good : (i : ℤ) → Kept (Good limit) (remove_register i m)
   unfolding remove_register cells

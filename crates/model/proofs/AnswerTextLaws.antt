@@ -1,7 +1,7 @@
 -- The answer's text: the reader accepts exactly the printings of valid answers. Assumes nothing.
 use mathlib.Core.Path.{◌≡◌, refl, sym}
 use mathlib.Core.Bool.{Bool, true, false}
-use mathlib.Core.Option.{Option, none, some}
+use Rattle.std.specs.Prelude.{Option, None, Some}
 use mathlib.Core.List.{List, [], ◌∷◌, flatten, append_assoc}
 use Prim.Native.Nat.{ℕ}
 use lib.ListN.{length}
@@ -18,8 +18,8 @@ use Rattle.model.proofs.FieldLaws.{NoLf, Value, name_value, field-takes}
 use Rattle.model.proofs.ItemLaws.{items_take}
 use Rattle.model.proofs.DecimalLaws.{up_to-value, index-value}
 
-type_good : (k : DataType) → (read_name name_of data_types (name_of k) ≡ some k) × NoLf (name_of k)
-unfolding read_name name_of data_types ascii equals all_of
+type_good : (k : DataType) → (read_name name_of data_types (name_of k) ≡ Some k) × NoLf (name_of k)
+unfolding read_name name_of data_types ascii equals
 type_good kind.Null = (refl, refl)
 type_good kind.Integer = (refl, refl)
 type_good kind.Float = (refl, refl)
@@ -36,15 +36,15 @@ type_value : Value read_data_type Any name_of
 unfolding read_data_type
 type_value = name_value name_of data_types type_good
 
-nullable_good : (n : Option Bool) → (read_name print_nullable (some true ∷ some false ∷ none ∷ []) (print_nullable n) ≡ some n) × NoLf (print_nullable n)
-unfolding read_name print_nullable ascii equals all_of
-nullable_good (some true) = (refl, refl)
-nullable_good (some false) = (refl, refl)
-nullable_good none = (refl, refl)
+nullable_good : (n : Option Bool) → (read_name print_nullable (Some true ∷ Some false ∷ None ∷ []) (print_nullable n) ≡ Some n) × NoLf (print_nullable n)
+unfolding read_name print_nullable ascii equals
+nullable_good (Some true) = (refl, refl)
+nullable_good (Some false) = (refl, refl)
+nullable_good None = (refl, refl)
 
 nullable_value : Value read_nullable Any print_nullable
 unfolding read_nullable
-nullable_value = name_value print_nullable (some true ∷ some false ∷ none ∷ []) nullable_good
+nullable_value = name_value print_nullable (Some true ∷ Some false ∷ None ∷ []) nullable_good
 
 pub column_takes : (k : ℕ) → Takes (take_column k) Any (print_column k)
 unfolding take_column print_column flatten

@@ -2,12 +2,12 @@
 use mathlib.Core.Path.{◌≡◌, refl, sym, ap, subst, ◌∙◌}
 use mathlib.Core.Logic.{◌⊎◌, inl, inr, ◌↔◌}
 use mathlib.Core.Bool.{Bool, true, false, ◌&&◌, ◌||◌}
-use mathlib.Core.Option.{Option, none, some}
+use Rattle.std.specs.Prelude.{Option, None, Some, slice_get}
 use mathlib.Core.List.{List, [], ◌∷◌, ◌++◌}
 use Prim.Native.Nat.{ℕ, zero, suc, ◌≤◌, max}
 use native.Mathlib.Omega.{arith}
 use lib.Dec.{leb, eqb}
-use lib.ListN.{length, drop, get_elem?}
+use lib.ListN.{length, drop}
 use borrow.Author.Tests.{leb-true, leb-false, eqb-true}
 use Rattle.type_info.specs.All.{All, all_nil, all_cons}
 use Rattle.model.specs.Walk.{◌∈◌, Tried, refused, done, Ways, Notes, Walked, refused_with, answered, notes_of}
@@ -57,8 +57,8 @@ of_row-number k e = go (leb 6 k) (leb k 10) refl refl e
     go false b ea eb h = (omega (arith, eqb-true k 12 h), omega (arith, eqb-true k 12 h))
 
 read_number : {A : Type 0} (k : ℕ) → Number k → (o : Option A) → Refuses Number (or_refused k o)
-read_number k h none = refusal h
-read_number k h (some a) = value
+read_number k h None = refusal h
+read_number k h (Some a) = value
 
 test_number : {A : Type 0} (k : ℕ) → Number k → (b : Bool) (a : A) → Refuses Number (done_if k b a)
 test_number k h true a = value
@@ -115,9 +115,9 @@ test_done : {A : Type 0} (k : ℕ) (b : Bool) (a : A) {c : A} → done_if k b a 
 test_done k true a e = (refl, cc)
 test_done k false a e = let z : ◌≡◌ {A = ℕ} 0 1 = cc in absurd (omega arith)
 
-read_done : {A : Type 0} (k : ℕ) (o : Option A) {c : A} → or_refused k o ≡ done c → o ≡ some c
-read_done k none e = let z : ◌≡◌ {A = ℕ} 0 1 = cc in absurd (omega arith)
-read_done k (some a) e = cc
+read_done : {A : Type 0} (k : ℕ) (o : Option A) {c : A} → or_refused k o ≡ done c → o ≡ Some c
+read_done k None e = let z : ◌≡◌ {A = ℕ} 0 1 = cc in absurd (omega arith)
+read_done k (Some a) e = cc
 
 walked-done : (w : Walked MemoryState ResultRow) {a : Answer} → outcome_of w ≡ done a → (n : Notes MemoryState ResultRow) × (w ≡ answered n) × (answer_of n ≡ a)
 unfolding outcome_of
@@ -185,12 +185,12 @@ module _ (rows : List Row) (records : List CatalogueRecord) (area : ℕ) where
       covered = coverage eq_state (row_of rows) (ways (standard records) rows) (units rows) gas_given fresh (space_of (standard records) rows area) sound repeats n e
 
 -- every way of good ways is good
-picked_good : (limit : ℕ) (w : Ways MemoryState ResultRow) → GoodWays limit w → (k : ℕ) (s : MemoryState) → pick k w ≡ some s → Good limit s
+picked_good : (limit : ℕ) (w : Ways MemoryState ResultRow) → GoodWays limit w → (k : ℕ) (s : MemoryState) → pick k w ≡ Some s → Good limit s
 unfolding pick
 picked_good limit w g zero s e = subst (OnSome (Good limit)) e g.stays
 picked_good limit w g (suc k) s e = nth w.branches k g.branches e
   where
-    nth : (ms : List MemoryState) (k : ℕ) → Each (Good limit) ms → get_elem? ms k ≡ some s → Good limit s
+    nth : (ms : List MemoryState) (k : ℕ) → Each (Good limit) ms → slice_get ms k ≡ Some s → Good limit s
     nth [] k h e = let z : ◌≡◌ {A = ℕ} 0 1 = cc in absurd (omega arith)
     nth (m ∷ ms) zero h e = subst (OnSome (Good limit)) e h.0
     nth (m ∷ ms) (suc k) h e = nth ms k h.1 e
@@ -221,7 +221,7 @@ module _ (listing catalogue : List ℕ) (area : ℕ) where
         good = everywhere eq_state (row_of rows) (ways (standard records) rows) (units rows) (Good 512) handed gas_given fresh (space_of (standard records) rows area) (fresh_good 512);
       }
     where
-      handed : (again : Bool) (m : MemoryState) (o : Ways MemoryState ResultRow) → Good 512 m → ways (standard records) rows again m ≡ done o → (k : ℕ) (s : MemoryState) → pick k o ≡ some s → Good 512 s
+      handed : (again : Bool) (m : MemoryState) (o : Ways MemoryState ResultRow) → Good 512 m → ways (standard records) rows again m ≡ done o → (k : ℕ) (s : MemoryState) → pick k o ≡ Some s → Good 512 s
       handed again m o g e =
           picked_good 512 o
           (ways_good (standard records) (standard_good records (small_columns records (valid_records records w.catalogued))) rows

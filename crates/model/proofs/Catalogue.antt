@@ -2,7 +2,7 @@
 -- record for it. Assumes nothing.
 use mathlib.Core.Path.{◌≡◌, refl, ap, ◌∙◌}
 use mathlib.Core.Bool.{Bool, true, false}
-use mathlib.Core.Option.{some}
+use Rattle.std.specs.Prelude.{Some}
 use mathlib.Core.List.{List, [], ◌∷◌}
 use Prim.Native.Nat.{ℕ, suc, ◌≤◌}
 use native.Mathlib.Omega.{arith}
@@ -76,7 +76,7 @@ module _ (db page : ℤ) (k : ℕ) where
   after_others es [] h = refl
   after_others es (x ∷ xs) h = after_others (add_if (is_for db page x) x es) xs h.1 ∙ add_other (is_for db page x) x es h.0
 
-  pub later_holds : (es : List (Entry ColumnType)) (x : CatalogueRecord) (xs : List CatalogueRecord) → IsFor x → Each (λ y. IsFor y → ⊥) xs → get k (columns_after es db page (x ∷ xs)) ≡ some (record_column x)
+  pub later_holds : (es : List (Entry ColumnType)) (x : CatalogueRecord) (xs : List CatalogueRecord) → IsFor x → Each (λ y. IsFor y → ⊥) xs → get k (columns_after es db page (x ∷ xs)) ≡ Some (record_column x)
   unfolding columns_after
   later_holds es x xs h later =
       after_others (add_if (is_for db page x) x es) xs later

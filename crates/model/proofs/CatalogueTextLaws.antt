@@ -1,7 +1,7 @@
 -- The catalogue's text: the reader accepts exactly the printings of valid records. Assumes nothing.
 use mathlib.Core.Path.{◌≡◌, refl, sym}
 use mathlib.Core.Bool.{Bool, true, false, and-eq-true_iff}
-use mathlib.Core.Option.{some}
+use Rattle.std.specs.Prelude.{Some}
 use mathlib.Core.List.{List, [], ◌∷◌, flatten, append_assoc}
 use Prim.Native.Nat.{ℕ, ◌≤◌}
 use native.Mathlib.Omega.{arith}
@@ -29,8 +29,8 @@ declared_value : Value read_declared (λ s. is_declared s ≡ true) (λ s. s)
 unfolding read_declared is_declared
 declared_value = text_value λ s e. printable_no_lf s ((and-eq-true_iff (leb (length s) 64) (all_printable s)).0 e).1
 
-flag_good : (b : Bool) → (read_name print_flag (false ∷ true ∷ []) (print_flag b) ≡ some b) × NoLf (print_flag b)
-unfolding read_name print_flag ascii equals all_of
+flag_good : (b : Bool) → (read_name print_flag (false ∷ true ∷ []) (print_flag b) ≡ Some b) × NoLf (print_flag b)
+unfolding read_name print_flag ascii equals
 flag_good false = (refl, refl)
 flag_good true = (refl, refl)
 

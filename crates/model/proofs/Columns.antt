@@ -2,11 +2,12 @@
 use mathlib.Core.Path.{◌≡◌, refl, sym, ap, subst, ◌∙◌}
 use mathlib.Core.Logic.{◌⊎◌, inl, inr, ◌↔◌}
 use mathlib.Core.Bool.{Bool, true, false, false≢true}
-use mathlib.Core.Option.{Option, none, some, none-ne-some, some-injective}
+use Rattle.std.specs.Prelude.{Option, None, Some, slice_get}
+use Rattle.std.proofs.lemmas.Option.{none-some, same_Some}
 use mathlib.Core.List.{List, [], ◌∷◌}
 use Prim.Native.Nat.{ℕ, zero, suc, max}
 use native.Mathlib.Omega.{arith}
-use lib.ListN.{length, get_elem?}
+use lib.ListN.{length}
 use Rattle.type_info.specs.declared.DataType.{DataType}
 use Rattle.type_info.specs.declared.DataType.TheVariants.{Null}
 use Rattle.model.specs.Walk.{◌∈◌}
@@ -17,19 +18,19 @@ use Rattle.model.proofs.Same.{code-injective}
 
 -- the column at a place, of the newer row and of the older ones
 abbrev join : Option ResultColumn → Option ResultColumn → Option ResultColumn
-join none old = old
-join (some new) none = some new
-join (some new) (some old) = some (merge_column new old)
+join None old = old
+join (Some new) None = Some new
+join (Some new) (Some old) = Some (merge_column new old)
 
-join-none : (o : Option ResultColumn) → o ≡ join o none
-join-none none = refl
-join-none (some c) = refl
+join-none : (o : Option ResultColumn) → o ≡ join o None
+join-none None = refl
+join-none (Some c) = refl
 
-merge-at : (i : ℕ) (new old : List ResultColumn) → get_elem? (merge new old) i ≡ join (get_elem? new i) (get_elem? old i)
+merge-at : (i : ℕ) (new old : List ResultColumn) → slice_get (merge new old) i ≡ join (slice_get new i) (slice_get old i)
 unfolding merge
 merge-at i [] [] = refl
 merge-at i [] (b ∷ bs) = refl
-merge-at i (a ∷ more) [] = join-none (get_elem? (a ∷ more) i)
+merge-at i (a ∷ more) [] = join-none (slice_get (a ∷ more) i)
 merge-at zero (a ∷ more) (b ∷ bs) = refl
 merge-at (suc i) (a ∷ more) (b ∷ bs) = merge-at i more bs
 
@@ -41,8 +42,8 @@ null_is k h = code-injective k Null (zero_is (datatype_code k) h)
     zero_is zero h = refl
     zero_is (suc n) h = absurd (false≢true h)
 
-never : {A : Type 0} {X : Type 0} {a : A} {o : Option A} → o ≡ none → o ≡ some a → X
-never {a = a} e t = absurd (none-ne-some a (sym e ∙ t))
+never : {A : Type 0} {X : Type 0} {a : A} {o : Option A} → o ≡ None → o ≡ Some a → X
+never {a = a} e t = absurd (none-some a (sym e ∙ t))
 
 -- a newer row is put before the others
 module _ (r : ResultRow) (rs : List ResultRow) (i : ℕ) where
@@ -55,70 +56,70 @@ module _ (r : ResultRow) (rs : List ResultRow) (i : ℕ) where
   older : (P : ResultColumn → Type 0) → Gives Old i P → Gives New i P
   older P g = record { row = g.row; has = inr g.has; column = g.column; there = g.there; holds = g.holds }
 
-  every : (P : ResultColumn → Type 0) → ((d : ResultColumn) → get_elem? r.columns i ≡ some d → P d) → Every Old i P → Every New i P
-  every P new old z d (inl e) t = new d (ap (λ (y : ResultRow). get_elem? y.columns i) e ∙ t)
+  every : (P : ResultColumn → Type 0) → ((d : ResultColumn) → slice_get r.columns i ≡ Some d → P d) → Every Old i P → Every New i P
+  every P new old z d (inl e) t = new d (ap (λ (y : ResultRow). slice_get y.columns i) e ∙ t)
   every P new old z d (inr e) t = old z d e t
 
   -- the newer row lacks the column, or does not know whether it is nullable
-  silent : ((d : ResultColumn) → get_elem? r.columns i ≡ some d → d.nullable ≡ none) → (b : Option Bool) → NullableSays Old i b → NullableSays New i b
-  silent h (some true) g = older (λ d. d.nullable ≡ some true) g
-  silent h (some false) g = (older (λ d. d.nullable ≡ some false) g.0, every (λ d. d.nullable ≡ some true → ⊥) (λ d t e. never (h d t) e) g.1)
-  silent h none g = every (λ d. d.nullable ≡ none) h g
+  silent : ((d : ResultColumn) → slice_get r.columns i ≡ Some d → d.nullable ≡ None) → (b : Option Bool) → NullableSays Old i b → NullableSays New i b
+  silent h (Some true) g = older (λ d. d.nullable ≡ Some true) g
+  silent h (Some false) g = (older (λ d. d.nullable ≡ Some false) g.0, every (λ d. d.nullable ≡ Some true → ⊥) (λ d t e. never (h d t) e) g.1)
+  silent h None g = every (λ d. d.nullable ≡ None) h g
 
   -- the newer row has the column
-  module _ (a : ResultColumn) (at : get_elem? r.columns i ≡ some a) where
+  module _ (a : ResultColumn) (at : slice_get r.columns i ≡ Some a) where
     newest : (P : ResultColumn → Type 0) → P a → Gives New i P
     newest P p = record { row = r; has = inl refl; column = a; there = at; holds = p }
 
     -- what holds of its column, and of the older ones
     every_at : (P : ResultColumn → Type 0) → P a → Every Old i P → Every New i P
-    every_at P p old = every P (λ d t. subst P (some-injective a d (sym at ∙ t)) p) old
+    every_at P p old = every P (λ d t. subst P (same_Some a d (sym at ∙ t)) p) old
 
-    says_true : a.nullable ≡ some true → (b : Option Bool) → NullableSays New i (either_nullable (some true) b)
-    says_true q none = newest (λ d. d.nullable ≡ some true) q
-    says_true q (some b) = newest (λ d. d.nullable ≡ some true) q
+    says_true : a.nullable ≡ Some true → (b : Option Bool) → NullableSays New i (either_nullable (Some true) b)
+    says_true q None = newest (λ d. d.nullable ≡ Some true) q
+    says_true q (Some b) = newest (λ d. d.nullable ≡ Some true) q
 
-    not_true : a.nullable ≡ some false → a.nullable ≡ some true → ⊥
-    not_true q e = false≢true (some-injective false true (sym q ∙ e))
+    not_true : a.nullable ≡ Some false → a.nullable ≡ Some true → ⊥
+    not_true q e = false≢true (same_Some false true (sym q ∙ e))
 
-    says_false : a.nullable ≡ some false → (b : Option Bool) → NullableSays Old i b → NullableSays New i (either_nullable (some false) b)
-    says_false q (some true) g = older (λ d. d.nullable ≡ some true) g
-    says_false q (some false) g = (newest (λ d. d.nullable ≡ some false) q, every_at (λ d. d.nullable ≡ some true → ⊥) (not_true q) g.1)
-    says_false q none g = (newest (λ d. d.nullable ≡ some false) q, every_at (λ d. d.nullable ≡ some true → ⊥) (not_true q) (λ z d m t e. never (g z d m t) e))
+    says_false : a.nullable ≡ Some false → (b : Option Bool) → NullableSays Old i b → NullableSays New i (either_nullable (Some false) b)
+    says_false q (Some true) g = older (λ d. d.nullable ≡ Some true) g
+    says_false q (Some false) g = (newest (λ d. d.nullable ≡ Some false) q, every_at (λ d. d.nullable ≡ Some true → ⊥) (not_true q) g.1)
+    says_false q None g = (newest (λ d. d.nullable ≡ Some false) q, every_at (λ d. d.nullable ≡ Some true → ⊥) (not_true q) (λ z d m t e. never (g z d m t) e))
 
     nullable_at : (b : Option Bool) → NullableSays Old i b → NullableSays New i (either_nullable a.nullable b)
     nullable_at b g = by a.nullable refl
       where
         by : (n : Option Bool) → a.nullable ≡ n → NullableSays New i (either_nullable n b)
-        by none q = silent (λ d t. ap (λ (c : ResultColumn). c.nullable) (sym (some-injective a d (sym at ∙ t))) ∙ q) b g
-        by (some true) q = says_true q b
-        by (some false) q = says_false q b g
+        by None q = silent (λ d t. ap (λ (c : ResultColumn). c.nullable) (sym (same_Some a d (sym at ∙ t))) ∙ q) b g
+        by (Some true) q = says_true q b
+        by (Some false) q = says_false q b g
 
-either-none : (n : Option Bool) → either_nullable n none ≡ n
-either-none none = refl
-either-none (some b) = refl
+either-none : (n : Option Bool) → either_nullable n None ≡ n
+either-none None = refl
+either-none (Some b) = refl
 
 -- what the columns at a place say, or that no row has one there
 abbrev At : (ResultRow → Type 0) → ℕ → Option ResultColumn → Type 0
-At X i none = Every X i (λ d. ⊥)
-At X i (some c) = Says X i c
+At X i None = Every X i (λ d. ⊥)
+At X i (Some c) = Says X i c
 
 module _ (r : ResultRow) (rs : List ResultRow) (i : ℕ) where
-  cons_at : (o p : Option ResultColumn) → get_elem? r.columns i ≡ o → At (λ z. z ∈ rs) i p → At (λ z. z ∈ (r ∷ rs)) i (join o p)
-  cons_at none none e f = every r rs i (λ d. ⊥) (λ d t. never e t) f
-  cons_at none (some b) e f =
+  cons_at : (o p : Option ResultColumn) → slice_get r.columns i ≡ o → At (λ z. z ∈ rs) i p → At (λ z. z ∈ (r ∷ rs)) i (join o p)
+  cons_at None None e f = every r rs i (λ d. ⊥) (λ d t. never e t) f
+  cons_at None (Some b) e f =
       record {
         kind_given = older r rs i (λ d. d.datatype ≡ b.datatype) f.kind_given;
         null_all = λ k. every r rs i (λ d. d.datatype ≡ Null) (λ d t. never e t) (f.null_all k);
         nullable = silent r rs i (λ d t. never e t) b.nullable f.nullable;
       }
-  cons_at (some a) none e f =
+  cons_at (Some a) None e f =
       record {
         kind_given = newest r rs i a e (λ d. d.datatype ≡ a.datatype) refl;
         null_all = λ k. every_at r rs i a e (λ d. d.datatype ≡ Null) k (λ z d m t. absurd (f z d m t));
-        nullable = subst (NullableSays (λ z. z ∈ (r ∷ rs)) i) (either-none a.nullable) (nullable_at r rs i a e none (λ z d m t. absurd (f z d m t)));
+        nullable = subst (NullableSays (λ z. z ∈ (r ∷ rs)) i) (either-none a.nullable) (nullable_at r rs i a e None (λ z d m t. absurd (f z d m t)));
       }
-  cons_at (some a) (some b) e f =
+  cons_at (Some a) (Some b) e f =
       record {
         kind_given = given (is_null_type a.datatype);
         null_all = λ k. nulls (is_null_type a.datatype) refl k;
@@ -133,52 +134,52 @@ module _ (r : ResultRow) (rs : List ResultRow) (i : ℕ) where
       nulls true h k = every_at r rs i a e (λ d. d.datatype ≡ Null) (null_is a.datatype h) (f.null_all k)
       nulls false h k = absurd (false≢true (sym h ∙ ap is_null_type k))
 
-columns-at : (rs : List ResultRow) (i : ℕ) → At (λ z. z ∈ rs) i (get_elem? (columns_of rs) i)
+columns-at : (rs : List ResultRow) (i : ℕ) → At (λ z. z ∈ rs) i (slice_get (columns_of rs) i)
 unfolding columns_of
 columns-at [] i = λ z d m t. m
 columns-at (r ∷ rs) i =
-    subst (At (λ z. z ∈ (r ∷ rs)) i) (sym (merge-at i r.columns (columns_of rs))) (cons_at r rs i (get_elem? r.columns i) (get_elem? (columns_of rs) i) refl (columns-at rs i))
+    subst (At (λ z. z ∈ (r ∷ rs)) i) (sym (merge-at i r.columns (columns_of rs))) (cons_at r rs i (slice_get r.columns i) (slice_get (columns_of rs) i) refl (columns-at rs i))
 
 -- a column of the answer says what 01 asks of the rows counted
-pub columns_say : (rs : List ResultRow) (i : ℕ) (c : ResultColumn) → get_elem? (columns_of rs) i ≡ some c → Says (λ z. z ∈ rs) i c
+pub columns_say : (rs : List ResultRow) (i : ℕ) (c : ResultColumn) → slice_get (columns_of rs) i ≡ Some c → Says (λ z. z ∈ rs) i c
 columns_say rs i c e = subst (At (λ z. z ∈ rs) i) e (columns-at rs i)
 
 -- and a column of a row counted is one of the answer's
-pub column_there : (rs : List ResultRow) (i : ℕ) (r : ResultRow) (d : ResultColumn) → r ∈ rs → get_elem? r.columns i ≡ some d → (c : ResultColumn) × (get_elem? (columns_of rs) i ≡ some c)
-column_there rs i r d h t = go (get_elem? (columns_of rs) i) refl (columns-at rs i)
+pub column_there : (rs : List ResultRow) (i : ℕ) (r : ResultRow) (d : ResultColumn) → r ∈ rs → slice_get r.columns i ≡ Some d → (c : ResultColumn) × (slice_get (columns_of rs) i ≡ Some c)
+column_there rs i r d h t = go (slice_get (columns_of rs) i) refl (columns-at rs i)
   where
-    go : (o : Option ResultColumn) → get_elem? (columns_of rs) i ≡ o → At (λ z. z ∈ rs) i o → (c : ResultColumn) × (get_elem? (columns_of rs) i ≡ some c)
-    go none e f = absurd (f r d h t)
-    go (some c) e f = (c, e)
+    go : (o : Option ResultColumn) → slice_get (columns_of rs) i ≡ o → At (λ z. z ∈ rs) i o → (c : ResultColumn) × (slice_get (columns_of rs) i ≡ Some c)
+    go None e f = absurd (f r d h t)
+    go (Some c) e f = (c, e)
 
 -- the kind at a place, unless it is Null, is that of the latest row whose kind isn't Null
 abbrev Latest : List ResultRow → ℕ → Option ResultColumn → Type 0
-Latest rs i none = Unit {0}
-Latest rs i (some c) = (c.datatype ≡ Null) ⊎ LatestKind i c.datatype rs
+Latest rs i None = Unit {0}
+Latest rs i (Some c) = (c.datatype ≡ Null) ⊎ LatestKind i c.datatype rs
 
 module _ (r : ResultRow) (rs : List ResultRow) (i : ℕ) where
-  cons_latest : (o p : Option ResultColumn) → get_elem? r.columns i ≡ o → Latest rs i p → Latest (r ∷ rs) i (join o p)
-  cons_latest none none e f = tt
-  cons_latest none (some b) e (inl k) = inl k
-  cons_latest none (some b) e (inr l) = inr (earlier (λ d t. never e t) l)
-  cons_latest (some a) none e f = inr (this a e refl)
-  cons_latest (some a) (some b) e f = by (is_null_type a.datatype) refl f
+  cons_latest : (o p : Option ResultColumn) → slice_get r.columns i ≡ o → Latest rs i p → Latest (r ∷ rs) i (join o p)
+  cons_latest None None e f = tt
+  cons_latest None (Some b) e (inl k) = inl k
+  cons_latest None (Some b) e (inr l) = inr (earlier (λ d t. never e t) l)
+  cons_latest (Some a) None e f = inr (this a e refl)
+  cons_latest (Some a) (Some b) e f = by (is_null_type a.datatype) refl f
     where
-      skip : is_null_type a.datatype ≡ true → (d : ResultColumn) → get_elem? r.columns i ≡ some d → d.datatype ≡ Null
-      skip h d t = ap (λ (c : ResultColumn). c.datatype) (sym (some-injective a d (sym e ∙ t))) ∙ null_is a.datatype h
+      skip : is_null_type a.datatype ≡ true → (d : ResultColumn) → slice_get r.columns i ≡ Some d → d.datatype ≡ Null
+      skip h d t = ap (λ (c : ResultColumn). c.datatype) (sym (same_Some a d (sym e ∙ t))) ∙ null_is a.datatype h
 
-      by : (t : Bool) → is_null_type a.datatype ≡ t → Latest rs i (some b) → (first_if t a.datatype b.datatype ≡ Null) ⊎ LatestKind i (first_if t a.datatype b.datatype) (r ∷ rs)
+      by : (t : Bool) → is_null_type a.datatype ≡ t → Latest rs i (Some b) → (first_if t a.datatype b.datatype ≡ Null) ⊎ LatestKind i (first_if t a.datatype b.datatype) (r ∷ rs)
       by true h (inl k) = inl k
       by true h (inr l) = inr (earlier (skip h) l)
       by false h g = inr (this a e refl)
 
-latest-at : (rs : List ResultRow) (i : ℕ) → Latest rs i (get_elem? (columns_of rs) i)
+latest-at : (rs : List ResultRow) (i : ℕ) → Latest rs i (slice_get (columns_of rs) i)
 unfolding columns_of
 latest-at [] i = tt
 latest-at (r ∷ rs) i =
-    subst (Latest (r ∷ rs) i) (sym (merge-at i r.columns (columns_of rs))) (cons_latest r rs i (get_elem? r.columns i) (get_elem? (columns_of rs) i) refl (latest-at rs i))
+    subst (Latest (r ∷ rs) i) (sym (merge-at i r.columns (columns_of rs))) (cons_latest r rs i (slice_get r.columns i) (slice_get (columns_of rs) i) refl (latest-at rs i))
 
-pub kind_latest : (rs : List ResultRow) (i : ℕ) (c : ResultColumn) → get_elem? (columns_of rs) i ≡ some c → (c.datatype ≡ Null) ⊎ LatestKind i c.datatype rs
+pub kind_latest : (rs : List ResultRow) (i : ℕ) (c : ResultColumn) → slice_get (columns_of rs) i ≡ Some c → (c.datatype ≡ Null) ⊎ LatestKind i c.datatype rs
 kind_latest rs i c e = subst (Latest rs i) e (latest-at rs i)
 
 -- the answer is as wide as the widest row
@@ -199,19 +200,19 @@ module _ (X : ResultRow → Type 0) (i : ℕ) where
   clash : {P Q : ResultColumn → Type 0} → Gives X i P → Every X i Q → ((d : ResultColumn) → P d → Q d → ⊥) → ⊥
   clash g f against = against g.column g.holds (f g.row g.column g.has g.there)
 
-  no_unknown : {b : Bool} → Gives X i (λ d. d.nullable ≡ some b) → Every X i (λ d. d.nullable ≡ none) → ⊥
+  no_unknown : {b : Bool} → Gives X i (λ d. d.nullable ≡ Some b) → Every X i (λ d. d.nullable ≡ None) → ⊥
   no_unknown g f = clash g f (λ d p q. never q p)
 
   only_one : (n k : Option Bool) → NullableSays X i n → NullableSays X i k → n ≡ k
-  only_one (some true) (some true) s u = refl
-  only_one (some true) (some false) s u = absurd (clash s u.1 (λ d p q. q p))
-  only_one (some true) none s u = absurd (no_unknown s u)
-  only_one (some false) (some true) s u = absurd (clash u s.1 (λ d p q. q p))
-  only_one (some false) (some false) s u = refl
-  only_one (some false) none s u = absurd (no_unknown s.0 u)
-  only_one none (some true) s u = absurd (no_unknown u s)
-  only_one none (some false) s u = absurd (no_unknown u.0 s)
-  only_one none none s u = refl
+  only_one (Some true) (Some true) s u = refl
+  only_one (Some true) (Some false) s u = absurd (clash s u.1 (λ d p q. q p))
+  only_one (Some true) None s u = absurd (no_unknown s u)
+  only_one (Some false) (Some true) s u = absurd (clash u s.1 (λ d p q. q p))
+  only_one (Some false) (Some false) s u = refl
+  only_one (Some false) None s u = absurd (no_unknown s.0 u)
+  only_one None (Some true) s u = absurd (no_unknown u s)
+  only_one None (Some false) s u = absurd (no_unknown u.0 s)
+  only_one None None s u = refl
 
   pub nullable_exactly : (c : ResultColumn) → Says X i c → (n : Option Bool) → (c.nullable ≡ n) ↔ NullableSays X i n
   nullable_exactly c s n = ((λ e. subst (NullableSays X i) e s.nullable), only_one c.nullable n s.nullable)
@@ -225,9 +226,9 @@ module _ (X Y : ResultRow → Type 0) (same : (r : ResultRow) → X r ↔ Y r) (
   every_as P f r d h t = f r d ((same r).1 h) t
 
   nullable_as : (n : Option Bool) → NullableSays X i n → NullableSays Y i n
-  nullable_as (some true) s = gives_as (λ d. d.nullable ≡ some true) s
-  nullable_as (some false) s = (gives_as (λ d. d.nullable ≡ some false) s.0, every_as (λ d. d.nullable ≡ some true → ⊥) s.1)
-  nullable_as none s = every_as (λ d. d.nullable ≡ none) s
+  nullable_as (Some true) s = gives_as (λ d. d.nullable ≡ Some true) s
+  nullable_as (Some false) s = (gives_as (λ d. d.nullable ≡ Some false) s.0, every_as (λ d. d.nullable ≡ Some true → ⊥) s.1)
+  nullable_as None s = every_as (λ d. d.nullable ≡ None) s
 
   pub says_as : (c : ResultColumn) → Says X i c → Says Y i c
   says_as c s =

@@ -3,34 +3,35 @@
 use mathlib.Core.Path.{◌≡◌, refl, sym, ap, subst, ◌∙◌}
 use mathlib.Core.Logic.{inl, inr}
 use mathlib.Core.Bool.{Bool, true, false}
-use mathlib.Core.Option.{Option, none, some}
+use Rattle.std.specs.Prelude.{Option, None, Some}
 use mathlib.Core.List.{List, [], ◌∷◌}
 use Prim.Native.Nat.{ℕ, zero, suc}
 use native.Mathlib.Omega.{arith}
 use Rattle.model.specs.Walk.{◌∈◌, Tried, done, Ways, Lineage, start_waiting, add_row, onward, mems, Notes, note_result, note_repeat, start_notes, answered, handled_before, walk}
 use Rattle.model.specs.Steps.{pick, step, follow, Reach, Offering, Result}
 use Rattle.model.specs.WalkClaims.{Sound, RepeatsCounted, Quiet, Coverage}
-use Rattle.model.proofs.Lists.{none-some, some-injective, element_at}
+use Rattle.std.proofs.lemmas.Option.{none-some, same_Some}
+use Rattle.model.proofs.Lists.{element_at}
 use Rattle.model.proofs.Reaching.{step_offered, Taken, step_taken, nowhere, further}
 use Rattle.model.proofs.Kept.{alive, Keeps, HandledRow, row_offers, came, at_answer}
 
 -- the way that goes on is alive, and so is what waits
-alive-onward : {M : Type 0} (o : Option M) (past : List ℕ) (ls : List (Lineage M)) (t : M) → o ≡ some t → t ∈ mems (alive (onward o past) ls)
-alive-onward none past ls t e = absurd (none-some e)
-alive-onward (some m) past ls t e = inl (some-injective e)
+alive-onward : {M : Type 0} (o : Option M) (past : List ℕ) (ls : List (Lineage M)) (t : M) → o ≡ Some t → t ∈ mems (alive (onward o past) ls)
+alive-onward None past ls t e = absurd (none-some _ e)
+alive-onward (Some m) past ls t e = inl (same_Some _ _ e)
 
 alive_waiting : {M : Type 0} (c : Option (Lineage M)) (ls : List (Lineage M)) (t : M) → t ∈ mems ls → t ∈ mems (alive c ls)
-alive_waiting none ls t h = h
-alive_waiting (some l) ls t h = inr h
+alive_waiting None ls t h = h
+alive_waiting (Some l) ls t h = inr h
 
 -- a row's result is counted, and so is what was
-counts_result : {R : Type 0} (o : Option R) (rs : List R) (r : R) → o ≡ some r → r ∈ note_result o rs
-counts_result none rs r e = absurd (none-some e)
-counts_result (some x) rs r e = inl (some-injective e)
+counts_result : {R : Type 0} (o : Option R) (rs : List R) (r : R) → o ≡ Some r → r ∈ note_result o rs
+counts_result None rs r e = absurd (none-some _ e)
+counts_result (Some x) rs r e = inl (same_Some _ _ e)
 
 counts_still : {R : Type 0} (o : Option R) (rs : List R) (r : R) → r ∈ rs → r ∈ note_result o rs
-counts_still none rs r h = h
-counts_still (some x) rs r h = inr h
+counts_still None rs r h = h
+counts_still (Some x) rs r h = inr h
 
 no_repeat : (b : Bool) (k : ℕ) → note_repeat b k ≡ 0 → (b ≡ false) × (k ≡ 0)
 no_repeat false k e = (refl, e)
@@ -43,15 +44,15 @@ module _ {M R : Type 0} (row_of : M → Option ℕ) (ways : Bool → M → Tried
   -- a state is accounted for
   data Accounted (ls hs : List (Lineage M)) (t : M) : Type 0 where
     handled : t ∈ mems hs → Accounted ls hs t
-    outside : row_of t ≡ none → Accounted ls hs t
+    outside : row_of t ≡ None → Accounted ls hs t
     waits : t ∈ mems ls → Accounted ls hs t
 
   -- a handled state: its ways are accounted for, and its result row is counted
   record Closed (ls hs : List (Lineage M)) (rs : List R) (m : M) : Type 0 where
     way : Ways M R
     offering : Offering row_of ways m way
-    next : (k : ℕ) (t : M) → pick k way ≡ some t → Accounted ls hs t
-    result : (r : R) → way.result ≡ some r → r ∈ rs
+    next : (k : ℕ) (t : M) → pick k way ≡ Some t → Accounted ls hs t
+    result : (r : R) → way.result ≡ Some r → r ∈ rs
 
   -- what the walk knows of the lists of allowed steps while it goes on
   record Covered (ls hs : List (Lineage M)) (remembered : List M) (rs : List R) : Type 0 where
@@ -74,7 +75,7 @@ module _ {M R : Type 0} (row_of : M → Option ℕ) (ways : Bool → M → Tried
   -- a lineage that ends outside the listing leaves all covered
   left :
       {l : Lineage M} {ls hs : List (Lineage M)} {remembered : List M} {rs : List R} →
-      row_of l.mem ≡ none →
+      row_of l.mem ≡ None →
       Covered (l ∷ ls) hs remembered rs →
       Covered ls hs remembered rs
   left {l} {ls} {hs} out v =
@@ -89,7 +90,7 @@ module _ {M R : Type 0} (row_of : M → Option ℕ) (ways : Bool → M → Tried
       stays : (t : M) → Accounted (l ∷ ls) hs t → Accounted ls hs t
       stays t (handled h) = handled h
       stays t (outside e) = outside e
-      stays t (waits (inl e)) = outside (subst (λ x. row_of x ≡ none) e out)
+      stays t (waits (inl e)) = outside (subst (λ x. row_of x ≡ None) e out)
       stays t (waits (inr h)) = waits h
 
   -- the end: no lineage is left
@@ -98,29 +99,29 @@ module _ {M R : Type 0} (row_of : M → Option ℕ) (ways : Bool → M → Tried
     next_accounted k m t x (handled h) =
         let c = v.closed m h in
         c.next k t (sym (step_offered row_of ways k c.offering) ∙ step_offered row_of ways k x.offering ∙ x.goes)
-    next_accounted k m t x (outside e) = absurd (none-some (sym e ∙ x.offering.at))
+    next_accounted k m t x (outside e) = absurd (none-some _ (sym e ∙ x.offering.at))
     next_accounted k m t x (waits h) = absurd h
 
-    follow_accounted : (ks : List ℕ) (m t : M) → Accounted [] hs m → follow row_of ways ks m ≡ some t → Accounted [] hs t
+    follow_accounted : (ks : List ℕ) (m t : M) → Accounted [] hs m → follow row_of ways ks m ≡ Some t → Accounted [] hs t
     unfolding follow
-    follow_accounted [] m t a e = subst (Accounted [] hs) (some-injective e) a
+    follow_accounted [] m t a e = subst (Accounted [] hs) (same_Some _ _ e) a
     follow_accounted (k ∷ ks) m t a e = go (step row_of ways k m) refl e (λ b. follow_accounted ks b t)
       where
         go :
             (o : Option M) →
             step row_of ways k m ≡ o →
-            ◌≡◌ {A = Option M} (elim o [ none ↦ none | some b ↦ follow row_of ways ks b ]) (some t) →
-            ((b : M) → Accounted [] hs b → follow row_of ways ks b ≡ some t → Accounted [] hs t) →
+            ◌≡◌ {A = Option M} (elim o [ None ↦ None | Some b ↦ follow row_of ways ks b ]) (Some t) →
+            ((b : M) → Accounted [] hs b → follow row_of ways ks b ≡ Some t → Accounted [] hs t) →
             Accounted [] hs t
-        go none e₁ e₂ rest = absurd (none-some e₂)
-        go (some b) e₁ e₂ rest = rest b (next_accounted k m b (step_taken row_of ways k m b e₁) a) e₂
+        go None e₁ e₂ rest = absurd (none-some _ e₂)
+        go (Some b) e₁ e₂ rest = rest b (next_accounted k m b (step_taken row_of ways k m b e₁) a) e₂
 
-    all_handled : (m : M) → Reach row_of ways fresh m → (row : ℕ) → row_of m ≡ some row → m ∈ mems hs
+    all_handled : (m : M) → Reach row_of ways fresh m → (row : ℕ) → row_of m ≡ Some row → m ∈ mems hs
     all_handled m h row at = go (follow_accounted h.steps fresh m v.start h.leads)
       where
         go : Accounted [] hs m → m ∈ mems hs
         go (handled i) = i
-        go (outside e) = absurd (none-some (sym e ∙ at))
+        go (outside e) = absurd (none-some _ (sym e ∙ at))
         go (waits i) = absurd i
 
     all_counted : (r : R) → Result row_of ways fresh r → r ∈ rs
@@ -174,15 +175,15 @@ module _
               | inr j ↦ waits (alive_waiting (onward w.stays (row ∷ l.past)) ls' t j)
             ]
 
-        next : (k : ℕ) (t : M) → pick k w ≡ some t → Now t
+        next : (k : ℕ) (t : M) → pick k w ≡ Some t → Now t
         unfolding pick
         next zero t e = waits (alive-onward w.stays (row ∷ l.past) ls' t e)
         next (suc k) t e = known t ((row_offers eq row_of ways units h).each sound t (element_at w.branches k t e))
 
         fair : (o : Option R) → w.result ≡ o → (r : R) → r ∈ note_result o n.counted → Result row_of ways fresh r
-        fair none e r i = v.fair r i
-        fair (some x) e r (inl a) = record { state = l.mem; reach = here; way = w; offering = offering; gives = e ∙ ap some a }
-        fair (some x) e r (inr i) = v.fair r i
+        fair None e r i = v.fair r i
+        fair (Some x) e r (inl a) = record { state = l.mem; reach = here; way = w; offering = offering; gives = e ∙ ap Some a }
+        fair (Some x) e r (inr i) = v.fair r i
 
         covered :
             Covered row_of ways fresh
@@ -249,7 +250,7 @@ module _
             exact = λ r. (end.fair r, all_counted row_of ways fresh end r);
           }
         where
-          start : QuietCovered gas none (start_waiting fresh) (start_notes space)
+          start : QuietCovered gas None (start_waiting fresh) (start_notes space)
           start quiet =
               record {
                 start = waits (inl refl);

@@ -1,7 +1,7 @@
 -- Laws of decimal numbers: each reader accepts exactly what its printer prints, and no printing holds an LF. Assumes nothing.
 use mathlib.Core.Path.{◌≡◌, refl, sym, ap, ◌∙◌, subst}
 use mathlib.Core.Bool.{true, false, not, ◌||◌, and-eq-true_iff, false≢true}
-use mathlib.Core.Option.{Option, some}
+use Rattle.std.specs.Prelude.{Option, Some}
 use mathlib.Core.List.{List, [], ◌∷◌, ◌++◌, append_assoc, append-nil}
 use Prim.Native.Nat.{ℕ, zero, suc, ◌+◌, ◌*◌, ◌-◌, ◌/◌, ◌%◌, ◌≤◌, ◌<◌}
 use native.Mathlib.Omega.{arith}
@@ -64,12 +64,12 @@ digit_range b e = (within-true 48 57 b).0 e
 pub digit-is : (d : ℕ) → d < 10 → is_digit (48 + d) ≡ true
 digit-is d h = (within-true 48 57 (48 + d)).1 (omega arith)
 
-one-digit : (n d : ℕ) → d < 10 → read_digits n ((48 + d) ∷ []) ≡ some (n * 10 + d)
+one-digit : (n d : ℕ) → d < 10 → read_digits n ((48 + d) ∷ []) ≡ Some (n * 10 + d)
 unfolding read_digits
-one-digit n d h = only_if-true (digit-is d h) ∙ ap some (omega arith)
+one-digit n d h = only_if-true (digit-is d h) ∙ ap Some (omega arith)
 
 -- one more digit
-digits_more : (s : List ℕ) (a n d : ℕ) → d < 10 → read_digits a s ≡ some n → read_digits a (s ++ ((48 + d) ∷ [])) ≡ some (n * 10 + d)
+digits_more : (s : List ℕ) (a n d : ℕ) → d < 10 → read_digits a s ≡ Some n → read_digits a (s ++ ((48 + d) ∷ [])) ≡ Some (n * 10 + d)
 unfolding read_digits
 digits_more [] a n d h e = ap (λ x. read_digits x ((48 + d) ∷ [])) (some_same e) ∙ one-digit n d h
 digits_more (b ∷ s) a n d h e =
@@ -77,12 +77,12 @@ digits_more (b ∷ s) a n d h e =
     only_if-true good ∙ digits_more s (a * 10 + (b - 48)) n d h rest
 
 -- what begins with 0 is 0
-zero-alone : (s : List ℕ) (n : ℕ) → ended s ≡ true → read_digits 0 (48 ∷ s) ≡ some n → (s ≡ []) × (n ≡ 0)
+zero-alone : (s : List ℕ) (n : ℕ) → ended s ≡ true → read_digits 0 (48 ∷ s) ≡ Some n → (s ≡ []) × (n ≡ 0)
 unfolding read_digits
 zero-alone [] n y e = (refl, sym (some_same e))
 zero-alone (c ∷ s) n y e = absurd (false≢true y)
 
-zero-first : (b : ℕ) (s : List ℕ) (n : ℕ) → eqb b 48 ≡ true → read_natural (b ∷ s) ≡ some n → (s ≡ []) × (n ≡ 0)
+zero-first : (b : ℕ) (s : List ℕ) (n : ℕ) → eqb b 48 ≡ true → read_natural (b ∷ s) ≡ Some n → (s ≡ []) × (n ≡ 0)
 unfolding read_natural
 zero-first b s n y e =
     let (plain, rest) = only_if-some (not (eqb b 48) || ended s) e in
@@ -93,7 +93,7 @@ other_first : (b : ℕ) (s : List ℕ) → eqb b 48 ≡ false → read_natural (
 unfolding read_natural
 other_first b s y = only_if-true (ap (λ x. not x || ended s) y)
 
-natural_more : (s : List ℕ) (n d : ℕ) → 1 ≤ n → d < 10 → read_natural s ≡ some n → read_natural (s ++ ((48 + d) ∷ [])) ≡ some (n * 10 + d)
+natural_more : (s : List ℕ) (n d : ℕ) → 1 ≤ n → d < 10 → read_natural s ≡ Some n → read_natural (s ++ ((48 + d) ∷ [])) ≡ Some (n * 10 + d)
 unfolding read_natural
 natural_more [] n d h k e = never e
 natural_more (b ∷ s) n d h k e =
@@ -101,13 +101,13 @@ natural_more (b ∷ s) n d h k e =
     (λ y. absurd (omega (arith, (zero-first b s n y e).1)))
     (λ y. other_first b (s ++ ((48 + d) ∷ [])) y ∙ digits_more (b ∷ s) 0 n d k (sym (other_first b s y) ∙ e))
 
-natural_print : (n : ℕ) → read_natural (print_natural n) ≡ some n
+natural_print : (n : ℕ) → read_natural (print_natural n) ≡ Some n
 unfolding read_natural
-natural_print = by_digits (λ n. read_natural (print_natural n) ≡ some n)
-    (λ n h. rw (print_digit n h) (only_if-true (cases (eqb (48 + n) 48) (λ y. ap (λ x. not x || true) y) (λ y. ap (λ x. not x || true) y)) ∙ one-digit 0 n h ∙ ap some (omega arith)))
+natural_print = by_digits (λ n. read_natural (print_natural n) ≡ Some n)
+    (λ n h. rw (print_digit n h) (only_if-true (cases (eqb (48 + n) 48) (λ y. ap (λ x. not x || true) y) (λ y. ap (λ x. not x || true) y)) ∙ one-digit 0 n h ∙ ap Some (omega arith)))
     (λ n d h k is. rw (print_more n d h k) (natural_more (print_natural n) n d h k is))
 
-digits_back : (s : List ℕ) (a n : ℕ) → 1 ≤ a → read_digits a s ≡ some n → print_natural a ++ s ≡ print_natural n
+digits_back : (s : List ℕ) (a n : ℕ) → 1 ≤ a → read_digits a s ≡ Some n → print_natural a ++ s ≡ print_natural n
 unfolding read_digits
 digits_back [] a n h e = append-nil (print_natural a) ∙ ap print_natural (some_same e)
 digits_back (b ∷ s) a n h e =
@@ -119,7 +119,7 @@ digits_back (b ∷ s) a n h e =
     ∙ ap (λ x. x ++ s) (sym (print_more a (b - 48) h (omega arith)))
     ∙ digits_back s (a * 10 + (b - 48)) n (omega arith) rest
 
-natural_back : (t : List ℕ) (n : ℕ) → read_natural t ≡ some n → t ≡ print_natural n
+natural_back : (t : List ℕ) (n : ℕ) → read_natural t ≡ Some n → t ≡ print_natural n
 unfolding read_natural read_digits
 natural_back [] n e = never e
 natural_back (b ∷ s) n e =
@@ -137,7 +137,6 @@ natural_back (b ∷ s) n e =
 
 -- a printed number is digits
 print_digits : (n : ℕ) → all_of is_digit (print_natural n) ≡ true
-unfolding all_of
 print_digits = by_digits (λ n. all_of is_digit (print_natural n) ≡ true)
     (λ n h. rw (print_digit n h) (single n h))
     (λ n d h k is. rw (print_more n d h k) (all_of_append is_digit (print_natural n) ((48 + d) ∷ []) is (single d k)))
@@ -159,31 +158,31 @@ pub index-value : (k : ℕ) → Value (read_index k) Any (λ _. print_natural k)
 unfolding read_index
 index-value k = record {
   exact = exactly
-      (λ _ _. ap (λ o. o then λ n. only_if (eqb n k) (some tt)) (reads natural_value.exact tt) ∙ only_if-true (eq-eqb k k refl))
+      (λ _ _. ap (λ o. o then λ n. only_if (eqb n k) (Some tt)) (reads natural_value.exact tt) ∙ only_if-true (eq-eqb k k refl))
       (λ t _ e. then_some (read_natural t) e λ n is kept.
       (tt, (only natural_value.exact is).1 ∙ ap print_natural (eqb-true n k (only_if-some (eqb n k) kept).0)));
   one_line = λ _ _. natural_value.one_line k tt;
 }
 
 -- Signed numbers.
-signed_plain : (t : List ℕ) {o : Option ℕ} → all_of is_digit t ≡ true → read_up_to 2147483647 t ≡ o → read_signed t ≡ (o then λ n. some (pos n))
-unfolding read_signed read_up_to read_if read_natural all_of
-signed_plain [] h e = ap (λ o. o then λ n. some (pos n)) e
+signed_plain : (t : List ℕ) {o : Option ℕ} → all_of is_digit t ≡ true → read_up_to 2147483647 t ≡ o → read_signed t ≡ (o then λ n. Some (pos n))
+unfolding read_signed read_up_to read_if read_natural
+signed_plain [] h e = ap (λ o. o then λ n. Some (pos n)) e
 signed_plain (b ∷ s) h e =
     let digit = digit_range b ((and-eq-true_iff (is_digit b) (all_of is_digit s)).0 h).0 in
-    ap (λ x. signed_if x b s) (ne_eqb b 45 (λ is. absurd (omega (arith, is, digit)))) ∙ ap (λ o. o then λ n. some (pos n)) e
+    ap (λ x. signed_if x b s) (ne_eqb b 45 (λ is. absurd (omega (arith, is, digit)))) ∙ ap (λ o. o then λ n. Some (pos n)) e
 
-signed_print : (z : ℤ) → Int32 z → read_signed (print_signed z) ≡ some z
+signed_print : (z : ℤ) → Int32 z → read_signed (print_signed z) ≡ Some z
 unfolding print_signed read_signed negative
 signed_print (pos n) h = signed_plain (print_natural n) (print_digits n) (reads (up_to-value 2147483647).exact h)
 signed_print (negsuc n) h = ap (λ o. o then negative) (reads (up_to-value 2147483648).exact (omega arith))
 
-negative_back : (n : ℕ) (z : ℤ) → n ≤ 2147483648 → negative n ≡ some z → Int32 z × (45 ∷ print_natural n ≡ print_signed z)
+negative_back : (n : ℕ) (z : ℤ) → n ≤ 2147483648 → negative n ≡ Some z → Int32 z × (45 ∷ print_natural n ≡ print_signed z)
 unfolding negative print_signed
 negative_back zero z h e = never e
 negative_back (suc n) z h e = subst (λ y. Int32 y × (45 ∷ print_natural (suc n) ≡ print_signed y)) (some_same e) (omega arith, refl)
 
-signed_back : (t : List ℕ) (z : ℤ) → read_signed t ≡ some z → Int32 z × (t ≡ print_signed z)
+signed_back : (t : List ℕ) (z : ℤ) → read_signed t ≡ Some z → Int32 z × (t ≡ print_signed z)
 unfolding read_signed print_signed
 signed_back [] z e = never e
 signed_back (b ∷ s) z e =
@@ -196,7 +195,7 @@ signed_back (b ∷ s) z e =
     subst (λ x. Int32 x × (b ∷ s ≡ print_signed x)) (some_same kept) (only (up_to-value 2147483647).exact is))
 
 signed_line : (z : ℤ) → NoLf (print_signed z)
-unfolding print_signed all_of
+unfolding print_signed
 signed_line (pos n) = natural_value.one_line n tt
 signed_line (negsuc n) = natural_value.one_line (suc n) tt
 

@@ -2,7 +2,7 @@
 use mathlib.Core.Path.{◌≡◌, refl, sym, ap, ◌∙◌, subst}
 use mathlib.Core.Logic.{◌↔◌}
 use mathlib.Core.Bool.{Bool, true, not, and-eq-true_iff}
-use mathlib.Core.Option.{Option, some}
+use Rattle.std.specs.Prelude.{Option, Some}
 use mathlib.Core.List.{List, [], ◌∷◌, ◌++◌, append_assoc, append-nil}
 use Prim.Native.Nat.{ℕ, ◌<◌}
 use native.Mathlib.Omega.{arith}
@@ -33,35 +33,35 @@ pub if_value : {A : Type 0} {read : List ℕ → Option A} {Valid Wanted : A →
 if_value value w = record { exact = if_exact value.exact w; one_line = λ v h. value.one_line v ((w v).1 h).0 }
 
 -- a text that passes a test which no LF passes
-pub text_value : {test : List ℕ → Bool} → ((s : List ℕ) → test s ≡ true → NoLf s) → Value (read_if test some) (λ s. test s ≡ true) (λ s. s)
+pub text_value : {test : List ℕ → Bool} → ((s : List ℕ) → test s ≡ true → NoLf s) → Value (read_if test Some) (λ s. test s ≡ true) (λ s. s)
 text_value clean = record {
   exact = if_exact {Valid = Any} (exactly (λ v _. refl) (λ t v e. (tt, some_same e))) (λ s. (λ h. h.1, λ h. (tt, h)));
   one_line = clean;
 }
 
-pub name_value : {A : Type 0} (name : A → List ℕ) (list : List A) → ((a : A) → (read_name name list (name a) ≡ some a) × NoLf (name a)) → Value (read_name name list) Any name
+pub name_value : {A : Type 0} (name : A → List ℕ) (list : List A) → ((a : A) → (read_name name list (name a) ≡ Some a) × NoLf (name a)) → Value (read_name name list) Any name
 name_value name list good = record { exact = name_exact name list (λ a. (good a).0); one_line = λ a _. (good a).1 }
 
 -- Lines and keys.
-line_on : (v u : List ℕ) → NoLf v → take_line ((v ++ (10 ∷ [])) ++ u) ≡ some (v, u)
-unfolding take_line all_of
+line_on : (v u : List ℕ) → NoLf v → take_line ((v ++ (10 ∷ [])) ++ u) ≡ Some (v, u)
+unfolding take_line
 line_on [] u h = refl
 line_on (b ∷ v) u h =
     let (first, rest) = (and-eq-true_iff (not (eqb b 10)) (all_of (λ b. not (eqb b 10)) v)).0 h in
-    rw (not-true (eqb b 10) first, take_line) (ap (λ o. o then λ l. some (b ∷ l.0, l.1)) (line_on v u rest))
+    rw (not-true (eqb b 10) first, take_line) (ap (λ o. o then λ l. Some (b ∷ l.0, l.1)) (line_on v u rest))
 
 -- a line and what stands behind it
 abbrev Line : List ℕ → List ℕ × List ℕ → Type 0
 Line t l = NoLf l.0 × (t ≡ (l.0 ++ (10 ∷ [])) ++ l.1)
 
-line_back : (t : List ℕ) (l : List ℕ × List ℕ) → take_line t ≡ some l → Line t l
-unfolding take_line all_of
+line_back : (t : List ℕ) (l : List ℕ × List ℕ) → take_line t ≡ Some l → Line t l
+unfolding take_line
 line_back [] l e = never e
 line_back (b ∷ t) l e =
     cases (eqb b 10)
-    (λ y. let here : take_line (b ∷ t) ≡ some ([], t) = rw (y, take_line) in
+    (λ y. let here : take_line (b ∷ t) ≡ Some ([], t) = rw (y, take_line) in
     subst (Line (b ∷ t)) (some_same (sym here ∙ e)) (refl, ap (λ x. x ∷ t) (eqb-true b 10 y)))
-    (λ y. let later : take_line (b ∷ t) ≡ (take_line t then λ l. some (b ∷ l.0, l.1)) = rw (y, take_line) in
+    (λ y. let later : take_line (b ∷ t) ≡ (take_line t then λ l. Some (b ∷ l.0, l.1)) = rw (y, take_line) in
     then_some (take_line t) (sym later ∙ e) λ rest is same.
     let (clean, split) = line_back t rest is in
     subst (Line (b ∷ t)) (some_same same) (rw y clean, ap (λ x. b ∷ x) split))
@@ -69,12 +69,12 @@ line_back (b ∷ t) l e =
 pub line_takes : Takes take_line NoLf (λ v. v ++ (10 ∷ []))
 line_takes = takes_from (λ v h. record { is = λ u. line_on v u h }) (record { is = λ t v u. line_back t (v, u) })
 
-key_on : (key u : List ℕ) → take_key key (key ++ u) ≡ some (tt, u)
+key_on : (key u : List ℕ) → take_key key (key ++ u) ≡ Some (tt, u)
 unfolding take_key
 key_on [] u = refl
 key_on (k ∷ key) u = only_if-true (eq-eqb k k refl) ∙ key_on key u
 
-key_back : (key t : List ℕ) (x : Unit) (u : List ℕ) → take_key key t ≡ some (x, u) → Unit {0} × (t ≡ key ++ u)
+key_back : (key t : List ℕ) (x : Unit) (u : List ℕ) → take_key key t ≡ Some (x, u) → Unit {0} × (t ≡ key ++ u)
 unfolding take_key
 key_back [] t x u e = (tt, ap (λ (p : Unit × List ℕ). p.1) (some_same e))
 key_back (k ∷ key) [] x u e = never e

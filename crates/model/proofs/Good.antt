@@ -4,7 +4,7 @@
 use mathlib.Core.Path.{◌≡◌, refl, subst}
 use mathlib.Core.Logic.{inl, inr}
 use mathlib.Core.Bool.{Bool}
-use mathlib.Core.Option.{Option, none, some}
+use Rattle.std.specs.Prelude.{Option, None, Some}
 use mathlib.Core.List.{List, [], ◌∷◌}
 use Prim.Native.Nat.{ℕ, ◌≤◌}
 use native.Mathlib.Omega.{arith}
@@ -42,8 +42,8 @@ module _ (meaning : Meaning) (q : GoodMeaning meaning) (rows : List Row) (few : 
   arm_good small x no_arm = goes_on_good (next_good g)
 
   row_good : (o : Option Row) → row_at rows m.program_i ≡ o → Kept (GoodWays meaning.cell_limit) (at_row meaning rows again m o)
-  row_good none e = ends_good
-  row_good (some x) e = arm_good (omega (arith, row_at-within rows m.program_i x e)) x (operation_of x.op)
+  row_good None e = ends_good
+  row_good (Some x) e = arm_good (omega (arith, row_at-within rows m.program_i x e)) x (operation_of x.op)
 
   pub ways_good : (w : Ways MemoryState ResultRow) → ways meaning rows again m ≡ done w → GoodWays meaning.cell_limit w
   unfolding ways
@@ -59,5 +59,5 @@ module _ {limit : ℕ} {w : Ways MemoryState ResultRow} (g : GoodWays limit w) w
   pub branch_is_good : (b : MemoryState) → b ∈ w.branches → Good limit b
   branch_is_good b e = each_member (Good limit) w.branches g.branches b e
 
-  pub stays_is_good : (s : MemoryState) → w.stays ≡ some s → Good limit s
+  pub stays_is_good : (s : MemoryState) → w.stays ≡ Some s → Good limit s
   stays_is_good s e = subst (OnSome (Good limit)) e g.stays

@@ -1,6 +1,6 @@
 -- The arms that use a cursor leave a good state. Assumes nothing.
 use mathlib.Core.Bool.{Bool, true, false, ◌||◌}
-use mathlib.Core.Option.{Option, none, some}
+use Rattle.std.specs.Prelude.{Option, None, Some}
 use Prim.Native.Nat.{ℕ, ◌≤◌}
 use native.Mathlib.Omega.{arith}
 use lib.IntN.{ℤ, pos}
@@ -28,28 +28,28 @@ SortedSome cs = OnSome (λ c. SortedColumns c 0) cs
 
 record_sorted : (v : Option RegDataType) → OnSome GoodRegister v → SortedSome (record_of v)
 unfolding SortedColumn
-record_sorted none p = tt
-record_sorted (some (Column (Single d n))) p = tt
-record_sorted (some (Column (Record cs))) p = p.sorted
-record_sorted (some (Int i)) p = tt
+record_sorted None p = tt
+record_sorted (Some (Column (Single d n))) p = tt
+record_sorted (Some (Column (Record cs))) p = p.sorted
+record_sorted (Some (Int i)) p = tt
 
 -- a column of sorted columns
 column_of_sorted : (i : ℤ) (cs : Option Columns) → SortedSome cs → Kept SortedColumn (column_of i cs)
 unfolding column_of SortedColumn
-column_of_sorted i none s = value tt
-column_of_sorted i (some cs) s = index_small i >> λ k h. value (of k (get k (entries cs)) (rising_get SortedAt k 0 (entries cs) (sorted_entries cs 0 s)))
+column_of_sorted i None s = value tt
+column_of_sorted i (Some cs) s = index_small i >> λ k h. value (of k (get k (entries cs)) (rising_get SortedAt k 0 (entries cs) (sorted_entries cs 0 s)))
   where
     of : (k : ℕ) (o : Option ColumnType) → OnSome (SortedAt k) o → SortedColumn (or_else default o)
-    of k none h = tt
-    of k (some c) h = h.1
+    of k None h = tt
+    of k (Some c) h = h.1
 
 or_empty_sorted : (cs : Option Columns) → SortedSome cs → SortedColumns (or_else end cs) 0
 unfolding SortedColumns
-or_empty_sorted none s = tt
-or_empty_sorted (some cs) s = s
+or_empty_sorted None s = tt
+or_empty_sorted (Some cs) s = s
 
 -- as many columns as fit
-elem_sorted : (limit : ℕ) → limit ≤ 65536 → (n : ℕ) → table_cells (record { cols = from_elem null n; is_empty = some true }) ≤ limit → SortedColumns (from_elem null n) 0
+elem_sorted : (limit : ℕ) → limit ≤ 65536 → (n : ℕ) → table_cells (record { cols = from_elem null n; is_empty = Some true }) ≤ limit → SortedColumns (from_elem null n) 0
 unfolding table_cells SortedColumn
 elem_sorted limit h n fits =
     sorted_dense (replicate n null) (omega (arith, fits, dense_cells (replicate n null) 0)) (each-replicate SortedColumn null tt n)
@@ -62,44 +62,44 @@ columns_if_sorted false cs s = tt
 module _ {limit : ℕ} {m : MemoryState} (g : Good limit m) where
   cursor_columns_sorted : (c : Option CursorDataType) → Kept SortedSome (cursor_columns c m)
   unfolding cursor_columns
-  cursor_columns_sorted none = value tt
-  cursor_columns_sorted (some (Normal row)) = value (of (get row m.t) (table_good g row))
+  cursor_columns_sorted None = value tt
+  cursor_columns_sorted (Some (Normal row)) = value (of (get row m.t) (table_good g row))
     where
       of : (t : Option TableDataType) → OnSome (λ t. (row ≤ 65535) × GoodTable t) t → SortedSome (table_columns t)
-      of none p = tt
-      of (some t) p = p.1.sorted
-  cursor_columns_sorted (some (Pseudo i)) = read_register_good g i >> λ v p. value (record_sorted v p)
+      of None p = tt
+      of (Some t) p = p.1.sorted
+  cursor_columns_sorted (Some (Pseudo i)) = read_register_good g i >> λ v p. value (record_sorted v p)
 
   null_columns_good : (c : Option CursorDataType) → Kept (Good limit) (null_columns c m)
   unfolding null_columns
-  null_columns_good none = value g
-  null_columns_good (some (Normal row)) = value (update_table_good g row null_table null_table_no_larger)
-  null_columns_good (some (Pseudo i)) = update_register_good g i null_record null_record_no_larger
+  null_columns_good None = value g
+  null_columns_good (Some (Normal row)) = value (update_table_good g row null_table null_table_no_larger)
+  null_columns_good (Some (Pseudo i)) = update_register_good g i null_record null_record_no_larger
 
   insert_record_good : (cs : Columns) → SortedColumns cs 0 → (c : Option CursorDataType) → Kept (Good limit) (insert_record limit cs c m)
   unfolding insert_record
-  insert_record_good cs s none = value g
-  insert_record_good cs s (some (Normal row)) = by (get row m.t) (table_good g row)
+  insert_record_good cs s None = value g
+  insert_record_good cs s (Some (Normal row)) = by (get row m.t) (table_good g row)
     where
       by : (t : Option TableDataType) → OnSome (λ t. (row ≤ 65535) × GoodTable t) t → Kept (Good limit) (store_into limit row cs t m)
-      by none p = value g
-      by (some t) p = store_table_good g row p.0 _ (λ h. s)
-  insert_record_good cs s (some (Pseudo i)) = value g
+      by None p = value g
+      by (Some t) p = store_table_good g row p.0 _ (λ h. s)
+  insert_record_good cs s (Some (Pseudo i)) = value g
 
   insert_good : (x : Row) (v : Option RegDataType) → OnSome GoodRegister v → Kept (Good limit) (insert_arm limit x m v)
   unfolding insert_arm SortedColumn
-  insert_good x none p = value g
-  insert_good x (some (Column (Single d n))) p = by (is_null_type d)
+  insert_good x None p = value g
+  insert_good x (Some (Column (Single d n))) p = by (is_null_type d)
     where
       by : (b : Bool) → Kept (Good limit) (insert_null_if b x m)
-      by true = read_cursor_good g x.p1 >> λ c _. value (update_cursor_table_good g (set_empty (some false)) (set_empty_no_larger (λ t. some false)) c)
+      by true = read_cursor_good g x.p1 >> λ c _. value (update_cursor_table_good g (set_empty (Some false)) (set_empty_no_larger (λ t. Some false)) c)
       by false = value g
-  insert_good x (some (Column (Record cs))) p = read_cursor_good g x.p1 >> λ c _. insert_record_good cs p.sorted c
-  insert_good x (some (Int i)) p = value g
+  insert_good x (Some (Column (Record cs))) p = read_cursor_good g x.p1 >> λ c _. insert_record_good cs p.sorted c
+  insert_good x (Some (Int i)) p = value g
 
   store_some_cursor_good : (i : ℤ) (c : Option CursorDataType) → OnSome GoodCursor c → Kept (Good limit) (store_some_cursor limit i c m)
-  store_some_cursor_good i none p = value g
-  store_some_cursor_good i (some c) p = store_cursor_good g i c p
+  store_some_cursor_good i None p = value g
+  store_some_cursor_good i (Some c) p = store_cursor_good g i c p
 
   open_table_good : (row : ℕ) → row ≤ 65535 → (x : Row) (t : TableDataType) → (table_cells t ≤ limit → SortedColumns t.cols 0) → Kept (Good limit) (open_table limit row x t m)
   unfolding open_table

@@ -1,6 +1,6 @@
 -- The arms that jump offer good states only. Assumes nothing.
 use mathlib.Core.Bool.{Bool, true, false, not, ◌||◌}
-use mathlib.Core.Option.{Option, none, some}
+use Rattle.std.specs.Prelude.{Option, None, Some}
 use mathlib.Core.List.{List, [], ◌∷◌}
 use Prim.Native.Nat.{ℕ}
 use lib.Dec.{leb}
@@ -70,8 +70,8 @@ module _ (limit : ℕ) (rows : List Row) (x : Row) (m : MemoryState) (g : Good l
 
   if_good : (n : Option ℤ) → Kept (GoodWays limit) (if_arm limit x m n)
   unfolding if_arm
-  if_good none = if_branch_good >> λ branch b. if_stay_good >> λ stays s. value (record { branches = (b, tt); stays = s })
-  if_good (some n) = by (is_zero_int n)
+  if_good None = if_branch_good >> λ branch b. if_stay_good >> λ stays s. value (record { branches = (b, tt); stays = s })
+  if_good (Some n) = by (is_zero_int n)
     where
       by : (b : Bool) → Kept (GoodWays limit) (if_known limit x m b)
       by true = if_stay_good >> λ stays s. goes_on_good s
@@ -83,10 +83,10 @@ module _ (limit : ℕ) (rows : List Row) (x : Row) (m : MemoryState) (g : Good l
   rewind_good false = anything (read_cursor x.p1 m) >> λ c _. by c
     where
       by : (c : Option CursorDataType) → Kept (GoodWays limit) (rewind_cursor x m c)
-      by none = ends_good
-      by (some c) =
+      by None = ends_good
+      by (Some c) =
           value (record {
-            branches = branch_good (not (is_false (cursor_is_empty c m))) (update_cursor_table_good (go_to_good g x.p2) (set_empty (some true)) (set_empty_no_larger (λ t. some true)) (some c));
+            branches = branch_good (not (is_false (cursor_is_empty c m))) (update_cursor_table_good (go_to_good g x.p2) (set_empty (Some true)) (set_empty_no_larger (λ t. Some true)) (Some c));
             stays = stay_good (not (is_true (cursor_is_empty c m))) (next_good g);
           })
 
@@ -96,26 +96,26 @@ module _ (limit : ℕ) (rows : List Row) (x : Row) (m : MemoryState) (g : Good l
 
   end_coroutine_good : (n : Option ℤ) → Kept (GoodWays limit) (end_coroutine_arm rows x m n)
   unfolding end_coroutine_arm
-  end_coroutine_good none = ends_good
-  end_coroutine_good (some i) = by (yield_target (row_at rows i))
+  end_coroutine_good None = ends_good
+  end_coroutine_good (Some i) = by (yield_target (row_at rows i))
     where
       by : (target : Option ℤ) → Kept (GoodWays limit) (end_coroutine_to x m target)
-      by none = ends_good
-      by (some target) = remove_register_good (go_to_good g target) x.p1 >> λ s h. goes_on_good h
+      by None = ends_good
+      by (Some target) = remove_register_good (go_to_good g target) x.p1 >> λ s h. goes_on_good h
 
   return_good : (n : Option ℤ) → Kept (GoodWays limit) (return_arm x m n)
   unfolding return_arm
-  return_good none = by (eq_int x.p3 (pos 1))
+  return_good None = by (eq_int x.p3 (pos 1))
     where
       by : (b : Bool) → Kept (GoodWays limit) (return_else b m)
       by true = goes_on_good (next_good g)
       by false = ends_good
-  return_good (some i) = remove_register_good (go_to_good g (suc_ℤ i)) x.p1 >> λ s h. goes_on_good h
+  return_good (Some i) = remove_register_good (go_to_good g (suc_ℤ i)) x.p1 >> λ s h. goes_on_good h
 
   yield_good : (n : Option ℤ) → Kept (GoodWays limit) (yield_arm rows x m n)
   unfolding yield_arm
-  yield_good none = ends_good
-  yield_good (some i) =
+  yield_good None = ends_good
+  yield_good (Some i) =
       update_register_good (go_to_good g (row_after_yield (yield_target (row_at rows i)) i)) x.p1 _ (to_int m.program_i) >> λ s h.
       goes_on_good h
 

@@ -1,6 +1,6 @@
 -- The arms that write registers leave a good state. Assumes nothing.
 use mathlib.Core.Bool.{Bool, true, false}
-use mathlib.Core.Option.{Option, none, some}
+use Rattle.std.specs.Prelude.{Option, None, Some}
 use mathlib.Core.List.{List}
 use Prim.Native.Nat.{ℕ, zero, suc, ◌≤◌}
 use native.Mathlib.Omega.{arith}
@@ -29,10 +29,10 @@ dense_good limit h cs s fits = sorted_dense cs (omega (arith, dense_cells cs 0))
 
 operands_sorted : (a b : Option RegDataType) → SortedColumn (map_to_columntype (operands a b))
 unfolding SortedColumn
-operands_sorted none none = tt
-operands_sorted none (some b) = tt
-operands_sorted (some a) none = tt
-operands_sorted (some a) (some b) = tt
+operands_sorted None None = tt
+operands_sorted None (Some b) = tt
+operands_sorted (Some a) None = tt
+operands_sorted (Some a) (Some b) = tt
 
 -- a change of a register that keeps its columns sorted
 abbrev KeepsSorted : (RegDataType → RegDataType) → Type 0
@@ -50,12 +50,12 @@ module _ {limit : ℕ} {m : MemoryState} (g : Good limit m) where
   copy_to_good i j f keeps = read_register_good g i >> λ v p. by v p
     where
       by : (v : Option RegDataType) → OnSome GoodRegister v → Kept (Good limit) (store_some limit j f v m)
-      by none p = value g
-      by (some v) p = store_register_good g j (f v) (λ h. keeps v p)
+      by None p = value g
+      by (Some v) p = store_register_good g j (f v) (λ h. keeps v p)
 
   move_some_good : (i j : ℤ) (v : Option RegDataType) → OnSome GoodRegister v → Kept (Good limit) (move_some limit i j v m)
-  move_some_good i j none p = value g
-  move_some_good i j (some v) p = store_register_good g j v (λ h. p.sorted) >> λ s h. store_register_good h i _ (λ _. (plain_good Null (some true)).sorted)
+  move_some_good i j None p = value g
+  move_some_good i j (Some v) p = store_register_good g j v (λ h. p.sorted) >> λ s h. store_register_good h i _ (λ _. (plain_good Null (Some true)).sorted)
 
 summed_sorted : KeepsSorted summed
 unfolding SortedColumn
@@ -81,23 +81,23 @@ module _ (limit : ℕ) where
   null_many_good : (n : ℕ) (i : ℤ) {m : MemoryState} → Good limit m → Kept (Good limit) (null_many limit n i m)
   unfolding null_many
   null_many_good zero i g = value g
-  null_many_good (suc n) i g = store_plain_good g i Null (some true) >> λ s h. null_many_good n (suc_ℤ i) h
+  null_many_good (suc n) i g = store_plain_good g i Null (Some true) >> λ s h. null_many_good n (suc_ℤ i) h
 
 module _ (limit : ℕ) (x : Row) (m : MemoryState) (g : Good limit m) where
   function_good : (f : Option FunctionValue) → Kept (Good limit) (function_arm limit x m f)
-  function_good none = value g
-  function_good (some f) = store_plain_good g x.p3 f.datatype _
+  function_good None = value g
+  function_good (Some f) = store_plain_good g x.p3 f.datatype _
 
   agg_step_good : (a : Aggregate) → Kept (Good limit) (agg_step_arm limit x m a)
-  agg_step_good to_integer = store_plain_good g x.p3 Integer (some false)
-  agg_step_good to_real = store_plain_good g x.p3 Float (some false)
+  agg_step_good to_integer = store_plain_good g x.p3 Integer (Some false)
+  agg_step_good to_real = store_plain_good g x.p3 Float (Some false)
   agg_step_good to_sum = copy_to_good g x.p2 x.p3 summed summed_sorted
   agg_step_good to_other_row = copy_to_good g x.p2 x.p3 from_other_row from_other_row_sorted
   agg_step_good to_operand = copy_to_good g x.p2 x.p3 (λ v. v) unchanged
 
   agg_final_good : (a : Aggregate) → Kept (Good limit) (agg_final_arm limit x m a)
-  agg_final_good to_integer = store_plain_good g x.p1 Integer (some false)
-  agg_final_good to_real = store_plain_good g x.p3 Float (some false)
+  agg_final_good to_integer = store_plain_good g x.p1 Integer (Some false)
+  agg_final_good to_real = store_plain_good g x.p3 Float (Some false)
   agg_final_good to_sum = value g
   agg_final_good to_other_row = copy_to_good g x.p2 x.p3 from_other_row from_other_row_sorted
   agg_final_good to_operand = value g
@@ -109,7 +109,7 @@ module _ (meaning : Meaning) (q : GoodMeaning meaning) (x : Row) (m : MemoryStat
       anything (count_of x.p2) >> λ n _.
       read_columns_good g n x.p1 >> λ cs s.
       store_register_good g x.p3 _ (dense_good meaning.cell_limit q.limit cs s)
-  register_good op_variable = store_plain_good g x.p2 Null (some true)
+  register_good op_variable = store_plain_good g x.p2 Null (Some true)
   register_good op_halt_if_null = update_register_good g x.p3 to_not_null to_not_null_no_larger
   register_good op_function = anything (text_of x.p4) >> λ text _. function_good meaning.cell_limit x m g (meaning.function_for text)
   register_good op_agg_step = anything (text_of x.p4) >> λ text _. agg_step_good meaning.cell_limit x m g (aggregate_of text)
@@ -123,4 +123,4 @@ module _ (meaning : Meaning) (q : GoodMeaning meaning) (x : Row) (m : MemoryStat
   register_good op_arithmetic =
       read_register_good g x.p1 >> λ a _. read_register_good g x.p2 >> λ b _.
       store_register_good g x.p3 (operands a b) (λ h. operands_sorted a b)
-  register_good (op_constant d) = store_plain_good g x.p2 d (some false)
+  register_good (op_constant d) = store_plain_good g x.p2 d (Some false)

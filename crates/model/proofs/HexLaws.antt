@@ -1,7 +1,7 @@
 -- Laws of hexadecimal bytes: the reader accepts exactly what the printer prints, and no printing holds an LF. Assumes nothing.
 use mathlib.Core.Path.{◌≡◌, refl, sym, ap, ◌∙◌, subst}
 use mathlib.Core.Bool.{Bool, true, false, not}
-use mathlib.Core.Option.{some}
+use Rattle.std.specs.Prelude.{Some}
 use mathlib.Core.List.{List, [], ◌∷◌}
 use Prim.Native.Nat.{ℕ, ◌+◌, ◌*◌, ◌-◌, ◌/◌, ◌%◌, ◌≤◌, ◌<◌}
 use native.Mathlib.Omega.{arith}
@@ -24,7 +24,7 @@ hex_digit_high : (x : ℕ) → 10 ≤ x → hex_digit x ≡ 87 + x
 unfolding hex_digit
 hex_digit_high x h = ap (λ b. hex_digit_if b x) (le-ltb x 10 h)
 
-hex_value_low : (c : ℕ) → is_digit c ≡ true → hex_value c ≡ some (c - 48)
+hex_value_low : (c : ℕ) → is_digit c ≡ true → hex_value c ≡ Some (c - 48)
 unfolding hex_value
 hex_value_low c e = ap (λ b. hex_value_if b (within 97 102 c) c) e
 
@@ -32,15 +32,15 @@ hex_value_high : (c : ℕ) {letter : Bool} → is_digit c ≡ false → within 9
 unfolding hex_value
 hex_value_high c digit e = ap (λ b. hex_value_if b (within 97 102 c) c) digit ∙ ap (λ b. hex_value_if false b c) e
 
-hex_value_print : (x : ℕ) → x < 16 → hex_value (hex_digit x) ≡ some x
+hex_value_print : (x : ℕ) → x < 16 → hex_value (hex_digit x) ≡ Some x
 hex_value_print x h =
     cases (ltb x 10)
     (λ e. let low : x < 10 = ltb-true x 10 e in
-    rw (hex_digit_low x low) (hex_value_low (48 + x) (digit-is x low) ∙ ap some (omega arith)))
+    rw (hex_digit_low x low) (hex_value_low (48 + x) (digit-is x low) ∙ ap Some (omega arith)))
     (λ e. let high : 10 ≤ x = ltb-false x 10 e in
-    rw (hex_digit_high x high) (hex_value_high (87 + x) (within_above 48 57 (87 + x) (omega arith)) ((within-true 97 102 (87 + x)).1 (omega arith)) ∙ ap some (omega arith)))
+    rw (hex_digit_high x high) (hex_value_high (87 + x) (within_above 48 57 (87 + x) (omega arith)) ((within-true 97 102 (87 + x)).1 (omega arith)) ∙ ap Some (omega arith)))
 
-hex_value_back : (c x : ℕ) → hex_value c ≡ some x → (x < 16) × (c ≡ hex_digit x)
+hex_value_back : (c x : ℕ) → hex_value c ≡ Some x → (x < 16) × (c ≡ hex_digit x)
 hex_value_back c x e =
     cases (is_digit c)
     (λ y. let range = digit_range c y in
@@ -53,13 +53,13 @@ hex_value_back c x e =
     (λ w. never (sym (hex_value_high c y w) ∙ e)))
 
 -- all bytes
-hex_print : {bs : List ℕ} → All (λ b. b < 256) bs → read_hex (print_hex bs) ≡ some bs
+hex_print : {bs : List ℕ} → All (λ b. b < 256) bs → read_hex (print_hex bs) ≡ Some bs
 unfolding read_hex print_hex
 hex_print all_nil = refl
 hex_print (all_cons {x = b} {xs = bs} h more) =
-    rw (hex_value_print (b / 16) (omega arith), hex_value_print (b % 16) (omega arith), hex_print more) (ap (λ x. some (x ∷ bs)) (omega arith))
+    rw (hex_value_print (b / 16) (omega arith), hex_value_print (b % 16) (omega arith), hex_print more) (ap (λ x. Some (x ∷ bs)) (omega arith))
 
-hex_back : (t bs : List ℕ) → read_hex t ≡ some bs → All (λ b. b < 256) bs × (t ≡ print_hex bs)
+hex_back : (t bs : List ℕ) → read_hex t ≡ Some bs → All (λ b. b < 256) bs × (t ≡ print_hex bs)
 unfolding read_hex print_hex
 hex_back [] bs e = subst (λ x. All (λ b. b < 256) x × ([] ≡ print_hex x)) (some_same e) (all_nil, refl)
 hex_back (c ∷ []) bs e = never e
@@ -78,7 +78,7 @@ hex_digit_line : (x : ℕ) → not (eqb (hex_digit x) 10) ≡ true
 hex_digit_line x = ap not (ne_eqb (hex_digit x) 10 (λ e. cases (ltb x 10) (λ y. absurd (omega (arith, e, hex_digit_low x (ltb-true x 10 y)))) (λ y. absurd (omega (arith, e, hex_digit_high x (ltb-false x 10 y))))))
 
 hex_line : (bs : List ℕ) → NoLf (print_hex bs)
-unfolding print_hex all_of
+unfolding print_hex
 hex_line [] = refl
 hex_line (b ∷ bs) = rw (hex_digit_line (b / 16), hex_digit_line (b % 16)) (hex_line bs)
 

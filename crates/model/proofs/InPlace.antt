@@ -1,7 +1,7 @@
 -- The changes that are made in place, to a register or a table, make it no larger and keep it good: replacing whatever stands there by a plain
 -- column or a number, and setting `nullable` or `is_empty`. Assumes nothing.
 use mathlib.Core.Bool.{Bool, true, false}
-use mathlib.Core.Option.{Option, none, some}
+use Rattle.std.specs.Prelude.{Option, None, Some}
 use Prim.Native.Nat.{ℕ, ◌≤◌}
 use native.Mathlib.Omega.{arith}
 use lib.IntN.{ℤ}
@@ -53,13 +53,13 @@ unfolding register_cells
 to_int i v = record { smaller = register_one v; good = λ p. int_good i }
 
 pub to_default_no_larger : RegisterNeverLarger to_default
-to_default_no_larger v = to_plain Null none v
+to_default_no_larger v = to_plain Null None v
 
 pub cast_to_no_larger : (d : DataType) → RegisterNeverLarger (cast_to d)
 cast_to_no_larger d v = to_plain d (map_to_nullable v) v
 
 pub to_not_null_no_larger : RegisterNeverLarger to_not_null
-to_not_null_no_larger (Column (Single d n)) = to_plain d (some false) (Column (Single d n))
+to_not_null_no_larger (Column (Single d n)) = to_plain d (Some false) (Column (Single d n))
 to_not_null_no_larger (Column (Record cs)) = to_same
 to_not_null_no_larger (Int i) = to_same
 
@@ -69,17 +69,17 @@ count_down_no_larger (Int i) = to_int _ (Int i)
 
 pub forget_no_larger : RegisterNeverLarger forget
 forget_no_larger (Column c) = to_same
-forget_no_larger (Int i) = to_plain Integer (some false) (Int i)
+forget_no_larger (Int i) = to_plain Integer (Some false) (Int i)
 
 pub null_record_no_larger : RegisterNeverLarger null_record
 unfolding column_cells register_cells column_depth register_depth SortedColumn
 null_record_no_larger (Column (Single d n)) = to_same
 null_record_no_larger (Column (Record cs)) =
     record {
-      smaller = omega (arith, all_nullable_cells (some true) cs);
+      smaller = omega (arith, all_nullable_cells (Some true) cs);
       good = λ p. record {
-        depth = omega (arith, all_nullable_depth (some true) cs, p.depth);
-        sorted = all_nullable_sorted (some true) cs 0 p.sorted;
+        depth = omega (arith, all_nullable_depth (Some true) cs, p.depth);
+        sorted = all_nullable_sorted (Some true) cs 0 p.sorted;
       };
     }
 null_record_no_larger (Int i) = to_same
@@ -93,9 +93,9 @@ pub null_table_no_larger : NeverLarger table_cells GoodTable null_table
 unfolding table_cells
 null_table_no_larger t =
     record {
-      smaller = omega (arith, all_nullable_cells (some true) t.cols);
+      smaller = omega (arith, all_nullable_cells (Some true) t.cols);
       good = λ p. record {
-        depth = omega (arith, all_nullable_depth (some true) t.cols, p.depth);
-        sorted = all_nullable_sorted (some true) t.cols 0 p.sorted;
+        depth = omega (arith, all_nullable_depth (Some true) t.cols, p.depth);
+        sorted = all_nullable_sorted (Some true) t.cols 0 p.sorted;
       };
     }

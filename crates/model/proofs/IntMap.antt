@@ -2,7 +2,8 @@
 -- property, and is what was inserted; and how the sum over the values changes. Assumes nothing.
 use mathlib.Core.Path.{◌≡◌, refl, sym, ap, ap₂, subst, ◌∙◌}
 use mathlib.Core.Bool.{Bool, true, false}
-use mathlib.Core.Option.{none, some, none-ne-some}
+use Rattle.std.specs.Prelude.{None, Some}
+use Rattle.std.proofs.lemmas.Option.{none-some}
 use mathlib.Core.List.{List, [], ◌∷◌}
 use Prim.Native.Nat.{ℕ, suc, ◌+◌, ◌≤◌, ◌<◌, compare, Ordering}
 use native.Mathlib.Omega.{arith}
@@ -89,7 +90,7 @@ module _ {A : Type 0} (P : ℕ → A → Type 0) (k : ℕ) where
   below_other : (j low : ℕ) → k < low → low ≤ j → eqb j k ≡ false
   below_other j low h l = ne_eqb j k (λ p. omega arith)
 
-  get_below : (low : ℕ) → k < low → (es : List (Entry A)) → Rising P low es → get k es ≡ none
+  get_below : (low : ℕ) → k < low → (es : List (Entry A)) → Rising P low es → get k es ≡ None
   unfolding get
   get_below low h [] s = refl
   get_below low h (e ∷ es) s = ap (λ b. get_if b e.value (get k es)) (below_other e.key low h s.0) ∙ get_below (suc e.key) (omega (arith, s.0)) es s.2
@@ -101,16 +102,16 @@ module _ {A : Type 0} (P : ℕ → A → Type 0) (k : ℕ) where
       ap₂ ◌∷◌ (ap (λ b. e.key ⇒ update_if b g e.value) (below_other e.key low h s.0)) (update_below g (suc e.key) (omega (arith, s.0)) es s.2)
 
   -- `insert` over a present value changes it in place
-  pub insert_present : (w v : A) (low : ℕ) (es : List (Entry A)) → Rising P low es → get k es ≡ some v → insert k w es ≡ update k (λ _. w) es
+  pub insert_present : (w v : A) (low : ℕ) (es : List (Entry A)) → Rising P low es → get k es ≡ Some v → insert k w es ≡ update k (λ _. w) es
   unfolding get insert update
-  insert_present w v low [] s h = absurd (none-ne-some v h)
+  insert_present w v low [] s h = absurd (none-some v h)
   insert_present w v low (e ∷ es) s h = by (compare k e.key) refl (insert_present w v (suc e.key) es s.2)
     where
-      skipped : eqb e.key k ≡ false → get k es ≡ some v
+      skipped : eqb e.key k ≡ false → get k es ≡ Some v
       skipped other = sym (ap (λ b. get_if b e.value (get k es)) other) ∙ h
 
-      by : (o : Ordering) → compare k e.key ≡ o → (get k es ≡ some v → insert k w es ≡ update k (λ _. w) es) → insert_by o (k ⇒ w) e es (insert k w es) ≡ e.key ⇒ update_if (eqb e.key k) (λ _. w) e.value ∷ update k (λ _. w) es
-      by Ordering.lt q rest = absurd (none-ne-some v (sym (get_below (suc e.key) (omega (arith, compare_lt k e.key q)) es s.2) ∙ skipped (below_other e.key e.key (compare_lt k e.key q) (omega arith))))
+      by : (o : Ordering) → compare k e.key ≡ o → (get k es ≡ Some v → insert k w es ≡ update k (λ _. w) es) → insert_by o (k ⇒ w) e es (insert k w es) ≡ e.key ⇒ update_if (eqb e.key k) (λ _. w) e.value ∷ update k (λ _. w) es
+      by Ordering.lt q rest = absurd (none-some v (sym (get_below (suc e.key) (omega (arith, compare_lt k e.key q)) es s.2) ∙ skipped (below_other e.key e.key (compare_lt k e.key q) (omega arith))))
       by Ordering.eq q rest =
           ap₂ ◌∷◌
           (ap₂ (λ j b. j ⇒ update_if b (λ _. w) e.value) (compare_eq k e.key q) (sym (eq-eqb e.key k (sym (compare_eq k e.key q)))))
@@ -120,19 +121,19 @@ module _ {A : Type 0} (P : ℕ → A → Type 0) (k : ℕ) where
 
 -- what `get` finds after `insert`
 module _ {A : Type 0} (k : ℕ) (v : A) where
-  pub get_insert_same : (es : List (Entry A)) → get k (insert k v es) ≡ some v
+  pub get_insert_same : (es : List (Entry A)) → get k (insert k v es) ≡ Some v
   unfolding get insert
-  get_insert_same [] = ap (λ b. get_if b v none) (eqb_self k)
+  get_insert_same [] = ap (λ b. get_if b v None) (eqb_self k)
   get_insert_same (e ∷ es) = by (compare k e.key) refl (get_insert_same es)
     where
-      by : (o : Ordering) → compare k e.key ≡ o → get k (insert k v es) ≡ some v → get k (insert_by o (k ⇒ v) e es (insert k v es)) ≡ some v
+      by : (o : Ordering) → compare k e.key ≡ o → get k (insert k v es) ≡ Some v → get k (insert_by o (k ⇒ v) e es (insert k v es)) ≡ Some v
       by Ordering.lt q rest = ap (λ b. get_if b v (get k (e ∷ es))) (eqb_self k)
       by Ordering.eq q rest = ap (λ b. get_if b v (get k es)) (eqb_self k)
       by Ordering.gt q rest = ap (λ b. get_if b e.value (get k (insert k v es))) (eqb_less e.key k (compare_gt k e.key q)) ∙ rest
 
   pub get_insert_other : (j : ℕ) → (k ≡ j → ⊥) → (es : List (Entry A)) → get j (insert k v es) ≡ get j es
   unfolding get insert
-  get_insert_other j other [] = ap (λ b. get_if b v none) (ne_eqb k j other)
+  get_insert_other j other [] = ap (λ b. get_if b v None) (ne_eqb k j other)
   get_insert_other j other (e ∷ es) = by (compare k e.key) refl (get_insert_other j other es)
     where
       by : (o : Ordering) → compare k e.key ≡ o → get j (insert k v es) ≡ get j es → get j (insert_by o (k ⇒ v) e es (insert k v es)) ≡ get j (e ∷ es)

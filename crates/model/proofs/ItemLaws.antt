@@ -1,6 +1,6 @@
 -- Laws of items in a row: so many of them, and as many as the text has. Assumes nothing.
 use mathlib.Core.Path.{◌≡◌, refl, sym, ap, ◌∙◌, subst}
-use mathlib.Core.Option.{some}
+use Rattle.std.specs.Prelude.{Some}
 use mathlib.Core.List.{List, [], ◌∷◌, ◌++◌, append_assoc, append-nil}
 use Prim.Native.Nat.{ℕ, zero, suc, ◌+◌, ◌≤◌}
 use native.Mathlib.Omega.{arith}
@@ -35,21 +35,21 @@ module _ {A : Type 0} (item : ℕ → Reader A) (Valid : A → Type 0) (print : 
       ((ap suc w.0, all_cons v w.1), sym (append_assoc (print k x) (print_items print (suc k) more) u)))
 
   -- until the text ends
-  none_left_lem : (most k : ℕ) → items_up_to item most k [] ≡ some []
+  none_left_lem : (most k : ℕ) → items_up_to item most k [] ≡ Some []
   unfolding items_up_to
   none_left_lem zero k = refl
   none_left_lem (suc most) k = refl
 
-  one_more : (most k : ℕ) (t : List ℕ) → 1 ≤ length t → items_up_to item (suc most) k t ≡ (item k t then λ x. items_up_to item most (suc k) x.1 then λ more. some (x.0 ∷ more))
+  one_more : (most k : ℕ) (t : List ℕ) → 1 ≤ length t → items_up_to item (suc most) k t ≡ (item k t then λ x. items_up_to item most (suc k) x.1 then λ more. Some (x.0 ∷ more))
   unfolding items_up_to
   one_more most k [] h = absurd (omega arith)
   one_more most k (b ∷ t) h = refl
 
-  none_back : (k : ℕ) {xs : List A} → some [] ≡ some xs → All Valid xs × ([] ≡ print_items print k xs)
+  none_back : (k : ℕ) {xs : List A} → Some [] ≡ Some xs → All Valid xs × ([] ≡ print_items print k xs)
   unfolding print_items
   none_back k e = subst (λ xs. All Valid xs × ([] ≡ print_items print k xs)) (some_same e) (all_nil, refl)
 
-  up_to_back : (most k : ℕ) (t : List ℕ) {xs : List A} → items_up_to item most k t ≡ some xs → All Valid xs × (t ≡ print_items print k xs)
+  up_to_back : (most k : ℕ) (t : List ℕ) {xs : List A} → items_up_to item most k t ≡ Some xs → All Valid xs × (t ≡ print_items print k xs)
   unfolding items_up_to print_items
   up_to_back zero k [] e = none_back k e
   up_to_back zero k (b ∷ t) e = never e
@@ -63,15 +63,15 @@ module _ {A : Type 0} (item : ℕ → Reader A) (Valid : A → Type 0) (print : 
 
   -- an item takes a byte at least
   module _ (longer : (k : ℕ) (v : A) → 1 ≤ length (print k v)) where
-    up_to_print : (most k : ℕ) {xs : List A} → All Valid xs → length (print_items print k xs) ≤ most → items_up_to item most k (print_items print k xs) ≡ some xs
+    up_to_print : (most k : ℕ) {xs : List A} → All Valid xs → length (print_items print k xs) ≤ most → items_up_to item most k (print_items print k xs) ≡ Some xs
     unfolding print_items
     up_to_print most k all_nil h = none_left_lem most k
     up_to_print zero k (all_cons {x = x} {xs = more} v w) h = absurd (omega (arith, longer k x, length-append (print k x) (print_items print (suc k) more)))
     up_to_print (suc most) k (all_cons {x = x} {xs = more} v w) h =
         let size : length (print k x ++ print_items print (suc k) more) ≡ length (print k x) + length (print_items print (suc k) more) = length-append (print k x) (print_items print (suc k) more) in
         one_more most k (print k x ++ print_items print (suc k) more) (omega (arith, longer k x))
-        ∙ ap (λ o. o then λ y. items_up_to item most (suc k) y.1 then λ ys. some (y.0 ∷ ys)) ((yields (law k) v).is (print_items print (suc k) more))
-        ∙ ap (λ o. o then λ ys. some (x ∷ ys)) (up_to_print most (suc k) w (omega (arith, longer k x)))
+        ∙ ap (λ o. o then λ y. items_up_to item most (suc k) y.1 then λ ys. Some (y.0 ∷ ys)) ((yields (law k) v).is (print_items print (suc k) more))
+        ∙ ap (λ o. o then λ ys. Some (x ∷ ys)) (up_to_print most (suc k) w (omega (arith, longer k x)))
 
     pub items_exact : Exactly (read_items item) (All Valid) (print_items print 0)
     unfolding read_items

@@ -3,7 +3,7 @@
 use mathlib.Core.Path.{◌≡◌, refl, subst}
 use mathlib.Core.Logic.{inl, inr}
 use mathlib.Core.Bool.{Bool, true}
-use mathlib.Core.Option.{Option, some}
+use Rattle.std.specs.Prelude.{Option, Some}
 use mathlib.Core.List.{List, [], ◌∷◌}
 use Prim.Native.Nat.{ℕ}
 use Rattle.model.specs.Walk.{◌∈◌, Tried, done, Ways, Lineage, add_row, notes_of, handled_before, under_limit, walk}
@@ -29,14 +29,14 @@ module _
       -- a lineage whose row is handled gives B
       pub handled :
           {hs : List (Lineage M)} {l : Lineage M} {row : ℕ} →
-          row_of l.mem ≡ some row →
+          row_of l.mem ≡ Some row →
           under_limit row l.past ≡ true →
           A hs l →
           B (add_row row l ∷ hs) (add_row row l)
       -- and hands A on to the row's ways
       pub way :
           {hs : List (Lineage M)} {l : Lineage M} {row : ℕ} {w : Ways M R} {x : Lineage M} →
-          row_of l.mem ≡ some row →
+          row_of l.mem ≡ Some row →
           under_limit row l.past ≡ true →
           ways (handled_before row l.past) l.mem ≡ done w →
           A hs l →
@@ -58,7 +58,7 @@ module _
 
       grown :
           {row : ℕ} {l : Lineage M} {ls handled : List (Lineage M)} →
-          row_of l.mem ≡ some row →
+          row_of l.mem ≡ Some row →
           under_limit row l.past ≡ true →
           Have (l ∷ ls) handled →
           All (add_row row l ∷ handled)

@@ -4,7 +4,7 @@
 -- rows are equations of fronts. Assumes nothing.
 use mathlib.Core.Path.{◌≡◌, refl, sym, ap, subst, subst₂, ◌∙◌}
 use mathlib.Core.Bool.{Bool, true, false}
-use mathlib.Core.Option.{Option, none, some}
+use Rattle.std.specs.Prelude.{Option, None, Some}
 use mathlib.Core.List.{List, [], ◌∷◌}
 use Prim.Native.Nat.{ℕ, zero, suc, ◌-◌, ◌<◌, ◌≤◌}
 use native.Mathlib.Omega.{arith}
@@ -49,23 +49,23 @@ module _
 -- between rows
 module _ {M R : Type 0} (row_of : M → Option ℕ) where
   -- the fresh start waits
-  pub begins : (fresh : M) (space : ℕ) → begin {R = R} row_of fresh space ≡ go_on row_of none (start_waiting fresh) (start_notes space)
+  pub begins : (fresh : M) (space : ℕ) → begin {R = R} row_of fresh space ≡ go_on row_of None (start_waiting fresh) (start_notes space)
   unfolding begin go_on
   begins fresh space = refl
 
   module _ (l : Lineage M) (ls : List (Lineage M)) (n : Notes M R) where
     -- a waiting lineage is taken up
-    pub takes : go_on row_of none (l ∷ ls) n ≡ go_on row_of (some l) ls (note_taken l.mem n)
+    pub takes : go_on row_of None (l ∷ ls) n ≡ go_on row_of (Some l) ls (note_taken l.mem n)
     unfolding go_on take_up
     takes = refl
 
     -- the current one ends outside the listing
-    pub leaves : row_of l.mem ≡ none → go_on row_of (some l) ls n ≡ go_on row_of none ls n
+    pub leaves : row_of l.mem ≡ None → go_on row_of (Some l) ls n ≡ go_on row_of None ls n
     unfolding go_on
     leaves e = rw (e, go_on)
 
     -- so a paused front is one of a current lineage
-    pub at_row_lem : (row : ℕ) → row_of l.mem ≡ some row → go_on row_of (some l) ls n ≡ on_row row l ls n
+    pub at_row_lem : (row : ℕ) → row_of l.mem ≡ Some row → go_on row_of (Some l) ls n ≡ on_row row l ls n
     unfolding go_on
     at_row_lem row e = rw (e, go_on)
 
@@ -81,10 +81,10 @@ module _ {M R : Type 0} (row_of : M → Option ℕ) where
       go :
           (o : Option ℕ) →
           close row_of (take_up row_of ls n') ≡ answered (close_all row_of ls n') →
-          close {R = R} row_of (elim o [ none ↦ take_up row_of ls n' | some row ↦ on_row row l ls n' ]) ≡
-          answered (elim o [ none ↦ close_all row_of ls n' | some row ↦ close_all row_of ls (gas_stop n') ])
-      go none rest = rest
-      go (some row) rest = refl
+          close {R = R} row_of (elim o [ None ↦ take_up row_of ls n' | Some row ↦ on_row row l ls n' ]) ≡
+          answered (elim o [ None ↦ close_all row_of ls n' | Some row ↦ close_all row_of ls (gas_stop n') ])
+      go None rest = rest
+      go (Some row) rest = refl
 
   -- a function of fronts that closes what is left
   pub record Closes {X : Type 0} (now : Front M R → X) (ends : Walked M R → X) : Type 0 where
@@ -95,11 +95,11 @@ module _ {M R : Type 0} (row_of : M → Option ℕ) where
       {X : Type 0} {now : Front M R → X} {ends : Walked M R → X} →
       Closes now ends →
       (l : Lineage M) (ls : List (Lineage M)) (n : Notes M R) (row : ℕ) →
-      row_of l.mem ≡ some row →
-      now (go_on row_of (some l) ls n) ≡ now (go_on row_of none ls (gas_stop n))
+      row_of l.mem ≡ Some row →
+      now (go_on row_of (Some l) ls n) ≡ now (go_on row_of None ls (gas_stop n))
   unfolding close go_on
   empties {ends} c l ls n row e =
-      c.is (go_on row_of (some l) ls n) ∙
+      c.is (go_on row_of (Some l) ls n) ∙
       ap (λ f. ends (close row_of f)) (at_row_lem l ls n row e) ∙
       sym (ap ends (closes ls (gas_stop n))) ∙
       sym (c.is (take_up row_of ls (gas_stop n)))
@@ -114,11 +114,11 @@ module _
     -- the whole walk, as the loop begins and ends it
     pub walk_begins :
         (gas : ℕ) (fresh : M) (space : ℕ) →
-        walk eq row_of ways units gas fresh space ≡ walk_after eq row_of ways units gas none (start_waiting fresh) (start_notes space)
+        walk eq row_of ways units gas fresh space ≡ walk_after eq row_of ways units gas None (start_waiting fresh) (start_notes space)
     unfolding walk begin go_on
     walk_begins gas fresh space = refl
 
-    pub walk_ends : (gas : ℕ) (n : Notes M R) → walk_after eq row_of ways units gas none [] n ≡ answered n
+    pub walk_ends : (gas : ℕ) (n : Notes M R) → walk_after eq row_of ways units gas None [] n ≡ answered n
     unfolding go_on take_up walk_on close turn
     walk_ends zero n = refl
     walk_ends (suc gas) n = refl
@@ -126,11 +126,11 @@ module _
     -- a run with a budget likewise; one with all the gas for its budget is the whole walk
     pub run_begins :
         (gas : ℕ) (fresh : M) (space : ℕ) →
-        after eq row_of ways units gas gas none (start_waiting fresh) (start_notes space) ≡ ended (walk eq row_of ways units gas fresh space)
+        after eq row_of ways units gas gas None (start_waiting fresh) (start_notes space) ≡ ended (walk eq row_of ways units gas fresh space)
     unfolding walk begin go_on
     run_begins gas fresh space = run_all eq row_of ways units gas gas (begin row_of fresh space) (omega arith)
 
-    pub run_ends : (budget gas : ℕ) (n : Notes M R) → after eq row_of ways units budget gas none [] n ≡ ended (answered n)
+    pub run_ends : (budget gas : ℕ) (n : Notes M R) → after eq row_of ways units budget gas None [] n ≡ ended (answered n)
     unfolding go_on take_up
     run_ends = run_none eq row_of ways units
 
@@ -139,8 +139,8 @@ module _
         (budget gas : ℕ) (l : Lineage M) (ls : List (Lineage M)) (n : Notes M R) (row : ℕ) →
         budget ≡ 0 →
         0 < gas →
-        row_of l.mem ≡ some row →
-        after eq row_of ways units budget gas (some l) ls n ≡ paused gas (on_row row l ls n)
+        row_of l.mem ≡ Some row →
+        after eq row_of ways units budget gas (Some l) ls n ≡ paused gas (on_row row l ls n)
     unfolding run
     run_pauses budget zero l ls n row z h e = absurd (omega arith)
     run_pauses zero (suc gas) l ls n row z h e = ap (run eq row_of ways units zero (suc gas)) (at_row_lem row_of l ls n row e)
@@ -192,15 +192,15 @@ module _
         (ls : List (Lineage M))
         (n : Notes M R)
         (row : ℕ)
-        (at : row_of l.mem ≡ some row)
+        (at : row_of l.mem ≡ Some row)
       where
         -- the turn at the current lineage's row
-        at_turn : now (go_on row_of (some l) ls n) ≡ after_turn ends next (handle_if eq row_of ways units (under_limit row l.past) row l ls (charge n))
+        at_turn : now (go_on row_of (Some l) ls n) ≡ after_turn ends next (handle_if eq row_of ways units (under_limit row l.past) row l ls (charge n))
         unfolding turn
-        at_turn = t.is (go_on row_of (some l) ls n) ∙ ap (λ f. after_turn ends next (turn eq row_of ways units f)) (at_row_lem row_of l ls n row at)
+        at_turn = t.is (go_on row_of (Some l) ls n) ∙ ap (λ f. after_turn ends next (turn eq row_of ways units f)) (at_row_lem row_of l ls n row at)
 
         -- it is closed at the loop limit
-        pub loops : 3 ≤ count row l.past → now (go_on row_of (some l) ls n) ≡ next (go_on row_of none ls (loop_stop (charge n)))
+        pub loops : 3 ≤ count row l.past → now (go_on row_of (Some l) ls n) ≡ next (go_on row_of None ls (loop_stop (charge n)))
         unfolding handle_if go_on
         loops h = at_turn ∙ rw (le-ltb (count row l.past) 3 h)
 
@@ -209,7 +209,7 @@ module _
           pub refuses :
               (k : ℕ) →
               ways (handled_before row l.past) l.mem ≡ refused k →
-              now (go_on row_of (some l) ls n) ≡ ends (refused_with k (note_handled (add_row row l) (charge n)))
+              now (go_on row_of (Some l) ls n) ≡ ends (refused_with k (note_handled (add_row row l) (charge n)))
           unfolding handle_if follow_ways
           refuses k e = at_turn ∙ rw (lt-ltb (count row l.past) 3 h, e)
 
@@ -217,7 +217,7 @@ module _
             -- there is no space for a branch
             pub fills :
                 offer eq units (row ∷ l.past) w.branches ls n.remembered n.space ≡ full →
-                now (go_on row_of (some l) ls n) ≡ ends (refused_with 11 (note_handled (add_row row l) (charge n)))
+                now (go_on row_of (Some l) ls n) ≡ ends (refused_with 11 (note_handled (add_row row l) (charge n)))
             unfolding handle_if follow_ways settle
             fills o = at_turn ∙ rw (lt-ltb (count row l.past) 3 h, e, o)
 
@@ -225,7 +225,7 @@ module _
             pub handles :
                 (ls' : List (Lineage M)) (remembered' : List M) (space' : ℕ) →
                 offer eq units (row ∷ l.past) w.branches ls n.remembered n.space ≡ offered ls' remembered' space' →
-                now (go_on row_of (some l) ls n) ≡
+                now (go_on row_of (Some l) ls n) ≡
                 next (go_on row_of (onward w.stays (row ∷ l.past)) ls' (note_ways w remembered' space' (note_handled (add_row row l) (charge n))))
             unfolding handle_if follow_ways settle
             handles ls' remembered' space' o = at_turn ∙ rw (lt-ltb (count row l.past) 3 h, e, o)

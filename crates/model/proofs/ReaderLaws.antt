@@ -2,7 +2,7 @@
 use mathlib.Core.Path.{◌≡◌, refl, sym, ap, ◌∙◌, subst}
 use mathlib.Core.Logic.{◌↔◌}
 use mathlib.Core.Bool.{Bool, true, false, and-eq-true_iff, false≢true}
-use mathlib.Core.Option.{Option, none, some}
+use Rattle.std.specs.Prelude.{Option, None, Some}
 use mathlib.Core.List.{List, [], ◌∷◌, ◌++◌, append_assoc, append-nil}
 use Prim.Native.Nat.{ℕ}
 use native.Mathlib.Omega.{arith}
@@ -18,32 +18,32 @@ abbrev pub Any : {A : Type 0} → A → Type 0
 Any a = Unit
 
 -- what a result says of its parts
-pub never : {A P : Type 0} {a : A} → none ≡ some a → P
+pub never : {A P : Type 0} {a : A} → None ≡ Some a → P
 never e = let z : ◌≡◌ {A = ℕ} 0 1 = cc in absurd (omega arith)
 
-pub some_same : {A : Type 0} {a b : A} → some a ≡ some b → a ≡ b
+pub some_same : {A : Type 0} {a b : A} → Some a ≡ Some b → a ≡ b
 some_same e = cc
 
-pub then_some : {A B P : Type 0} {f : A → Option B} {b : B} (o : Option A) → (o then f) ≡ some b → ((a : A) → o ≡ some a → f a ≡ some b → P) → P
-then_some none e next = never e
-then_some (some a) e next = next a refl e
+pub then_some : {A B P : Type 0} {f : A → Option B} {b : B} (o : Option A) → (o then f) ≡ Some b → ((a : A) → o ≡ Some a → f a ≡ Some b → P) → P
+then_some None e next = never e
+then_some (Some a) e next = next a refl e
 
 pub only_if-true : {A : Type 0} {b : Bool} {o : Option A} → b ≡ true → only_if b o ≡ o
 only_if-true {o = o} e = ap (λ x. only_if x o) e
 
-pub only_if-some : {A : Type 0} {a : A} (b : Bool) {o : Option A} → only_if b o ≡ some a → (b ≡ true) × (o ≡ some a)
+pub only_if-some : {A : Type 0} {a : A} (b : Bool) {o : Option A} → only_if b o ≡ Some a → (b ≡ true) × (o ≡ Some a)
 only_if-some true e = (refl, e)
 only_if-some false e = never e
 
 -- Readers of whole texts.
 module _ {A : Type 0} {read : List ℕ → Option A} {Valid : A → Type 0} {print : A → List ℕ} where
-  pub exactly : ((v : A) → Valid v → read (print v) ≡ some v) → ((t : List ℕ) (v : A) → read t ≡ some v → Valid v × (t ≡ print v)) → Exactly read Valid print
+  pub exactly : ((v : A) → Valid v → read (print v) ≡ Some v) → ((t : List ℕ) (v : A) → read t ≡ Some v → Valid v × (t ≡ print v)) → Exactly read Valid print
   exactly reads only = record { is = λ t v. (only t v, λ h. ap read h.1 ∙ reads v h.0) }
 
-  pub reads : Exactly read Valid print → {v : A} → Valid v → read (print v) ≡ some v
+  pub reads : Exactly read Valid print → {v : A} → Valid v → read (print v) ≡ Some v
   reads e {v} h = (e.is (print v) v).1 (h, refl)
 
-  pub only : Exactly read Valid print → {t : List ℕ} {v : A} → read t ≡ some v → Valid v × (t ≡ print v)
+  pub only : Exactly read Valid print → {t : List ℕ} {v : A} → read t ≡ Some v → Valid v × (t ≡ print v)
   only e {t} {v} h = (e.is t v).0 h
 
 -- with a test on what is read
@@ -51,7 +51,7 @@ module _ {A : Type 0} {read : List ℕ → Option A} {Valid : A → Type 0} {pri
   pub if_exact : {Wanted : A → Type 0} {test : A → Bool} → Exactly read Valid print → ((a : A) → (Valid a × (test a ≡ true)) ↔ Wanted a) → Exactly (read_if test read) Wanted print
   unfolding read_if
   if_exact {test = test} e w = exactly
-      (λ v h. let g = (w v).1 h in ap (λ o. o then λ a. only_if (test a) (some a)) (reads e g.0) ∙ only_if-true g.1)
+      (λ v h. let g = (w v).1 h in ap (λ o. o then λ a. only_if (test a) (Some a)) (reads e g.0) ∙ only_if-true g.1)
       (λ t v h. then_some (read t) h λ a is kept.
       let (passed, same) = only_if-some (test a) kept in
       let here = only e (is ∙ same) in
@@ -69,7 +69,7 @@ equals-same (a ∷ s) (b ∷ t) e =
     cc
 
 module _ {A : Type 0} (name : A → List ℕ) where
-  name_only : (list : List A) (t : List ℕ) (v : A) → read_name name list t ≡ some v → t ≡ name v
+  name_only : (list : List A) (t : List ℕ) (v : A) → read_name name list t ≡ Some v → t ≡ name v
   unfolding read_name
   name_only [] t v e = never e
   name_only (a ∷ list) t v e =
@@ -78,15 +78,15 @@ module _ {A : Type 0} (name : A → List ℕ) where
       (λ y. name_only list t v (ap (λ b. this_or b a (read_name name list t)) (sym y) ∙ e))
 
   -- a value by its name
-  pub name_exact : (list : List A) → ((a : A) → read_name name list (name a) ≡ some a) → Exactly (read_name name list) Any name
+  pub name_exact : (list : List A) → ((a : A) → read_name name list (name a) ≡ Some a) → Exactly (read_name name list) Any name
   name_exact list found = exactly (λ v _. found v) (λ t v e. (tt, name_only list t v e))
 
 -- Readers of what stands first. A reader yields b from a text, whatever stands behind it; what it gives from a text has a property.
 pub record Yields {A : Type 0} (r : Reader A) (s : List ℕ) (b : A) : Type 0 where
-  pub is : (u : List ℕ) → r (s ++ u) ≡ some (b, u)
+  pub is : (u : List ℕ) → r (s ++ u) ≡ Some (b, u)
 
 pub record Gives {A : Type 0} (r : Reader A) (Q : A → List ℕ → List ℕ → Type 0) : Type 0 where
-  pub is : (t : List ℕ) (b : A) (u : List ℕ) → r t ≡ some (b, u) → Q b t u
+  pub is : (t : List ℕ) (b : A) (u : List ℕ) → r t ≡ Some (b, u) → Q b t u
 
 module _ {A : Type 0} {r : Reader A} {Valid : A → Type 0} {print : A → List ℕ} where
   pub takes_from : ((v : A) → Valid v → Yields r (print v) v) → Gives r (λ v t u. Valid v × (t ≡ print v ++ u)) → Takes r Valid print
@@ -103,7 +103,7 @@ module _ {A : Type 0} {r : Reader A} {Valid : A → Type 0} {print : A → List 
   pub whole_exact : Takes r Valid print → Exactly (whole r) Valid print
   unfolding whole
   whole_exact law = exactly
-      (λ v h. ap (λ s. whole r s) (sym (append-nil (print v))) ∙ ap (λ o. o then λ x. only_if (ended x.1) (some x.0)) ((yields law h).is []))
+      (λ v h. ap (λ s. whole r s) (sym (append-nil (print v))) ∙ ap (λ o. o then λ x. only_if (ended x.1) (Some x.0)) ((yields law h).is []))
       (λ t v e. then_some (r t) e λ x is kept.
       let (over, same) = only_if-some (ended x.1) kept in
       let here = (law.is t x.0 x.1).0 is in
@@ -119,11 +119,11 @@ yields_as {r = r} {a = a} e y = subst (λ x. Yields r x a) e y
 
 -- nothing taken
 module _ {A : Type 0} {o : Option A} where
-  pub given_yields : {a : A} → o ≡ some a → Yields (given o) [] a
+  pub given_yields : {a : A} → o ≡ Some a → Yields (given o) [] a
   unfolding given
-  given_yields e = record { is = λ u. ap (λ x. x then λ a. some (a, u)) e }
+  given_yields e = record { is = λ u. ap (λ x. x then λ a. Some (a, u)) e }
 
-  pub given_gives : {Q : A → List ℕ → List ℕ → Type 0} → ((a : A) → o ≡ some a → (u : List ℕ) → Q a u u) → Gives (given o) Q
+  pub given_gives : {Q : A → List ℕ → List ℕ → Type 0} → ((a : A) → o ≡ Some a → (u : List ℕ) → Q a u u) → Gives (given o) Q
   unfolding given
   given_gives {Q} q = record {
     is = λ t b u e.

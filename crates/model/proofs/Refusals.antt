@@ -1,7 +1,7 @@
 -- A row is refused with 6 to 10 or 12 and with no other number. Assumes nothing.
 use mathlib.Core.Path.{◌≡◌, refl}
 use mathlib.Core.Bool.{Bool, true, false}
-use mathlib.Core.Option.{Option, none, some}
+use Rattle.std.specs.Prelude.{Option, None, Some}
 use mathlib.Core.List.{List}
 use Prim.Native.Nat.{ℕ, zero, suc}
 use lib.Dec.{leb}
@@ -108,8 +108,8 @@ module _ (limit : ℕ) where
 
   -- loops over registers
   some_stored : (i : ℤ) (f : RegDataType → RegDataType) (v : Option RegDataType) (m : MemoryState) → Numbered (store_some limit i f v m)
-  some_stored i f none m = value
-  some_stored i f (some v) m = register_stored i (f v) m
+  some_stored i f None m = value
+  some_stored i f (Some v) m = register_stored i (f v) m
 
   copied : (i j : ℤ) (f : RegDataType → RegDataType) (m : MemoryState) → Numbered (copy_to limit i j f m)
   unfolding copy_to
@@ -121,8 +121,8 @@ module _ (limit : ℕ) where
   many_copied (suc n) i j m = copied i j (λ v. v) m >> λ s. many_copied n (suc_ℤ i) (suc_ℤ j) s
 
   some_moved : (i j : ℤ) (v : Option RegDataType) (m : MemoryState) → Numbered (move_some limit i j v m)
-  some_moved i j none m = value
-  some_moved i j (some v) m = register_stored j v m >> λ s. register_stored i (Column null) s
+  some_moved i j None m = value
+  some_moved i j (Some v) m = register_stored j v m >> λ s. register_stored i (Column null) s
 
   many_moved : (n : ℕ) (i j : ℤ) (m : MemoryState) → Numbered (move_many limit n i j m)
   unfolding move_many
@@ -136,8 +136,8 @@ module _ (limit : ℕ) where
 
   -- P4's texts
   function_stored : (x : Row) (m : MemoryState) (f : Option FunctionValue) → Numbered (function_arm limit x m f)
-  function_stored x m none = value
-  function_stored x m (some f) = register_stored x.p3 _ m
+  function_stored x m None = value
+  function_stored x m (Some f) = register_stored x.p3 _ m
 
   step_stored : (x : Row) (m : MemoryState) (a : Aggregate) → Numbered (agg_step_arm limit x m a)
   step_stored x m to_integer = register_stored x.p3 _ m
@@ -155,14 +155,14 @@ module _ (limit : ℕ) where
 
   -- cursors and tables
   stored_into : (row : ℕ) (cs : Columns) (t : Option TableDataType) (m : MemoryState) → Numbered (store_into limit row cs t m)
-  stored_into row cs none m = value
-  stored_into row cs (some t) m = table_stored row _ m
+  stored_into row cs None m = value
+  stored_into row cs (Some t) m = table_stored row _ m
 
   record_inserted : (cs : Columns) (c : Option CursorDataType) (m : MemoryState) → Numbered (insert_record limit cs c m)
   unfolding insert_record
-  record_inserted cs none m = value
-  record_inserted cs (some (Normal row)) m = stored_into row cs (get row m.t) m
-  record_inserted cs (some (Pseudo i)) m = value
+  record_inserted cs None m = value
+  record_inserted cs (Some (Normal row)) m = stored_into row cs (get row m.t) m
+  record_inserted cs (Some (Pseudo i)) m = value
 
   null_inserted : (b : Bool) (x : Row) (m : MemoryState) → Numbered (insert_null_if b x m)
   null_inserted true x m = cursor_read x.p1 m >> λ c. value
@@ -170,14 +170,14 @@ module _ (limit : ℕ) where
 
   inserted : (x : Row) (m : MemoryState) (v : Option RegDataType) → Numbered (insert_arm limit x m v)
   unfolding insert_arm
-  inserted x m none = value
-  inserted x m (some (Column (Single d n))) = null_inserted (is_null_type d) x m
-  inserted x m (some (Column (Record cs))) = cursor_read x.p1 m >> λ c. record_inserted cs c m
-  inserted x m (some (Int i)) = value
+  inserted x m None = value
+  inserted x m (Some (Column (Single d n))) = null_inserted (is_null_type d) x m
+  inserted x m (Some (Column (Record cs))) = cursor_read x.p1 m >> λ c. record_inserted cs c m
+  inserted x m (Some (Int i)) = value
 
   cursor_shared : (i : ℤ) (c : Option CursorDataType) (m : MemoryState) → Numbered (store_some_cursor limit i c m)
-  cursor_shared i none m = value
-  cursor_shared i (some c) m = cursor_stored i c m
+  cursor_shared i None m = value
+  cursor_shared i (Some c) m = cursor_stored i c m
 
   table_opened : (row : ℕ) (x : Row) (t : TableDataType) (m : MemoryState) → Numbered (open_table limit row x t m)
   unfolding open_table
@@ -185,20 +185,20 @@ module _ (limit : ℕ) where
 
 columns_of_lem : (c : Option CursorDataType) (m : MemoryState) → Numbered (cursor_columns c m)
 unfolding cursor_columns
-columns_of_lem none m = value
-columns_of_lem (some (Normal row)) m = value
-columns_of_lem (some (Pseudo i)) m = register_read i m >> λ v. value
+columns_of_lem None m = value
+columns_of_lem (Some (Normal row)) m = value
+columns_of_lem (Some (Pseudo i)) m = register_read i m >> λ v. value
 
 one_column : (i : ℤ) (cs : Option Columns) → Numbered (column_of i cs)
 unfolding column_of
-one_column i none = value
-one_column i (some cs) = an_index i >> λ k. value
+one_column i None = value
+one_column i (Some cs) = an_index i >> λ k. value
 
 columns_nulled : (c : Option CursorDataType) (m : MemoryState) → Numbered (null_columns c m)
 unfolding null_columns
-columns_nulled none m = value
-columns_nulled (some (Normal row)) m = value
-columns_nulled (some (Pseudo i)) m = register_updated i m null_record
+columns_nulled None m = value
+columns_nulled (Some (Normal row)) m = value
+columns_nulled (Some (Pseudo i)) m = register_updated i m null_record
 
 module _ (meaning : Meaning) (x : Row) (m : MemoryState) where
   register_arm_lem : (o : RegisterOperation) → Numbered (register_arm meaning x m o)
@@ -251,26 +251,26 @@ module _ (limit : ℕ) (rows : List Row) (x : Row) (m : MemoryState) where
 
   if_arm_lem : (n : Option ℤ) → Numbered (if_arm limit x m n)
   unfolding if_arm
-  if_arm_lem none = branch_stored >> λ b. (stay_stored >> λ s. value)
-  if_arm_lem (some n) = if_known_lem (is_zero_int n)
+  if_arm_lem None = branch_stored >> λ b. (stay_stored >> λ s. value)
+  if_arm_lem (Some n) = if_known_lem (is_zero_int n)
 
   rewound : (c : Option CursorDataType) → Numbered (rewind_cursor x m c)
   unfolding rewind_cursor
-  rewound none = value
-  rewound (some c) = value
+  rewound None = value
+  rewound (Some c) = value
 
   rewind_if_lem : (b : Bool) → Numbered (rewind_if b x m)
   rewind_if_lem true = value
   rewind_if_lem false = cursor_read x.p1 m >> rewound
 
   ended_to : (target : Option ℤ) → Numbered (end_coroutine_to x m target)
-  ended_to none = value
-  ended_to (some target) = register_removed x.p1 (go_to target m) >> λ s. value
+  ended_to None = value
+  ended_to (Some target) = register_removed x.p1 (go_to target m) >> λ s. value
 
   end_coroutine : (n : Option ℤ) → Numbered (end_coroutine_arm rows x m n)
   unfolding end_coroutine_arm
-  end_coroutine none = value
-  end_coroutine (some i) = ended_to (yield_target (row_at rows i))
+  end_coroutine None = value
+  end_coroutine (Some i) = ended_to (yield_target (row_at rows i))
 
   return_else_lem : (b : Bool) → Numbered (return_else b m)
   return_else_lem true = value
@@ -278,13 +278,13 @@ module _ (limit : ℕ) (rows : List Row) (x : Row) (m : MemoryState) where
 
   returned : (n : Option ℤ) → Numbered (return_arm x m n)
   unfolding return_arm
-  returned none = return_else_lem (eq_int x.p3 (pos 1))
-  returned (some i) = register_removed x.p1 (go_to (suc_ℤ i) m) >> λ s. value
+  returned None = return_else_lem (eq_int x.p3 (pos 1))
+  returned (Some i) = register_removed x.p1 (go_to (suc_ℤ i) m) >> λ s. value
 
   yielded : (n : Option ℤ) → Numbered (yield_arm rows x m n)
   unfolding yield_arm
-  yielded none = value
-  yielded (some i) = register_updated x.p1 _ _ >> λ s. value
+  yielded None = value
+  yielded (Some i) = register_updated x.p1 _ _ >> λ s. value
 
   -- a register is read, and changed in two ways
   two_ways :
@@ -331,8 +331,8 @@ module _ (meaning : Meaning) (rows : List Row) (again : Bool) (m : MemoryState) 
   any_arm x no_arm = value
 
   at_row_lem : (o : Option Row) → Numbered (at_row meaning rows again m o)
-  at_row_lem none = value
-  at_row_lem (some x) = any_arm x (operation_of x.op)
+  at_row_lem None = value
+  at_row_lem (Some x) = any_arm x (operation_of x.op)
 
   pub row_refusals : (k : ℕ) → ways meaning rows again m ≡ refused k → of_row k ≡ true
   unfolding ways

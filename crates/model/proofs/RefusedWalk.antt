@@ -2,7 +2,7 @@
 use mathlib.Core.Path.{◌≡◌, refl, subst}
 use mathlib.Core.Logic.{◌⊎◌, inl, inr}
 use mathlib.Core.Bool.{Bool, true, false}
-use mathlib.Core.Option.{Option}
+use Rattle.std.specs.Prelude.{Option}
 use mathlib.Core.List.{List, ◌∷◌}
 use Prim.Native.Nat.{ℕ, zero, suc}
 use Rattle.model.specs.Walk.{Tried, refused, done, Ways, Lineage, add_row, Notes, charge, note_handled, Walked, refused_with, answered, Front, none_left, on_row, begin, Offered, full, offered, offer, handled_before, under_limit, Turn, over, goes, after_turn, settle, close, follow_ways, handle_if, turn, walk_on, walk}

@@ -2,7 +2,7 @@
 -- first handling offers. Assumes nothing.
 use mathlib.Core.Path.{◌≡◌, refl, sym, ◌∙◌}
 use mathlib.Core.Bool.{true, false, true≢false}
-use mathlib.Core.Option.{Option, none, some}
+use Rattle.std.specs.Prelude.{Option, None, Some}
 use mathlib.Core.List.{List}
 use Rattle.model.specs.Walk.{done, Ways}
 use Rattle.model.specs.Row.{Row}
@@ -40,5 +40,5 @@ module _ (meaning : Meaning) (rows : List Row) (m : MemoryState) (w : Ways Memor
   repeats_counted = go (row_at rows m.program_i)
     where
       go : (o : Option Row) → at_row meaning rows true m o ≡ done w → at_row meaning rows true m o ≡ at_row meaning rows false m o
-      go none e = refl
-      go (some x) e = arm_repeats x (operation_of x.op) e
+      go None e = refl
+      go (Some x) e = arm_repeats x (operation_of x.op) e

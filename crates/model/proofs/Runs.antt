@@ -2,7 +2,7 @@
 -- to the same end, and each charges what its budget allows. Assumes nothing.
 use mathlib.Core.Path.{◌≡◌, refl, sym, ap, subst, ◌∙◌}
 use mathlib.Core.Bool.{Bool, true, false}
-use mathlib.Core.Option.{Option, none, some}
+use Rattle.std.specs.Prelude.{Option, None, Some}
 use mathlib.Core.List.{List, [], ◌∷◌}
 use Prim.Native.Nat.{ℕ, zero, suc, ◌+◌, ◌≤◌}
 use native.Mathlib.Nat.{zero-add, suc-add}
@@ -96,18 +96,18 @@ module _ {M R : Type 0} (row_of : M → Option ℕ) where
       go :
           (o : Option ℕ) →
           (notes_at (take_up row_of ls n')).charged ≡ n.charged →
-          (notes_at {M = M} {R = R} (elim o [ none ↦ take_up row_of ls n' | some row ↦ on_row row l ls n' ])).charged ≡ n.charged
-      go none rest = rest
-      go (some row) rest = refl
+          (notes_at {M = M} {R = R} (elim o [ None ↦ take_up row_of ls n' | Some row ↦ on_row row l ls n' ])).charged ≡ n.charged
+      go None rest = rest
+      go (Some row) rest = refl
 
   go_on_charged : (c : Option (Lineage M)) (ls : List (Lineage M)) (n : Notes M R) → (notes_at (go_on row_of c ls n)).charged ≡ n.charged
   unfolding go_on
-  go_on_charged none ls n = take_up_charged ls n
-  go_on_charged (some l) ls n = go (row_of l.mem)
+  go_on_charged None ls n = take_up_charged ls n
+  go_on_charged (Some l) ls n = go (row_of l.mem)
     where
-      go : (o : Option ℕ) → (notes_at {M = M} {R = R} (elim o [ none ↦ take_up row_of ls n | some row ↦ on_row row l ls n ])).charged ≡ n.charged
-      go none = take_up_charged ls n
-      go (some row) = refl
+      go : (o : Option ℕ) → (notes_at {M = M} {R = R} (elim o [ None ↦ take_up row_of ls n | Some row ↦ on_row row l ls n ])).charged ≡ n.charged
+      go None = take_up_charged ls n
+      go (Some row) = refl
 
   close_all_charged : (ls : List (Lineage M)) (n : Notes M R) → (close_all row_of ls n).charged ≡ n.charged
   unfolding close_all
@@ -120,9 +120,9 @@ module _ {M R : Type 0} (row_of : M → Option ℕ) where
       go :
           (o : Option ℕ) →
           ((x : Notes M R) → (close_all row_of ls x).charged ≡ x.charged) →
-          (elim o as (λ _. Notes M R) [ none ↦ close_all row_of ls n' | some row ↦ close_all row_of ls (gas_stop n') ]).charged ≡ n.charged
-      go none rest = rest n'
-      go (some row) rest = rest (gas_stop n')
+          (elim o as (λ _. Notes M R) [ None ↦ close_all row_of ls n' | Some row ↦ close_all row_of ls (gas_stop n') ]).charged ≡ n.charged
+      go None rest = rest n'
+      go (Some row) rest = rest (gas_stop n')
 
   close_charged : (f : Front M R) → (notes_of (close row_of f)).charged ≡ (notes_at f).charged
   unfolding close

@@ -1,7 +1,7 @@
 -- The test of equality on states is true exactly for equal states; and so is each test that it is made of. Assumes nothing.
 use mathlib.Core.Path.{◌≡◌, refl, sym, ap, ap₂, ◌∙◌}
 use mathlib.Core.Bool.{Bool, true, false, ◌&&◌, beq, false≢true}
-use mathlib.Core.Option.{Option, none, some}
+use Rattle.std.specs.Prelude.{Option, None, Some}
 use mathlib.Core.List.{List, [], ◌∷◌}
 use borrow.Author.Tests.{eqb-true, eq-eqb}
 use lib.Dec.{eqb}
@@ -62,14 +62,14 @@ bool_reflexive true = refl
 bool_reflexive false = refl
 
 nullable_sound : (a b : Option Bool) → eq_nullable a b ≡ true → a ≡ b
-nullable_sound none none e = refl
-nullable_sound none (some b) e = absurd (false≢true e)
-nullable_sound (some a) none e = absurd (false≢true e)
-nullable_sound (some a) (some b) e = ap {B = Option Bool} some (bool_sound a b e)
+nullable_sound None None e = refl
+nullable_sound None (Some b) e = absurd (false≢true e)
+nullable_sound (Some a) None e = absurd (false≢true e)
+nullable_sound (Some a) (Some b) e = ap {B = Option Bool} Some (bool_sound a b e)
 
 nullable_reflexive : (a : Option Bool) → eq_nullable a a ≡ true
-nullable_reflexive none = refl
-nullable_reflexive (some a) = bool_reflexive a
+nullable_reflexive None = refl
+nullable_reflexive (Some a) = bool_reflexive a
 
 pub nullable_decides : Decides eq_nullable
 nullable_decides = record { sound = nullable_sound; reflexive = nullable_reflexive }

@@ -2,7 +2,7 @@
 use mathlib.Core.Path.{◌≡◌, refl, subst}
 use mathlib.Core.Logic.{inl, inr}
 use mathlib.Core.Bool.{Bool}
-use mathlib.Core.Option.{Option, none, some}
+use Rattle.std.specs.Prelude.{Option, None, Some}
 use mathlib.Core.List.{List, [], ◌∷◌}
 use Prim.Native.Nat.{ℕ}
 use Rattle.model.specs.Walk.{◌∈◌, Tried, done, Ways, Lineage, mems, onward, Notes, charge, loop_stop, gas_stop, notes_of, handled_before, walk}
@@ -17,7 +17,7 @@ module _
     (ways : Bool → M → Tried (Ways M R))
     (units : M → ℕ)
     (S : M → Type 0)
-    (hands_on : (again : Bool) (m : M) (w : Ways M R) → S m → ways again m ≡ done w → (k : ℕ) (s : M) → pick k w ≡ some s → S s)
+    (hands_on : (again : Bool) (m : M) (w : Ways M R) → S m → ways again m ≡ done w → (k : ℕ) (s : M) → pick k w ≡ Some s → S s)
   where
     -- of the lineages that the walk still has
     abbrev Alive : List (Lineage M) → Type 0
@@ -55,7 +55,7 @@ module _
         {remembered' : List M}
         {space' : ℕ}
         (h : HandledRow eq row_of ways units row l ls n w ls' remembered' space')
-        (p : At (some l) ls n)
+        (p : At (Some l) ls n)
       where
         here : S l.mem
         here = p.now l (inl refl)
@@ -68,8 +68,8 @@ module _
             ]
 
         waiting : (c : Option (Lineage M)) → Alive (alive c ls') → Alive ls'
-        waiting none q = q
-        waiting (some y) q = λ x i. q x (inr i)
+        waiting None q = q
+        waiting (Some y) q = λ x i. q x (inr i)
 
         remembered_now : (m : M) → m ∈ remembered' → S m
         remembered_now m i =

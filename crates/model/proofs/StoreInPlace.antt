@@ -1,7 +1,7 @@
 -- Where the Rust inserts over a register that is present, and the new value is plain (IsNull, NotNull, IfPos), the definition changes it in place
 -- and judges the index only. That is the judged store: on a good state depth and cells cannot fail. Assumes nothing.
 use mathlib.Core.Path.{◌≡◌, refl, ap, ◌∙◌}
-use mathlib.Core.Option.{some}
+use Rattle.std.specs.Prelude.{Some}
 use Prim.Native.Nat.{ℕ, ◌≤◌}
 use borrow.Author.Tests.{le-leb}
 use lib.IntN.{ℤ}
@@ -25,13 +25,13 @@ unfolding judge_cells
 cells_pass limit m h = ap (λ t. cells_if t m) (le-leb (cells m) limit h)
 
 module _ {limit : ℕ} {m : MemoryState} (g : Good limit m) (i : ℤ) (v w : RegDataType) (no_larger : NeverLarger register_cells GoodRegister (λ _. w)) where
-  pub store_in_place : read_register i m ≡ done (some v) → store_register limit i w m ≡ update_register i (λ _. w) m
+  pub store_in_place : read_register i m ≡ done (Some v) → store_register limit i w m ≡ update_register i (λ _. w) m
   unfolding read_register store_register update_register
   store_in_place present = go (index i) present (kept (read_register_good g i) present) (λ s e. kept (update_register_good g i (λ _. w) no_larger) e)
     where
       go :
           (t : Tried ℕ) →
-          (t >>= λ k. done (get k m.r)) ≡ done (some v) →
+          (t >>= λ k. done (get k m.r)) ≡ done (Some v) →
           GoodRegister v →
           ((s : MemoryState) → (t >>= λ k. done (with_registers (update k (λ _. w) m.r) m)) ≡ done s → Good limit s) →
           (t >>= λ k. judge_depth (register_depth w) w >>= λ u. judge_cells limit (with_registers (insert k u m.r) m))
@@ -42,5 +42,5 @@ module _ {limit : ℕ} {m : MemoryState} (g : Good limit m) (i : ℤ) (v w : Reg
           ∙ ap (λ es. judge_cells limit (with_registers es m)) (insert_present (λ j u. (j ≤ 65535) × GoodRegister u) k w v 0 m.r g.registers there)
           ∙ cells_pass limit _ (after _ refl).fits
         where
-          there : get k m.r ≡ some v
+          there : get k m.r ≡ Some v
           there = cc

@@ -26,14 +26,12 @@ within_above low high b h = cases (leb low b) (λ e. ap (λ x. x && leb b high) 
 
 -- a test on every byte: a weaker one, and two texts
 pub all_of_weaker : {test weaker : ℕ → Bool} → ((b : ℕ) → test b ≡ true → weaker b ≡ true) → (s : List ℕ) → all_of test s ≡ true → all_of weaker s ≡ true
-unfolding all_of
 all_of_weaker w [] e = refl
 all_of_weaker {test} {weaker} w (b ∷ s) e =
     let (first, rest) = (and-eq-true_iff (test b) (all_of test s)).0 e in
     (and-eq-true_iff (weaker b) (all_of weaker s)).1 (w b first, all_of_weaker w s rest)
 
 pub all_of_append : (test : ℕ → Bool) (s t : List ℕ) → all_of test s ≡ true → all_of test t ≡ true → all_of test (s ++ t) ≡ true
-unfolding all_of
 all_of_append test [] t e h = h
 all_of_append test (b ∷ s) t e h =
     let (first, rest) = (and-eq-true_iff (test b) (all_of test s)).0 e in

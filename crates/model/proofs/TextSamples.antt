@@ -2,7 +2,7 @@
 -- which are accepted or refused. Assumes nothing.
 use mathlib.Core.Path.{◌≡◌, refl}
 use mathlib.Core.Bool.{Bool, true, false, cond, beq}
-use mathlib.Core.Option.{Option, none, some}
+use Rattle.std.specs.Prelude.{Option, None, Some}
 use mathlib.Core.List.{List, [], ◌∷◌, map, flatten}
 use Prim.Native.Nat.{ℕ}
 use Prim.Native.String.{String}
@@ -31,7 +31,7 @@ listing_printed : print_listing listing ≡ listing_text
 unfolding open_texts listing listing_text
 listing_printed = refl
 
-listing-read : read_listing listing_text ≡ some listing
+listing-read : read_listing listing_text ≡ Some listing
 unfolding open_texts listing listing_text
 listing-read = refl
 
@@ -41,7 +41,7 @@ answer = record {
   loopstops = 0;
   gasstops = 0;
   repeats = 0;
-  columns = record { datatype = kind.Integer; nullable = some false } ∷ record { datatype = kind.Null; nullable = some true } ∷ [];
+  columns = record { datatype = kind.Integer; nullable = Some false } ∷ record { datatype = kind.Null; nullable = Some true } ∷ [];
 }
 
 answer_text : List ℕ
@@ -51,7 +51,7 @@ answer_printed : print_answer answer ≡ answer_text
 unfolding open_texts answer answer_text
 answer_printed = refl
 
-answer-read : read_answer answer_text ≡ some answer
+answer-read : read_answer answer_text ≡ Some answer
 unfolding open_texts answer answer_text
 answer-read = refl
 
@@ -81,8 +81,8 @@ entry db page col declared notnull good = record {
 }
 
 accepted : {A : Type 0} → Option A → Bool
-accepted none = false
-accepted (some a) = true
+accepted None = false
+accepted (Some a) = true
 
 failing : {A : Type 0} → (List ℕ → Option A) → List Case → List Case
 failing read [] = []

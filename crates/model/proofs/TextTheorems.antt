@@ -1,7 +1,7 @@
 -- The theorems on the three texts: each reader accepts exactly the printings of valid values, and gives those values back.
 -- Assumes nothing.
 use mathlib.Core.Path.{◌≡◌, sym, ap, ◌∙◌}
-use mathlib.Core.Option.{Option}
+use Rattle.std.specs.Prelude.{Option}
 use mathlib.Core.List.{List}
 use Prim.Native.Nat.{ℕ}
 use Rattle.model.specs.TextClaims.{Exactly, ListingExact, CatalogueExact, AnswerExact, AnswerFirst}

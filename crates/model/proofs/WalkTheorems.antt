@@ -1,7 +1,7 @@
 -- The theorems about every walk: the claims of specs/WalkClaims.antt hold. Assumes nothing.
 use mathlib.Core.Path.{◌≡◌}
 use mathlib.Core.Bool.{Bool}
-use mathlib.Core.Option.{Option}
+use Rattle.std.specs.Prelude.{Option}
 use Prim.Native.Nat.{ℕ}
 use Rattle.model.specs.Walk.{Tried, Ways, Notes, answered, notes_of, walk}
 use Rattle.model.specs.WalkClaims.{Sound, RepeatsCounted, Quiet, Limits, TakenUp, Coverage, RunClaims}

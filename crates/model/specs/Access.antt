@@ -1,8 +1,7 @@
 -- The accesses of a row to the state, with their refusals. 01, "Walk, refusals in order": 6 an index below 0 or a negative count, 7 an index
 -- above 65,535, 9 records nested deeper than 8, 8 more cells than the limit; "a store is judged on index, depth, cells".
 -- A store through `get_mut` changes a value that is present, never makes the state larger, and is judged on its index only. Assumes nothing.
-use Rattle.std.specs.Prelude.{Bool, true, false, List, [], ◌∷◌, ℕ, zero, suc, leb, ℤ, pos, negsuc}
-use Rattle.std.proofs.Math.Option.{Option, none, some}
+use Rattle.std.specs.Prelude.{Bool, true, false, List, [], ◌∷◌, ℕ, zero, suc, leb, ℤ, pos, negsuc, Option, None, Some}
 use Rattle.std.proofs.Math.IntN.{suc_ℤ}
 use Rattle.model.specs.Walk.{Tried, refused, done}
 use Rattle.model.specs.IntMap.{Entry, get, insert, remove, update}
@@ -67,8 +66,8 @@ unfoldable pub read_cursor : ℤ → MemoryState → Tried (Option CursorDataTyp
 read_cursor i m = index i >>= λ k. done (get k m.p)
 
 abbrev pub register_column : Option RegDataType → ColumnType
-register_column none = default
-register_column (some v) = map_to_columntype v
+register_column None = default
+register_column (Some v) = map_to_columntype v
 
 -- n registers from i on, as columns
 unfoldable pub read_columns : ℕ → ℤ → MemoryState → Tried (List ColumnType)

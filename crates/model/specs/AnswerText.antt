@@ -1,8 +1,7 @@
 -- The answer's text. 01, "Sample runs": the lines of ★A in their order; columns is the number of columns, then the four counts,
 -- then for each column its number from 0, a DataType variant's name, and whether it may be blank: `yes`, `no` or `unknown`.
 -- 02, S-13: at most 2,000 columns and any counts from 0 to 4,294,967,295. Assumes nothing.
-use Rattle.std.specs.Prelude.{Bool, true, false, ℕ, ◌≤◌, length}
-use Rattle.std.proofs.Math.Option.{Option, none, some}
+use Rattle.std.specs.Prelude.{Bool, true, false, ℕ, ◌≤◌, length, Option, None, Some}
 use mathlib.Core.List.{List, [], ◌∷◌, flatten}
 use Rattle.type_info.specs.Ascii.{ascii}
 use Rattle.type_info.specs.Names.{name_of}
@@ -26,9 +25,9 @@ pub record ValidAnswer (a : Answer) : Type 0 where
   pub repeats_small : a.repeats ≤ most_counted
 
 unfoldable pub print_nullable : Option Bool → List ℕ
-print_nullable (some true) = ascii "yes"
-print_nullable (some false) = ascii "no"
-print_nullable none = ascii "unknown"
+print_nullable (Some true) = ascii "yes"
+print_nullable (Some false) = ascii "no"
+print_nullable None = ascii "unknown"
 
 unfoldable pub print_column : ℕ → ResultColumn → List ℕ
 print_column k c = flatten (
@@ -54,7 +53,7 @@ unfoldable pub read_data_type : List ℕ → Option DataType
 read_data_type = read_name name_of data_types
 
 unfoldable pub read_nullable : List ℕ → Option (Option Bool)
-read_nullable = read_name print_nullable (some true ∷ some false ∷ none ∷ [])
+read_nullable = read_name print_nullable (Some true ∷ Some false ∷ None ∷ [])
 
 unfoldable pub take_column : ℕ → Reader ResultColumn
 take_column k = do

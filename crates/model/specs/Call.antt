@@ -1,7 +1,6 @@
 -- The call: what it gives for any listing, catalogue, area length and answer buffer. 01, "The call" and "Walk, refusals in order".
 -- Of the work area only the length counts: what it holds at entry does not matter. Assumes nothing.
-use Rattle.std.specs.Prelude.{Bool, true, false, ◌&&◌, List, ◌++◌, ℕ, ◌+◌, ◌*◌, leb, length, drop}
-use Rattle.std.proofs.Math.Option.{Option, none, some}
+use Rattle.std.specs.Prelude.{Bool, true, false, ◌&&◌, List, ◌++◌, ℕ, ◌+◌, ◌*◌, leb, length, drop, Option, None, Some}
 use Rattle.model.specs.Walk.{Tried, refused, done}
 use Rattle.model.specs.Row.{Row}
 use Rattle.model.specs.Access.{◌>>=◌}
@@ -15,8 +14,8 @@ use Rattle.model.specs.AnswerText.{print_answer}
 
 -- a refusal where nothing was read
 abbrev pub or_refused : {A : Type 0} → ℕ → Option A → Tried A
-or_refused k none = refused k
-or_refused k (some a) = done a
+or_refused k None = refused k
+or_refused k (Some a) = done a
 
 -- a refusal where a test fails
 abbrev pub done_if : {A : Type 0} → ℕ → Bool → A → Tried A

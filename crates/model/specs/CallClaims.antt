@@ -1,9 +1,7 @@
 -- What is claimed of the call: the top statement, over the bytes of a listing and a catalogue, the area's length and the answer buffer.
 -- 01, "The call" and "What we will not take". `CallClaims` at the end gathers it; its proof is `call_claims` in proofs/CallTheorems.antt.
 -- Assumes nothing.
-use Rattle.std.specs.Prelude.{◌≡◌, ◌⊎◌, true, List, ◌++◌, ℕ, ◌≤◌, length, drop}
-use Rattle.std.proofs.Math.Option.{some}
-use Rattle.std.proofs.Math.ListN.{get_elem?}
+use Rattle.std.specs.Prelude.{◌≡◌, ◌⊎◌, true, List, ◌++◌, ℕ, ◌≤◌, length, drop, Some, slice_get}
 use Rattle.model.specs.Walk.{◌∈◌, done, Notes, answered, notes_of}
 use Rattle.model.specs.Steps.{Result}
 use Rattle.model.specs.WalkClaims.{Quiet, Limits, TakenUp, Coverage, Everywhere}
@@ -27,7 +25,7 @@ pub record ColumnsSay (X : ResultRow → Type 0) (columns : List ResultColumn) :
   pub wide : (r : ResultRow) → X r → length r.columns ≤ length columns
   pub widest : (length columns ≡ 0) ⊎ ((r : ResultRow) × X r × (length r.columns ≡ length columns))
   -- and what each says of the rows that have it
-  pub each : (i : ℕ) (c : ResultColumn) → get_elem? columns i ≡ some c → Says X i c
+  pub each : (i : ℕ) (c : ResultColumn) → slice_get columns i ≡ Some c → Says X i c
 
 module _ (rows : List Row) (records : List CatalogueRecord) where
   -- a list of allowed steps from the fresh start reaches this result row

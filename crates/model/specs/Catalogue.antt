@@ -1,8 +1,7 @@
 -- The catalogue: its records, and the columns that the Rust's `root_block_columns` gives for a database and a page.
 -- 01, "The call": "The same db, page and col again: the later record holds." A record's column has the kind of its declared type
 -- (01, "Leaves") and is nullable unless it is declared not to be. Assumes nothing.
-use Rattle.std.specs.Prelude.{Bool, true, false, ◌&&◌, not, List, [], ◌∷◌, ℕ, ℤ, pos}
-use Rattle.std.proofs.Math.Option.{some}
+use Rattle.std.specs.Prelude.{Bool, true, false, ◌&&◌, not, List, [], ◌∷◌, ℕ, ℤ, pos, Some}
 use Rattle.type_info.specs.Kind.{kind_of}
 use Rattle.model.specs.IntMap.{Entry, insert}
 use Rattle.model.specs.State.{ColumnType, Single, Columns, as_columns}
@@ -16,7 +15,7 @@ pub record CatalogueRecord : Type 0 where
   pub notnull : Bool
 
 unfoldable pub record_column : CatalogueRecord → ColumnType
-record_column x = Single (kind_of x.declared) (some (not x.notnull))
+record_column x = Single (kind_of x.declared) (Some (not x.notnull))
 
 -- the record is one for this database and page
 unfoldable pub is_for : ℤ → ℤ → CatalogueRecord → Bool

@@ -1,8 +1,7 @@
 -- The catalogue's text. 01, "The call", Catalogue: five LF-ended lines a record, `db=` (0 or 1), `page=` (0 to 2,147,483,647), `col=`
 -- (0 to 65,535), `type=` (0 to 64 bytes, each 32 to 126), `notnull=` (0 or 1). All records stand in the file's order: which one holds,
 -- and how many are too many, is judged elsewhere. Assumes nothing.
-use Rattle.std.specs.Prelude.{◌≡◌, Bool, true, false, ◌&&◌, ℕ, ◌≤◌, leb, length}
-use Rattle.std.proofs.Math.Option.{Option, some}
+use Rattle.std.specs.Prelude.{◌≡◌, Bool, true, false, ◌&&◌, ℕ, ◌≤◌, leb, length, Option, Some}
 use mathlib.Core.List.{List, [], ◌∷◌, flatten}
 use Rattle.type_info.specs.Ascii.{ascii}
 use Rattle.type_info.specs.DeclaredType.{all_printable}
@@ -37,7 +36,7 @@ unfoldable pub read_flag : List ℕ → Option Bool
 read_flag = read_name print_flag (false ∷ true ∷ [])
 
 unfoldable pub read_declared : List ℕ → Option (List ℕ)
-read_declared = read_if is_declared some
+read_declared = read_if is_declared Some
 
 unfoldable pub take_record : Reader CatalogueRecord
 take_record = do

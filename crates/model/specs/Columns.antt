@@ -1,8 +1,6 @@
 -- What a column of the answer says of a set of result rows, after 01's "Results" and "What we will not take": "`null=yes` means that one of them
 -- says true there, and `type` is Null exactly when none gives another kind there, otherwise a kind that one gives there." Assumes nothing.
-use Rattle.std.specs.Prelude.{◌≡◌, Bool, true, false, List, [], ◌∷◌, ℕ, max, length}
-use Rattle.std.proofs.Math.Option.{Option, none, some}
-use Rattle.std.proofs.Math.ListN.{get_elem?}
+use Rattle.std.specs.Prelude.{◌≡◌, Bool, true, false, List, [], ◌∷◌, ℕ, max, length, Option, None, Some, slice_get}
 use Rattle.type_info.specs.declared.DataType.{DataType}
 use Rattle.type_info.specs.declared.DataType.TheVariants.{Null}
 use Rattle.model.specs.Results.{ResultColumn, ResultRow}
@@ -12,18 +10,18 @@ pub record Gives (X : ResultRow → Type 0) (i : ℕ) (P : ResultColumn → Type
   pub row : ResultRow
   pub has : X row
   pub column : ResultColumn
-  pub there : get_elem? row.columns i ≡ some column
+  pub there : slice_get row.columns i ≡ Some column
   pub holds : P column
 
 -- P holds of every column that one of the rows has at place i
 abbrev pub Every : (ResultRow → Type 0) → ℕ → (ResultColumn → Type 0) → Type 0
-Every X i P = (r : ResultRow) (d : ResultColumn) → X r → get_elem? r.columns i ≡ some d → P d
+Every X i P = (r : ResultRow) (d : ResultColumn) → X r → slice_get r.columns i ≡ Some d → P d
 
 -- "`yes` if any says true, else `no` if any says false, else `unknown`"
 abbrev pub NullableSays : (ResultRow → Type 0) → ℕ → Option Bool → Type 0
-NullableSays X i (some true) = Gives X i (λ d. d.nullable ≡ some true)
-NullableSays X i (some false) = Gives X i (λ d. d.nullable ≡ some false) × Every X i (λ d. d.nullable ≡ some true → ⊥)
-NullableSays X i none = Every X i (λ d. d.nullable ≡ none)
+NullableSays X i (Some true) = Gives X i (λ d. d.nullable ≡ Some true)
+NullableSays X i (Some false) = Gives X i (λ d. d.nullable ≡ Some false) × Every X i (λ d. d.nullable ≡ Some true → ⊥)
+NullableSays X i None = Every X i (λ d. d.nullable ≡ None)
 
 pub record Says (X : ResultRow → Type 0) (i : ℕ) (c : ResultColumn) : Type 0 where
   -- its kind is one that a row gives there
@@ -34,8 +32,8 @@ pub record Says (X : ResultRow → Type 0) (i : ℕ) (c : ResultColumn) : Type 0
 
 -- "its kind is that of the latest row whose kind isn't Null": the rows, the latest first
 pub data LatestKind (i : ℕ) (k : DataType) : List ResultRow → Type 0 where
-  this : {r : ResultRow} {rs : List ResultRow} (d : ResultColumn) → get_elem? r.columns i ≡ some d → d.datatype ≡ k → LatestKind i k (r ∷ rs)
-  earlier : {r : ResultRow} {rs : List ResultRow} → ((d : ResultColumn) → get_elem? r.columns i ≡ some d → d.datatype ≡ Null) → LatestKind i k rs → LatestKind i k (r ∷ rs)
+  this : {r : ResultRow} {rs : List ResultRow} (d : ResultColumn) → slice_get r.columns i ≡ Some d → d.datatype ≡ k → LatestKind i k (r ∷ rs)
+  earlier : {r : ResultRow} {rs : List ResultRow} → ((d : ResultColumn) → slice_get r.columns i ≡ Some d → d.datatype ≡ Null) → LatestKind i k rs → LatestKind i k (r ∷ rs)
 
 -- "the width of the widest row counted (0 with none)"
 unfoldable pub widest : List ResultRow → ℕ

@@ -1,8 +1,7 @@
 -- When two states are the same, as tests: `PartialEq` of the types of explain.rs and of `IntMap`, "Row included" (01, "The walk").
 -- Assumes nothing.
-use Rattle.std.specs.Prelude.{◌≡◌, Bool, true, false, ◌&&◌, List, [], ◌∷◌, eqb, ℤ, pos, negsuc}
+use Rattle.std.specs.Prelude.{◌≡◌, Bool, true, false, ◌&&◌, List, [], ◌∷◌, eqb, ℤ, pos, negsuc, Option, None, Some}
 use Rattle.std.specs.Bool.{beq}
-use Rattle.std.proofs.Math.Option.{Option, none, some}
 use Rattle.type_info.specs.declared.DataType.{DataType}
 use Rattle.model.specs.IntMap.{Entry}
 use Rattle.model.specs.State.{ColumnType, Single, Record, Columns, end, entry, RegDataType, Column, Int, CursorDataType, Normal, Pseudo, TableDataType, MemoryState, datatype_code}
@@ -11,10 +10,10 @@ abbrev pub eq_datatype : DataType → DataType → Bool
 eq_datatype a b = eqb (datatype_code a) (datatype_code b)
 
 abbrev pub eq_nullable : Option Bool → Option Bool → Bool
-eq_nullable none none = true
-eq_nullable none (some b) = false
-eq_nullable (some a) none = false
-eq_nullable (some a) (some b) = beq a b
+eq_nullable None None = true
+eq_nullable None (Some b) = false
+eq_nullable (Some a) None = false
+eq_nullable (Some a) (Some b) = beq a b
 
 abbrev pub eq_int : ℤ → ℤ → Bool
 eq_int (pos a) (pos b) = eqb a b

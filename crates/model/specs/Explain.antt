@@ -1,8 +1,7 @@
 -- One row of the walk: what the `match` in `explain` offers at a state, the row that a state stands on, and the cost of remembering it.
 -- 01, "The walk": "Remembering takes 2 + cells + (rows / 16, rounded up) units of 16 bytes, out of area / 16 rounded down, less 1,024,
 -- less 2 × rows." 1,024 is twice the limit of cells. Assumes nothing.
-use Rattle.std.specs.Prelude.{Bool, List, ℕ, ◌+◌, ◌*◌, ◌-◌, ◌/◌, length}
-use Rattle.std.proofs.Math.Option.{Option, none, some}
+use Rattle.std.specs.Prelude.{Bool, List, ℕ, ◌+◌, ◌*◌, ◌-◌, ◌/◌, length, Option, None, Some}
 use Rattle.model.specs.Walk.{Tried}
 use Rattle.model.specs.Row.{Row}
 use Rattle.model.specs.State.{MemoryState}
@@ -32,8 +31,8 @@ module _ (meaning : Meaning) (rows : List Row) where
   arm again m x no_arm = goes_on (next m)
 
   abbrev pub at_row : Bool → MemoryState → Option Row → Offer
-  at_row again m none = ends
-  at_row again m (some x) = arm again m x (operation_of x.op)
+  at_row again m None = ends
+  at_row again m (Some x) = arm again m x (operation_of x.op)
 
   unfoldable pub ways : Bool → MemoryState → Offer
   ways again m = at_row again m (row_at rows m.program_i)
@@ -43,8 +42,8 @@ module _ (meaning : Meaning) (rows : List Row) where
   space_of area = area / 16 - 2 * meaning.cell_limit - 2 * length rows
 
 abbrev pub number_at : MemoryState → Option Row → Option ℕ
-number_at m none = none
-number_at m (some x) = some (turns m.program_i)
+number_at m None = None
+number_at m (Some x) = Some (turns m.program_i)
 
 module _ (rows : List Row) where
   -- the number of the row that a state stands on, in the listing

@@ -1,7 +1,6 @@
 -- P4's texts: what Function's texts give, the prefixes that AggStep, AggValue and AggFinal know, and refusal 10.
 -- From explain.rs, the arms OP_FUNCTION, OP_AGG_STEP | OP_AGG_VALUE and OP_AGG_FINAL. Assumes nothing.
-use Rattle.std.specs.Prelude.{Bool, true, false, not, List, [], ◌∷◌, ℕ, ℤ}
-use Rattle.std.proofs.Math.Option.{Option, some}
+use Rattle.std.specs.Prelude.{Bool, true, false, not, List, [], ◌∷◌, ℕ, ℤ, Option, Some}
 use Rattle.type_info.specs.declared.DataType.{DataType}
 use Rattle.type_info.specs.declared.DataType.TheVariants.{Null, Integer, Float, Text, Blob, Numeric, Bool as Boolean, Int4, Date, Time, Datetime}
 use Rattle.type_info.specs.Ascii.{equals, starts_with}
@@ -37,7 +36,7 @@ is_nullable by_p2 p2 = not (is_zero_int p2)
 
 -- the column that a function's value makes
 abbrev pub value_column : FunctionValue → ℤ → ColumnType
-value_column f p2 = Single f.datatype (some (is_nullable f.nullable p2))
+value_column f p2 = Single f.datatype (Some (is_nullable f.nullable p2))
 
 -- the seven texts that are built in
 unfoldable pub built_in : List (Named FunctionValue)

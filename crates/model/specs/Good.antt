@@ -1,7 +1,6 @@
 -- What every state of a walk is: the keys of all maps and of all nested columns rise strictly and are at most 65,535, records nest at most
 -- eight deep, and the cells are within the limit. 01, "Walk, refusals in order": 6, 7, 8 and 9. Assumes nothing.
-use Rattle.std.proofs.Math.Option.{Option, none, some}
-use Rattle.std.specs.Prelude.{List, [], ◌∷◌, ℕ, suc, ◌≤◌, ℤ}
+use Rattle.std.specs.Prelude.{Option, None, Some, List, [], ◌∷◌, ℕ, suc, ◌≤◌, ℤ}
 use Rattle.model.specs.Walk.{Ways}
 use Rattle.model.specs.IntMap.{Entry, Rising}
 use Rattle.model.specs.State.{ColumnType, Single, Record, Columns, end, entry, RegDataType, CursorDataType, Normal, Pseudo, TableDataType, MemoryState, map_to_columntype}
@@ -48,8 +47,8 @@ Each P [] = Unit {0}
 Each P (x ∷ xs) = P x × Each P xs
 
 abbrev pub OnSome : {A : Type 0} → (A → Type 0) → Option A → Type 0
-OnSome P none = Unit {0}
-OnSome P (some v) = P v
+OnSome P None = Unit {0}
+OnSome P (Some v) = P v
 
 pub record GoodWays (limit : ℕ) (w : Ways MemoryState ResultRow) : Type 0 where
   pub branches : Each (Good limit) w.branches

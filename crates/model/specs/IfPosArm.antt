@@ -1,8 +1,7 @@
 -- The arm IfPos of `explain`, the one that asks whether its row is handled again. 01, "The rows": "IfPos at the second or third handling of
 -- a row in a lineage follows both ways; a known number of 1 or more becomes an unknown Integer when it stays, a smaller one is kept. Each such
 -- handling counts one repeat." Assumes nothing.
-use Rattle.std.specs.Prelude.{Bool, true, false, not, ◌||◌, zero, suc, ℤ, pos, negsuc}
-use Rattle.std.proofs.Math.Option.{Option, none, some}
+use Rattle.std.specs.Prelude.{Bool, true, false, not, ◌||◌, zero, suc, ℤ, pos, negsuc, Option, None, Some}
 use Rattle.std.proofs.Math.IntN.{pred_ℤ}
 use Rattle.type_info.specs.declared.DataType.TheVariants.{Integer}
 use Rattle.model.specs.Walk.{done}
@@ -18,14 +17,14 @@ is_positive (negsuc k) = false
 
 -- the Rust's `might_branch` and `might_not_branch`
 abbrev pub may_be_positive : Option RegDataType → Bool
-may_be_positive none = true
-may_be_positive (some (Column c)) = true
-may_be_positive (some (Int i)) = is_positive i
+may_be_positive None = true
+may_be_positive (Some (Column c)) = true
+may_be_positive (Some (Int i)) = is_positive i
 
 abbrev pub may_not_be_positive : Option RegDataType → Bool
-may_not_be_positive none = true
-may_not_be_positive (some (Column c)) = true
-may_not_be_positive (some (Int i)) = not (is_positive i)
+may_not_be_positive None = true
+may_not_be_positive (Some (Column c)) = true
+may_not_be_positive (Some (Int i)) = not (is_positive i)
 
 abbrev pub count_down : RegDataType → RegDataType
 count_down (Column c) = Column c
@@ -37,9 +36,9 @@ forget (Column c) = Column c
 forget (Int i) = never_null Integer
 
 abbrev pub if_pos_stays : Bool → Bool → MemoryState → MemoryState → Option MemoryState
-if_pos_stays true again kept forgotten = some kept
-if_pos_stays false true kept forgotten = some forgotten
-if_pos_stays false false kept forgotten = none
+if_pos_stays true again kept forgotten = Some kept
+if_pos_stays false true kept forgotten = Some forgotten
+if_pos_stays false false kept forgotten = None
 
 unfoldable pub if_pos_arm : Bool → Row → MemoryState → Offer
 if_pos_arm again x m =
@@ -49,6 +48,6 @@ if_pos_arm again x m =
     done (record {
       branches = branch_if (may_be_positive v || again) branch;
       stays = if_pos_stays (may_not_be_positive v) again (next m) forgotten;
-      result = none;
+      result = None;
       repeat = again;
     })

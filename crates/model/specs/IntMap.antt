@@ -1,7 +1,6 @@
 -- Maps from numbers: `IntMap` of intmap.rs as the list of its present entries, keys rising.
 -- 01, "The walk": "States are equal when their present entries are equal; absent entries at the end mean nothing." Assumes nothing.
-use Rattle.std.specs.Prelude.{Bool, true, false, List, [], ◌∷◌, eqb}
-use Rattle.std.proofs.Math.Option.{Option, none, some}
+use Rattle.std.specs.Prelude.{Bool, true, false, List, [], ◌∷◌, eqb, Option, None, Some}
 use Prim.Native.Nat.{ℕ, suc, ◌+◌, ◌≤◌, compare, Ordering}
 
 pub record Entry (A : Type 0) : Type 0 where
@@ -14,12 +13,12 @@ module _ {A : Type 0} where
   k ⇒ v = record { key = k; value = v }
 
   abbrev pub get_if : Bool → A → Option A → Option A
-  get_if true v rest = some v
+  get_if true v rest = Some v
   get_if false v rest = rest
 
   -- `get`, once the index is judged
   unfoldable pub get : ℕ → List (Entry A) → Option A
-  get k [] = none
+  get k [] = None
   get k (e ∷ es) = get_if (eqb e.key k) e.value (get k es)
 
   abbrev pub insert_by : Ordering → Entry A → Entry A → List (Entry A) → List (Entry A) → List (Entry A)

@@ -1,8 +1,7 @@
 -- The arms of `explain` that name the next row themselves, add branches, or end the branch (`continue` and `break` in explain.rs); IfPos
 -- and ResultRow have files of their own. "IsNull, NotNull on an absent register: no successor." "Return to −1 + 1 is row 0."
 -- "Jump adds three branches and also goes on to the next row." (01, "The rows") Assumes nothing.
-use Rattle.std.specs.Prelude.{Bool, true, false, not, List, [], ◌∷◌, ℕ, ℤ, pos}
-use Rattle.std.proofs.Math.Option.{Option, none, some}
+use Rattle.std.specs.Prelude.{Bool, true, false, not, List, [], ◌∷◌, ℕ, ℤ, pos, Option, None, Some}
 use Rattle.std.proofs.Math.IntN.{suc_ℤ}
 use Rattle.type_info.specs.Ascii.{ascii, equals}
 use Rattle.model.specs.Walk.{Tried, done}
@@ -16,12 +15,12 @@ use Rattle.model.specs.Operation.{JumpOperation, op_goto, op_gosub, op_branch, o
 
 -- what IsNull and NotNull ask of a register, and the change to one that is null
 abbrev pub may_be_null : Option RegDataType → Bool
-may_be_null none = false
-may_be_null (some v) = not (is_false (map_to_nullable v))
+may_be_null None = false
+may_be_null (Some v) = not (is_false (map_to_nullable v))
 
 abbrev pub has_kind : Option RegDataType → Bool
-has_kind none = false
-has_kind (some v) = not (is_null_type (map_to_datatype v))
+has_kind None = false
+has_kind (Some v) = not (is_null_type (map_to_datatype v))
 
 abbrev pub to_default : RegDataType → RegDataType
 to_default v = Column default
@@ -42,9 +41,9 @@ not_null_arm x m =
 
 -- the number that a register is known to hold
 abbrev pub known_int : Option RegDataType → Option ℤ
-known_int none = none
-known_int (some (Column c)) = none
-known_int (some (Int i)) = some i
+known_int None = None
+known_int (Some (Column c)) = None
+known_int (Some (Int i)) = Some i
 
 -- a number goes into a register, where a test says so
 abbrev pub store_if : Bool → ℕ → ℤ → ℤ → MemoryState → Tried MemoryState
@@ -65,18 +64,18 @@ module _ (limit : ℕ) (x : Row) (m : MemoryState) where
 
   abbrev pub if_known : Bool → Offer
   if_known true = if_stay >>= λ stays. goes_on stays
-  if_known false = if_branch >>= λ branch. offers (branch ∷ []) none
+  if_known false = if_branch >>= λ branch. offers (branch ∷ []) None
 
   unfoldable pub if_arm : Option ℤ → Offer
-  if_arm none = if_branch >>= λ branch. if_stay >>= λ stays. offers (branch ∷ []) (some stays)
-  if_arm (some n) = if_known (is_zero_int n)
+  if_arm None = if_branch >>= λ branch. if_stay >>= λ stays. offers (branch ∷ []) (Some stays)
+  if_arm (Some n) = if_known (is_zero_int n)
 
 -- Rewind, Last, Sort, SorterSort
 unfoldable pub rewind_cursor : Row → MemoryState → Option CursorDataType → Offer
-rewind_cursor x m none = ends
-rewind_cursor x m (some c) =
+rewind_cursor x m None = ends
+rewind_cursor x m (Some c) =
     offers
-    (branch_if (not (is_false (cursor_is_empty c m))) (update_cursor_table (set_empty (some true)) (some c) (go_to x.p2 m)))
+    (branch_if (not (is_false (cursor_is_empty c m))) (update_cursor_table (set_empty (Some true)) (Some c) (go_to x.p2 m)))
     (stay_if (not (is_true (cursor_is_empty c m))) (next m))
 
 abbrev pub rewind_if : Bool → Row → MemoryState → Offer
@@ -88,17 +87,17 @@ unfoldable pub is_yield : Row → Bool
 is_yield x = equals x.op (ascii "Yield")
 
 abbrev pub target_if : Bool → Row → Option ℤ
-target_if true x = some x.p2
-target_if false x = none
+target_if true x = Some x.p2
+target_if false x = None
 
 -- where the Yield row at a number goes, if there is one
 abbrev pub yield_target : Option Row → Option ℤ
-yield_target none = none
-yield_target (some x) = target_if (is_yield x) x
+yield_target None = None
+yield_target (Some x) = target_if (is_yield x) x
 
 abbrev pub row_after_yield : Option ℤ → ℤ → ℤ
-row_after_yield none i = i
-row_after_yield (some target) i = suc_ℤ i
+row_after_yield None i = i
+row_after_yield (Some target) i = suc_ℤ i
 
 abbrev pub return_else : Bool → MemoryState → Offer
 return_else true m = goes_on (next m)
@@ -106,36 +105,36 @@ return_else false m = ends
 
 module _ (x : Row) (m : MemoryState) where
   unfoldable pub return_arm : Option ℤ → Offer
-  return_arm none = return_else (eq_int x.p3 (pos 1)) m
-  return_arm (some i) = remove_register x.p1 (go_to (suc_ℤ i) m) >>= λ s. goes_on s
+  return_arm None = return_else (eq_int x.p3 (pos 1)) m
+  return_arm (Some i) = remove_register x.p1 (go_to (suc_ℤ i) m) >>= λ s. goes_on s
 
   abbrev pub end_coroutine_to : Option ℤ → Offer
-  end_coroutine_to none = ends
-  end_coroutine_to (some target) = remove_register x.p1 (go_to target m) >>= λ s. goes_on s
+  end_coroutine_to None = ends
+  end_coroutine_to (Some target) = remove_register x.p1 (go_to target m) >>= λ s. goes_on s
 
 module _ (rows : List Row) (x : Row) (m : MemoryState) where
   unfoldable pub end_coroutine_arm : Option ℤ → Offer
-  end_coroutine_arm none = ends
-  end_coroutine_arm (some i) = end_coroutine_to x m (yield_target (row_at rows i))
+  end_coroutine_arm None = ends
+  end_coroutine_arm (Some i) = end_coroutine_to x m (yield_target (row_at rows i))
 
   unfoldable pub yield_arm : Option ℤ → Offer
-  yield_arm none = ends
-  yield_arm (some i) =
+  yield_arm None = ends
+  yield_arm (Some i) =
       update_register x.p1 (λ v. Int m.program_i) (go_to (row_after_yield (yield_target (row_at rows i)) i) m) >>= λ s. goes_on s
 
 module _ (limit : ℕ) (rows : List Row) (x : Row) (m : MemoryState) where
   unfoldable pub jump_arm : JumpOperation → Offer
   jump_arm op_goto = goes_on (go_to x.p2 m)
   jump_arm op_gosub = store_register limit x.p1 (Int m.program_i) m >>= λ s. goes_on (go_to x.p2 s)
-  jump_arm op_branch = offers (go_to x.p2 m ∷ []) (some (next m))
+  jump_arm op_branch = offers (go_to x.p2 m ∷ []) (Some (next m))
   jump_arm op_is_null = is_null_arm x m
   jump_arm op_not_null = not_null_arm x m
-  jump_arm op_must_be_int = offers (branch_if (not (is_zero_int x.p2)) (go_to x.p2 m)) (some (next m))
+  jump_arm op_must_be_int = offers (branch_if (not (is_zero_int x.p2)) (go_to x.p2 m)) (Some (next m))
   jump_arm op_if = read_register x.p1 m >>= λ v. if_arm limit x m (known_int v)
   jump_arm op_rewind = rewind_if (is_zero_int x.p2) x m
   jump_arm op_init_coroutine = store_register limit x.p1 (Int x.p3) m >>= λ s. goes_on (init_coroutine_to (is_zero_int x.p2) x s)
   jump_arm op_end_coroutine = read_register x.p1 m >>= λ v. end_coroutine_arm rows x m (known_int v)
   jump_arm op_return = read_register x.p1 m >>= λ v. return_arm x m (known_int v)
   jump_arm op_yield = read_register x.p1 m >>= λ v. yield_arm rows x m (known_int v)
-  jump_arm op_jump = offers (go_to x.p1 m ∷ go_to x.p2 m ∷ go_to x.p3 m ∷ []) (some (next m))
+  jump_arm op_jump = offers (go_to x.p1 m ∷ go_to x.p2 m ∷ go_to x.p3 m ∷ []) (Some (next m))
   jump_arm op_halt = ends

@@ -1,8 +1,7 @@
 -- The listing's text. 01, "The call", Listing: six LF-ended lines a row, `addr=`, `op=`, `p1=`, `p2=`, `p3=`, `p4=`; addr counts from 0;
 -- op is 1 to 32 ASCII letters or digits; P1 to P3 are signed 32-bit; P4 is 0 to 255 bytes. An empty file has no rows.
 -- How many rows are too many is judged elsewhere. Assumes nothing.
-use Rattle.std.specs.Prelude.{◌≡◌, Bool, true, ◌&&◌, ◌||◌, ℕ, ◌≤◌, ◌<◌, leb, length}
-use Rattle.std.proofs.Math.Option.{Option, some}
+use Rattle.std.specs.Prelude.{◌≡◌, Bool, true, ◌&&◌, ◌||◌, ℕ, ◌≤◌, ◌<◌, leb, length, Option, Some}
 use mathlib.Core.List.{List, [], ◌∷◌, flatten}
 use Rattle.type_info.specs.Ascii.{ascii, within}
 use Rattle.model.specs.Row.{Row}
@@ -37,7 +36,7 @@ print_row addr r = flatten (
     ∷ [])
 
 unfoldable pub read_operation : List ℕ → Option (List ℕ)
-read_operation = read_if is_operation some
+read_operation = read_if is_operation Some
 
 unfoldable pub read_p4 : List ℕ → Option (List ℕ)
 read_p4 = read_if (λ bs. leb (length bs) 255) read_hex

@@ -1,7 +1,6 @@
 -- What the rows take from outside the listing: the limit of cells, the catalogue's columns for a database and a page, and the function
 -- table; and those of 01. Assumes nothing.
-use Rattle.std.proofs.Math.Option.{Option}
-use Rattle.std.specs.Prelude.{List, ℕ, ℤ}
+use Rattle.std.specs.Prelude.{Option, List, ℕ, ℤ}
 use Rattle.model.specs.State.{Columns}
 use Rattle.model.specs.Functions.{FunctionValue, built_in, function_in}
 use Rattle.model.specs.Catalogue.{CatalogueRecord, columns_at}

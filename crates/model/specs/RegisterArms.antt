@@ -1,8 +1,7 @@
 -- The arms of `explain` that write registers and go on to the next row: what they leave of the state. In the order of explain.rs.
 -- "Move onto itself leaves null. Copy with P3 = 0 copies one." "And, Or take an operand's kind; they don't make it Bool." (01, "The rows")
 -- Assumes nothing.
-use Rattle.std.specs.Prelude.{true, List, [], ◌∷◌, ℕ, zero, suc, ◌-◌, ◌%◌, ℤ, pos, negsuc, ◌-ℤ◌}
-use Rattle.std.proofs.Math.Option.{Option, none, some}
+use Rattle.std.specs.Prelude.{true, List, [], ◌∷◌, ℕ, zero, suc, ◌-◌, ◌%◌, ℤ, pos, negsuc, ◌-ℤ◌, Option, None, Some}
 use Rattle.std.proofs.Math.IntN.{suc_ℤ}
 use Rattle.type_info.specs.declared.DataType.{DataType}
 use Rattle.type_info.specs.declared.DataType.TheVariants.{Null, Integer, Float, Text, Blob, Numeric}
@@ -33,10 +32,10 @@ cast_to d v = Column (Single d (map_to_nullable v))
 
 -- r[p1] + r[p2], and whatever else takes two operands
 abbrev pub operands : Option RegDataType → Option RegDataType → RegDataType
-operands none none = Column default
-operands none (some b) = Column (Single (map_to_datatype b) none)
-operands (some a) none = Column (Single (map_to_datatype a) none)
-operands (some a) (some b) =
+operands None None = Column default
+operands None (Some b) = Column (Single (map_to_datatype b) None)
+operands (Some a) None = Column (Single (map_to_datatype a) None)
+operands (Some a) (Some b) =
     Column (Single (first_datatype (map_to_datatype a) (map_to_datatype b)) (either_nullable (map_to_nullable a) (map_to_nullable b)))
 
 -- what AggStep makes of its operand
@@ -44,7 +43,7 @@ abbrev pub summed : RegDataType → RegDataType
 summed v = Column (Single (sum_datatype (map_to_datatype v)) (map_to_nullable v))
 
 abbrev pub from_other_row : RegDataType → RegDataType
-from_other_row v = Column (Single (map_to_datatype v) (some true))
+from_other_row v = Column (Single (map_to_datatype v) (Some true))
 
 -- Null's registers: P2 to P3, or P2 alone
 abbrev pub null_turns : Row → ℕ
@@ -53,8 +52,8 @@ null_turns x = suc (turns (x.p3 -ℤ x.p2))
 module _ (limit : ℕ) where
   -- the value, changed by f, goes to register i, if there is one
   abbrev pub store_some : ℤ → (RegDataType → RegDataType) → Option RegDataType → MemoryState → Tried MemoryState
-  store_some i f none m = done m
-  store_some i f (some v) m = store_register limit i (f v) m
+  store_some i f None m = done m
+  store_some i f (Some v) m = store_register limit i (f v) m
 
   -- r[j] = f(r[i])
   unfoldable pub copy_to : ℤ → ℤ → (RegDataType → RegDataType) → MemoryState → Tried MemoryState
@@ -66,8 +65,8 @@ module _ (limit : ℕ) where
 
   -- the target is stored first, then the source is null
   abbrev pub move_some : ℤ → ℤ → Option RegDataType → MemoryState → Tried MemoryState
-  move_some i j none m = done m
-  move_some i j (some v) m = store_register limit j v m >>= λ s. store_register limit i (Column null) s
+  move_some i j None m = done m
+  move_some i j (Some v) m = store_register limit j v m >>= λ s. store_register limit i (Column null) s
 
   unfoldable pub move_many : ℕ → ℤ → ℤ → MemoryState → Tried MemoryState
   move_many zero i j m = done m
@@ -79,8 +78,8 @@ module _ (limit : ℕ) where
 
   -- an unknown function changes nothing
   abbrev pub function_arm : Row → MemoryState → Option FunctionValue → Tried MemoryState
-  function_arm x m none = done m
-  function_arm x m (some f) = store_register limit x.p3 (Column (value_column f x.p2)) m
+  function_arm x m None = done m
+  function_arm x m (Some f) = store_register limit x.p3 (Column (value_column f x.p2)) m
 
   abbrev pub agg_step_arm : Row → MemoryState → Aggregate → Tried MemoryState
   agg_step_arm x m to_integer = store_register limit x.p3 (never_null Integer) m

@@ -1,8 +1,7 @@
 -- Result rows, and the columns that those counted make. 01, "Results": "Over the rows counted so far that reach a column: its kind is that
 -- of the latest row whose kind isn't Null, else Null. It may be blank: `yes` if any says true, else `no` if any says false, else `unknown`.
 -- Records count as Null, unknown." In explain.rs: the loop over `result_states`. Assumes nothing.
-use Rattle.std.specs.Prelude.{Bool, List, [], ◌∷◌, map, ℕ}
-use Rattle.std.proofs.Math.Option.{Option}
+use Rattle.std.specs.Prelude.{Bool, List, [], ◌∷◌, map, ℕ, Option}
 use Rattle.type_info.specs.declared.DataType.{DataType}
 use Rattle.model.specs.State.{ColumnType, column_to_datatype, column_to_nullable, first_datatype, either_nullable}
 

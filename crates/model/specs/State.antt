@@ -1,7 +1,6 @@
 -- The states of the walk: `ColumnType`, `RegDataType`, `CursorDataType`, `TableDataType` and `MemoryState` of explain.rs, with their
 -- defaults and conversions. 01, "The walk": "A state is a row number (signed), registers, cursors and tables." Assumes nothing.
-use Rattle.std.specs.Prelude.{Bool, true, false, ◌||◌, List, [], ◌∷◌, ℕ, zero, suc, ℤ, pos, replicate}
-use Rattle.std.proofs.Math.Option.{Option, none, some}
+use Rattle.std.specs.Prelude.{Bool, true, false, ◌||◌, List, [], ◌∷◌, ℕ, zero, suc, ℤ, pos, replicate, Option, None, Some}
 use Rattle.type_info.specs.declared.DataType.{DataType}
 use Rattle.type_info.specs.declared.DataType.TheVariants.{Null, Integer, Float, Text, Blob, Numeric, Bool as Boolean, Int4, Date, Time, Datetime}
 use Rattle.model.specs.IntMap.{Entry, ◌⇒◌, numbered}
@@ -62,14 +61,14 @@ from_elem c n = from_dense_record (replicate n c)
 
 -- `ColumnType::default` and `ColumnType::null`
 abbrev pub default : ColumnType
-default = Single Null none
+default = Single Null None
 
 abbrev pub null : ColumnType
-null = Single Null (some true)
+null = Single Null (Some true)
 
 -- a register that holds a value of a kind, never null
 abbrev pub never_null : DataType → RegDataType
-never_null d = Column (Single d (some false))
+never_null d = Column (Single d (Some false))
 
 -- `ColumnType::map_to_datatype`, `ColumnType::map_to_nullable`
 abbrev pub column_to_datatype : ColumnType → DataType
@@ -78,12 +77,12 @@ column_to_datatype (Record cs) = Null
 
 abbrev pub column_to_nullable : ColumnType → Option Bool
 column_to_nullable (Single d n) = n
-column_to_nullable (Record cs) = none
+column_to_nullable (Record cs) = None
 
 -- those of `RegDataType`
 abbrev pub map_to_columntype : RegDataType → ColumnType
 map_to_columntype (Column c) = c
-map_to_columntype (Int i) = Single Integer (some false)
+map_to_columntype (Int i) = Single Integer (Some false)
 
 abbrev pub map_to_datatype : RegDataType → DataType
 map_to_datatype v = column_to_datatype (map_to_columntype v)
@@ -98,7 +97,7 @@ set_nullable n (Record cs) = Record cs
 
 -- the same in a register
 abbrev pub to_not_null : RegDataType → RegDataType
-to_not_null (Column c) = Column (set_nullable (some false) c)
+to_not_null (Column c) = Column (set_nullable (Some false) c)
 to_not_null (Int i) = Int i
 
 -- and those of a row of columns; nested records keep theirs
@@ -108,13 +107,13 @@ set_all_nullable n (entry k c cs) = entry k (set_nullable n c) (set_all_nullable
 
 -- what `matches!` asks of an emptiness or of `nullable`
 abbrev pub is_true : Option Bool → Bool
-is_true none = false
-is_true (some b) = b
+is_true None = false
+is_true (Some b) = b
 
 abbrev pub is_false : Option Bool → Bool
-is_false none = false
-is_false (some true) = false
-is_false (some false) = true
+is_false None = false
+is_false (Some true) = false
+is_false (Some false) = true
 
 -- the place of a variant in the Rust's order
 abbrev pub datatype_code : DataType → ℕ
@@ -147,6 +146,6 @@ first_datatype a b = first_if (is_null_type a) a b
 
 -- nullable if one is; what is not known says nothing
 abbrev pub either_nullable : Option Bool → Option Bool → Option Bool
-either_nullable none b = b
-either_nullable (some a) none = some a
-either_nullable (some a) (some b) = some (a || b)
+either_nullable None b = b
+either_nullable (Some a) None = Some a
+either_nullable (Some a) (Some b) = Some (a || b)

@@ -1,7 +1,6 @@
 -- What is claimed of the texts: a reader accepts exactly the printings of valid values, and gives those values back. Statements only.
 -- Assumes nothing.
-use Rattle.std.specs.Prelude.{◌≡◌, ◌↔◌, List, ◌++◌, ℕ}
-use Rattle.std.proofs.Math.Option.{Option, some}
+use Rattle.std.specs.Prelude.{◌≡◌, ◌↔◌, List, ◌++◌, ℕ, Option, Some}
 use Rattle.type_info.specs.All.{All}
 use Rattle.model.specs.Reader.{Reader}
 use Rattle.model.specs.ListingText.{ValidRow, print_listing, read_listing}
@@ -10,11 +9,11 @@ use Rattle.model.specs.AnswerText.{ValidAnswer, print_answer, read_answer, take_
 
 -- of whole texts
 pub record Exactly {A : Type 0} (read : List ℕ → Option A) (Valid : A → Type 0) (print : A → List ℕ) : Type 0 where
-  pub is : (t : List ℕ) (v : A) → (read t ≡ some v) ↔ (Valid v × (t ≡ print v))
+  pub is : (t : List ℕ) (v : A) → (read t ≡ Some v) ↔ (Valid v × (t ≡ print v))
 
 -- of what stands first in a text, with the rest u behind it
 pub record Takes {A : Type 0} (take : Reader A) (Valid : A → Type 0) (print : A → List ℕ) : Type 0 where
-  pub is : (t : List ℕ) (v : A) (u : List ℕ) → (take t ≡ some (v, u)) ↔ (Valid v × (t ≡ print v ++ u))
+  pub is : (t : List ℕ) (v : A) (u : List ℕ) → (take t ≡ Some (v, u)) ↔ (Valid v × (t ≡ print v ++ u))
 
 abbrev pub ListingExact : Type 0
 ListingExact = Exactly read_listing (All ValidRow) print_listing

@@ -1,7 +1,6 @@
 -- Tables of texts: a value for each text, and the first whose text passes a test. The arms of a `match` on a `str`, and chains of
 -- `starts_with`, are read so. Assumes nothing.
-use Rattle.std.specs.Prelude.{Bool, true, ◌&&◌, List, [], ◌∷◌, ℕ, eqb}
-use Rattle.std.proofs.Math.Option.{Option, none, some}
+use Rattle.std.specs.Prelude.{Bool, true, ◌&&◌, List, [], ◌∷◌, ℕ, eqb, Option, None, Some}
 use Prim.Native.String.{String}
 use Rattle.type_info.specs.Ascii.{ascii, equals}
 use Rattle.model.specs.Walk.{times}
@@ -18,12 +17,12 @@ module _ {A : Type 0} where
 
   -- `test given text` decides, as `equals` and `starts_with` do
   unfoldable pub first_for : (List ℕ → List ℕ → Bool) → List ℕ → List (Named A) → Option A
-  first_for test given [] = none
+  first_for test given [] = None
   first_for test given (n ∷ more) = let rest = first_for test given more in get_if (test given n.text) n.value rest
 
   abbrev pub or_else : A → Option A → A
-  or_else other none = other
-  or_else other (some v) = v
+  or_else other None = other
+  or_else other (Some v) = v
 
   unfoldable pub texts : List (Named A) → List (List ℕ)
   texts [] = []

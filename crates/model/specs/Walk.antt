@@ -3,8 +3,7 @@
 -- What it walks is given by `eq`, an equality test on states; `row_of`, the row of the listing that a state stands on, if any; `ways`, what
 -- that row offers there, the Bool saying whether its lineage handles it again; `units`, the cost of remembering a state.
 -- Below, m is a state, w ways, l a lineage, ls those that wait, n notes, f a front. Assumes nothing.
-use Rattle.std.specs.Prelude.{◌≡◌, ◌⊎◌, Bool, true, false, ◌||◌, List, [], ◌∷◌, ℕ, zero, suc, ◌+◌, ◌-◌, leb, ltb, eqb}
-use Rattle.std.proofs.Math.Option.{Option, none, some}
+use Rattle.std.specs.Prelude.{◌≡◌, ◌⊎◌, Bool, true, false, ◌||◌, List, [], ◌∷◌, ℕ, zero, suc, ◌+◌, ◌-◌, leb, ltb, eqb, Option, None, Some}
 
 -- x is one of the list's elements
 infix 50 ◌∈◌
@@ -58,8 +57,8 @@ add_row row l = record { mem = l.mem; past = row ∷ l.past }
 
 -- the lineage that goes on, where a state does
 abbrev pub onward : {M : Type 0} → Option M → List ℕ → Option (Lineage M)
-onward none past = none
-onward (some m) past = some (record { mem = m; past = past })
+onward None past = None
+onward (Some m) past = Some (record { mem = m; past = past })
 
 -- the states of lineages
 abbrev pub mems : {M : Type 0} → List (Lineage M) → List M
@@ -85,8 +84,8 @@ pub record Notes (M R : Type 0) : Type 0 where
 
 -- the result rows counted, after a row with this result
 abbrev pub note_result : {R : Type 0} → Option R → List R → List R
-note_result none rs = rs
-note_result (some r) rs = r ∷ rs
+note_result None rs = rs
+note_result (Some r) rs = r ∷ rs
 
 -- "Each such handling counts one repeat"
 abbrev pub note_repeat : Bool → ℕ → ℕ
@@ -215,18 +214,18 @@ module _ {M R : Type 0} (row_of : M → Option ℕ) where
   unfoldable pub take_up : List (Lineage M) → Notes M R → Front M R
   take_up [] n = none_left n
   take_up (l ∷ ls) n =
-      elim (row_of l.mem) [ none ↦ take_up ls (note_taken l.mem n) | some row ↦ on_row row l ls (note_taken l.mem n) ]
+      elim (row_of l.mem) [ None ↦ take_up ls (note_taken l.mem n) | Some row ↦ on_row row l ls (note_taken l.mem n) ]
 
   -- the current lineage goes on if it stands on a row
   unfoldable pub go_on : Option (Lineage M) → List (Lineage M) → Notes M R → Front M R
-  go_on none ls n = take_up ls n
-  go_on (some l) ls n = elim (row_of l.mem) [ none ↦ take_up ls n | some row ↦ on_row row l ls n ]
+  go_on None ls n = take_up ls n
+  go_on (Some l) ls n = elim (row_of l.mem) [ None ↦ take_up ls n | Some row ↦ on_row row l ls n ]
 
   -- with no unit left, each waiting lineage is taken up, and closed by a gas stop if it stands on a row
   unfoldable pub close_all : List (Lineage M) → Notes M R → Notes M R
   close_all [] n = n
   close_all (l ∷ ls) n =
-      elim (row_of l.mem) [ none ↦ close_all ls (note_taken l.mem n) | some row ↦ close_all ls (gas_stop (note_taken l.mem n)) ]
+      elim (row_of l.mem) [ None ↦ close_all ls (note_taken l.mem n) | Some row ↦ close_all ls (gas_stop (note_taken l.mem n)) ]
 
   -- where a walk begins: "The initial state is not remembered"
   unfoldable pub begin : M → ℕ → Front M R

@@ -1,7 +1,6 @@
 -- What is claimed of every walk (01, "What we will not take"; demand 3), as records whose fields are the claims. Each is proved in
 -- proofs/WalkTheorems.antt. Assumes nothing.
-use Rattle.std.specs.Prelude.{◌≡◌, ◌↔◌, Bool, true, false, [], ◌∷◌, ℕ, ◌+◌, ◌≤◌, ◌<◌}
-use Rattle.std.proofs.Math.Option.{Option, some}
+use Rattle.std.specs.Prelude.{◌≡◌, ◌↔◌, Bool, true, false, [], ◌∷◌, ℕ, ◌+◌, ◌≤◌, ◌<◌, Option, Some}
 use Rattle.model.specs.Walk.{◌∈◌, times, count, Tried, done, Ways, Lineage, mems, Notes, Walked, notes_of, Front, notes_at, paused, ended, walk_on, run, resume}
 use Rattle.model.specs.Steps.{Reach, Offering, Result, Chain}
 
@@ -57,9 +56,9 @@ pub record Coverage
     : Type 0
   where
     -- every state reached on a row of the listing was handled
-    pub reached : (m : M) → Reach row_of ways fresh m → (row : ℕ) → row_of m ≡ some row → m ∈ mems n.handled
+    pub reached : (m : M) → Reach row_of ways fresh m → (row : ℕ) → row_of m ≡ Some row → m ∈ mems n.handled
     -- and is not refused there
-    pub offers : (m : M) → Reach row_of ways fresh m → (row : ℕ) → row_of m ≡ some row → (w : Ways M R) × Offering row_of ways m w
+    pub offers : (m : M) → Reach row_of ways fresh m → (row : ℕ) → row_of m ≡ Some row → (w : Ways M R) × Offering row_of ways m w
     -- the result rows reached are exactly those counted
     pub exact : (r : R) → (r ∈ n.counted) ↔ Result row_of ways fresh r
 

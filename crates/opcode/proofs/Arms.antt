@@ -1,7 +1,7 @@
 -- The `_` of a `match` on a number: the number is none of the others'. Assumes nothing.
 use mathlib.Core.Path.{◌≡◌, refl, sym, ap, ◌∙◌}
 use mathlib.Core.Bool.{Bool, true, false, ◌&&◌, ◌||◌, true≢false, and-eq-true_iff}
-use mathlib.Core.Option.{none}
+use Rattle.std.specs.Prelude.{None}
 use mathlib.Core.List.{List, [], ◌∷◌}
 use Prim.Native.Nat.{ℕ}
 use lib.Dec.{eqb}
@@ -32,7 +32,7 @@ unfoldable pub keys_in : {A : Type 0} → List ℕ → List (Entry A) → Bool
 keys_in ks [] = true
 keys_in ks (e ∷ es) = one_of e.key ks && keys_in ks es
 
-pub get_other : {A : Type 0} (x : ℕ) (ks : List ℕ) (es : List (Entry A)) → keys_in ks es ≡ true → NoneOf x ks → get x es ≡ none
+pub get_other : {A : Type 0} (x : ℕ) (ks : List ℕ) (es : List (Entry A)) → keys_in ks es ≡ true → NoneOf x ks → get x es ≡ None
 unfolding keys_in get
 get_other x ks [] e h = refl
 get_other x ks (a ∷ es) e h =

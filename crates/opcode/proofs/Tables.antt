@@ -1,7 +1,7 @@
 -- A table of bytes says what a table of texts says, in whatever order: one law for any table, one for the texts of one length. Assumes nothing.
 use mathlib.Core.Path.{◌≡◌, refl, sym, ap, subst, ◌∙◌}
 use mathlib.Core.Bool.{Bool, true, false, not, ◌&&◌, ◌||◌, true≢false, and-eq-true_iff}
-use mathlib.Core.Option.{Option, none}
+use Rattle.std.specs.Prelude.{Option, None}
 use mathlib.Core.List.{List, [], ◌∷◌, map}
 use Prim.Native.Nat.{ℕ, suc, ◌<◌}
 use lib.Dec.{eqb, leb}
@@ -113,7 +113,7 @@ module _ {A : Type 0} where
       ap (λ b. keep_if b n (of_length l ns)) (others l (length n.text) ks h first) ∙ none_so_long ks l ns rest h
 
   -- what the numbers stand for, and what becomes of a text's value
-  module _ {B : Type 0} (value_at : ℕ → B) (value : Option A → B) (nothing : value_at 0 ≡ value none) where
+  module _ {B : Type 0} (value_at : ℕ → B) (value : Option A → B) (nothing : value_at 0 ≡ value None) where
     -- the answers of the table and of the definition
     abbrev told : List (Named ℕ) → List ℕ → B
     told es text = value_at (or_else 0 (first_for starts_with text es))
@@ -126,7 +126,7 @@ module _ {A : Type 0} where
         {C : Type 0} (es : List (Named ℕ)) (ns : List (Named A)) (given : List ℕ) (ts : List (Named C)) →
         map (told es) (texts ts) ≡ map (said ns) (texts ts) →
         all_settle es ns (texts ts) ≡ true →
-        (first_for starts_with given ts ≡ none → told es given ≡ said ns given) →
+        (first_for starts_with given ts ≡ None → told es given ≡ said ns given) →
         told es given ≡ said ns given
     unfolding texts all_settle first_for
     by_texts es ns given [] e s otherwise = otherwise refl

@@ -1,7 +1,6 @@
 -- What a P4 says to the arms that read it, as numbers: the value of a Function's text, and what an aggregate's text gives.
 -- The texts are those of model's Functions. Assumes nothing.
-use Rattle.std.specs.Prelude.{◌≡◌, true, false, List, [], ◌∷◌, ℕ, get_or}
-use Rattle.std.proofs.Math.Option.{Option, none, some}
+use Rattle.std.specs.Prelude.{◌≡◌, true, false, List, [], ◌∷◌, ℕ, get_or, Option, None, Some}
 use Rattle.type_info.specs.declared.DataType.TheVariants.{Integer, Float, Text}
 use Rattle.type_info.specs.Utf8.{is_utf8}
 use Rattle.model.specs.Functions.{FunctionValue, gives, never, by_p2, built_in, function_in, Aggregate, to_integer, to_real, to_sum, to_other_row, to_operand, aggregate_of}
@@ -11,10 +10,10 @@ use Rattle.opcode.specs.declared.P4.TheVariants.{NotUtf8, Text as Judged}
 
 -- no value, or one of the four that built-in texts have
 unfoldable pub values : List (Option FunctionValue)
-values = none ∷ some (gives Integer never) ∷ some (gives Text by_p2) ∷ some (gives Float by_p2) ∷ some (gives Integer by_p2) ∷ []
+values = None ∷ Some (gives Integer never) ∷ Some (gives Text by_p2) ∷ Some (gives Float by_p2) ∷ Some (gives Integer by_p2) ∷ []
 
 unfoldable pub function_at : ℕ → Option FunctionValue
-function_at n = get_or values n none
+function_at n = get_or values n None
 
 unfoldable pub aggregates : List Aggregate
 aggregates = to_operand ∷ to_integer ∷ to_real ∷ to_sum ∷ to_other_row ∷ []

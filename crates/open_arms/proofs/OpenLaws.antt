@@ -1,8 +1,11 @@
 -- A table that is stored from its run and a cursor on it are the definition's; an empty table's run; and OpenEphemeral's refusals, in the
 -- definition's order. Assumes nothing.
+use Rattle.refusal.specs.declared.Refusal.TheVariants.{TooManyCells, Negative}
+use Rattle.refusal.specs.Numbers.{number_of}
+use Rattle.refusal.specs.declared.Refusal.{Refusal}
 use mathlib.Core.Path.{◌≡◌, refl, sym, ap, ap₂, subst, ◌∙◌}
 use mathlib.Core.Bool.{true}
-use mathlib.Core.Option.{some}
+use Rattle.std.specs.Prelude.{Some, Ok, Err}
 use mathlib.Core.List.{List, ◌∷◌}
 use Prim.Native.Nat.{ℕ, zero, suc, ◌+◌, ◌-◌, ◌<◌, ◌≤◌}
 use native.Mathlib.Omega.{arith}
@@ -30,12 +33,8 @@ use Rattle.intmap.specs.Entries.{Runs, span}
 use Rattle.intmap.specs.Map.{runs_at, Frame}
 use Rattle.intmap.specs.Change.{rekey, elems, FromElem}
 use Rattle.intmap.specs.Signed.{offset, int_of}
-use Rattle.intmap.specs.Store.{put, judge_runs, answer_of, store_at, RunAbove, Inserts}
+use Rattle.intmap.specs.Store.{put, judge_runs, stored_of, store_at, RunAbove, Inserts, Stored}
 use Rattle.intmap.specs.declared.IntMap.{IntMap}
-use Rattle.intmap.specs.declared.Insertion.{Insertion}
-use Rattle.intmap.specs.declared.Insertion.TheVariants as insertion
-use Rattle.intmap.specs.declared.Stored.{Stored}
-use Rattle.intmap.specs.declared.Stored.TheVariants as stored
 use Rattle.intmap.proofs.EntryLaws.{length-span}
 use Rattle.intmap.proofs.MapLaws.{placed_room}
 use Rattle.intmap.proofs.StoreLaws.{frame_same}
@@ -60,10 +59,10 @@ unfolding store_at judge_depth
 stored_at limit key depth run es h = ap (λ b. depth_if b run >>= λ v. judge_runs limit (put (rekey key v) es)) (sym (le-leb depth 8 h))
 
 -- a run stored under a key that is told otherwise
-pub stored_as : (cs ds : List Cell) (limit : ℕ) (a : IntMap) (key k from n : ℕ) (x : Insertion) → key ≡ k → Inserts cs ds limit a (rekey key (span cs from n)) x → Inserts cs ds limit a (rekey k (span cs from n)) x
+pub stored_as : (cs ds : List Cell) (limit : ℕ) (a : IntMap) (key k from n : ℕ) (x : Stored) → key ≡ k → Inserts cs ds limit a (rekey key (span cs from n)) x → Inserts cs ds limit a (rekey k (span cs from n)) x
 stored_as cs ds limit a key k from n x e ins = subst (λ z. Inserts cs ds limit a (rekey z (span cs from n)) x) e ins
 
-module _ (limit : ℕ) (cs ds : List Cell) (a : IntMap) (row from n : ℕ) (small : row ≤ 65535) (x : Insertion) (ins : Inserts cs ds limit a (rekey (class_key 2 row) (span cs from n)) x) where
+module _ (limit : ℕ) (cs ds : List Cell) (a : IntMap) (row from n : ℕ) (small : row ≤ 65535) (x : Stored) (ins : Inserts cs ds limit a (rekey (class_key 2 row) (span cs from n)) x) where
   abbrev storing : TableDataType → MemoryState → Tried MemoryState
   storing t m = store_table limit row t m
 
@@ -71,25 +70,25 @@ module _ (limit : ℕ) (cs ds : List Cell) (a : IntMap) (row from n : ℕ) (smal
   wide = frame-within cs ds a.base limit a.base (limit + limit) (omega arith) (omega arith) ins.frame
 
   module _ (t : TableDataType) (its : TableAt limit cs from n t) where
-    answer : answer_of ds x ≡ store_at limit (class_key 2 row) (columns_depth t.cols) (run_table its.key t) (runs_at cs a)
+    answer : stored_of ds x ≡ store_at limit (class_key 2 row) (columns_depth t.cols) (run_table its.key t) (runs_at cs a)
     answer =
         ins.answer
         ∙ ap (λ r. judge_runs limit (put (rekey (class_key 2 row) r) (runs_at cs a))) its.run
         ∙ stored_at limit (class_key 2 row) (columns_depth t.cols) (run_table its.key t) (runs_at cs a) its.shallow
 
-    table_full : x ≡ insertion.Full → Leads limit cs ds a (stored.Refused 8) (storing t)
-    table_full e =
+    table_full : (k : Refusal) → x ≡ Err k → Leads limit cs ds a (Err k) (storing t)
+    table_full k e =
         record {
-          says = λ bound m le h. (held_table h row small its.key t its.sorted).refuses 8 (sym answer ∙ ap (answer_of ds) e);
+          says = λ bound m le h. (held_table h row small its.key t its.sorted).refuses (number_of k) (sym answer ∙ ap (stored_of ds) e);
           leaves = tt;
           frame = wide;
         }
 
-    table_done : (b : IntMap) → x ≡ insertion.Done b → Leads limit cs ds a (stored.Done b) (storing t)
+    table_done : (b : IntMap) → x ≡ Ok b → Leads limit cs ds a (Ok b) (storing t)
     table_done b e =
         let next = subst (λ y. Inserts cs ds limit a (rekey (class_key 2 row) (span cs from n)) y) e ins in
         record {
-          says = λ bound m le h. (held_table h row small its.key t its.sorted).next ds b.base b.len b.used (runs_at ds b) (sym answer ∙ ap (answer_of ds) e) refl next.leaves.room.used;
+          says = λ bound m le h. (held_table h row small its.key t its.sorted).next ds b.base b.len b.used (runs_at ds b) (sym answer ∙ ap (stored_of ds) e) refl next.leaves.room.used;
           leaves = record { base = next.leaves.base; room = next.leaves.room };
           frame = wide;
         }
@@ -106,18 +105,18 @@ module _ (limit : ℕ) (cs ds : List Cell) (a : IntMap) (row from n : ℕ) (smal
     both : (t : TableDataType) → Reached limit cs cs a a (λ m. storing t m >>= cursor) (λ m. storing t m >>= cursor)
     both t = reached_first limit cs a _ current
 
-    pub open_full : x ≡ insertion.Full → OpensTable limit cs ds a row i from n (stored.Refused 8)
-    open_full e =
+    pub open_full : (k : Refusal) → x ≡ Err k → OpensTable limit cs ds a row i from n (Err k)
+    open_full k e =
         record {
           says = λ l p t its bound m le h.
-              subst (Tells limit bound ds (stored.Refused 8)) (opened l p t m)
-              ((reached_stop (both t) ds (storing t) cursor (λ m. refl) _ (table_full t its e) 8 refl).says bound m le h);
+              subst (Tells limit bound ds (Err k)) (opened l p t m)
+              ((reached_stop (both t) ds (storing t) cursor (λ m. refl) _ (table_full t its k e) k refl).says bound m le h);
           leaves = tt;
           frame = wide;
         }
 
-    module _ (b : IntMap) (e : x ≡ insertion.Done b) where
-      next : Inserts cs ds limit a (rekey (class_key 2 row) (span cs from n)) (insertion.Done b)
+    module _ (b : IntMap) (e : x ≡ Ok b) where
+      next : Inserts cs ds limit a (rekey (class_key 2 row) (span cs from n)) (Ok b)
       next = subst (λ y. Inserts cs ds limit a (rekey (class_key 2 row) (span cs from n)) y) e ins
 
       pub next_current : IsTable limit cs from n → Current limit ds b
@@ -134,8 +133,8 @@ module _ (limit : ℕ) (cs ds : List Cell) (a : IntMap) (row from n : ℕ) (smal
           }
         where
           stays : (r : Stored) → Leaves limit es b r → Leaves limit es a r
-          stays (stored.Refused k) l = tt
-          stays (stored.Done c) l = record { base = l.base ∙ next.leaves.base; room = l.room }
+          stays (Err k) l = tt
+          stays (Ok c) l = record { base = l.base ∙ next.leaves.base; room = l.room }
 
 -- a table that alone has more cells than there may be
 pub open_large : (limit row : ℕ) (l : Listed) (t : TableDataType) (m : MemoryState) → columns_depth t.cols ≤ 8 → limit < table_cells t → open_table limit row l t m ≡ refused 8
@@ -179,7 +178,7 @@ module _ (cs es ds : List Cell) (p n h : ℕ) (c : Cell) (fits : p + (1 + n) ≤
 
   table_run : cell (head 2 0 2 0) n ∷ elems (single 0 2 0) 0 n ≡ run_table 0 (empty_table n)
   unfolding run_table
-  table_run = ap₂ (λ (k : ℕ) (l : List Cell). cell (head 2 0 2 0) k ∷ l) (sym (numbered-count 0 (replicate n null) ∙ length-replicate n null)) (sym (elem_run Null (some true) 0 n))
+  table_run = ap₂ (λ (k : ℕ) (l : List Cell). cell (head 2 0 2 0) k ∷ l) (sym (numbered-count 0 (replicate n null) ∙ length-replicate n null)) (sym (elem_run Null (Some true) 0 n))
 
   pub table_put : PutsTable cs ds p n
   unfolding span
@@ -218,7 +217,7 @@ module _ (limit : ℕ) (cs : List Cell) (a : IntMap) (row : ℕ) (x : Row) where
   unfolding cursor_arm
   arm_is meaning l s j m = ap (λ n. count_of l.p2 >>= λ c. open_table n row l (empty_table c) m) s.cells ∙ ap (λ z. counted (count_of z) l m) (sym j.p2)
 
-  pub arm_negative : x.p2 < offset → CursorArm limit cs cs a row x op_open_ephemeral (stored.Refused 6)
+  pub arm_negative : x.p2 < offset → CursorArm limit cs cs a row x op_open_ephemeral (Err Negative)
   arm_negative h =
       record {
         leads = λ meaning l s j. record {
@@ -232,7 +231,7 @@ module _ (limit : ℕ) (cs : List Cell) (a : IntMap) (row : ℕ) (x : Row) where
     arm_opens : (meaning : Meaning) (l : Listed) → Standard limit meaning → Judged l x → (m : MemoryState) → cursor_arm meaning row l m op_open_ephemeral ≡ open_table limit row l (empty_table n) m
     arm_opens meaning l s j m = arm_is meaning l s j m ∙ ap (λ t. counted t l m) (count_above x.p2 h ∙ ap done (sym ne))
 
-    pub arm_many : limit ≤ n → CursorArm limit cs cs a row x op_open_ephemeral (stored.Refused 8)
+    pub arm_many : limit ≤ n → CursorArm limit cs cs a row x op_open_ephemeral (Err TooManyCells)
     arm_many le =
         record {
           leads = λ meaning l s j. record {

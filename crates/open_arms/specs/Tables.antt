@@ -1,7 +1,7 @@
 -- A table opened from its run: stored under the number of the row that opens it, and then a cursor on it. And the run of an empty table of n
 -- columns that may be null. Assumes nothing.
-use Rattle.std.specs.Prelude.{◌≡◌, true, List, ℕ, ◌+◌, ◌≤◌}
-use Rattle.std.proofs.Math.Option.{some}
+use Rattle.intmap.specs.Store.{Stored}
+use Rattle.std.specs.Prelude.{◌≡◌, true, List, ℕ, ◌+◌, ◌≤◌, Some}
 use Rattle.model.specs.Row.{Row as Listed}
 use Rattle.model.specs.State.{TableDataType, MemoryState, from_elem, null}
 use Rattle.model.specs.Cells.{table_cells, columns_depth}
@@ -12,7 +12,6 @@ use Rattle.intmap.specs.Map.{Frame}
 use Rattle.intmap.specs.Entries.{span}
 use Rattle.intmap.specs.Signed.{int_of}
 use Rattle.intmap.specs.declared.IntMap.{IntMap}
-use Rattle.intmap.specs.declared.Stored.{Stored}
 use Rattle.encoding.specs.Encode.{run_table}
 use Rattle.state.specs.Leads.{HoldsMap, Tells, Leaves, operands}
 
@@ -35,7 +34,7 @@ pub record OpensTable (limit : ℕ) (cs ds : List Cell) (a : IntMap) (row i from
 
 -- an empty table of n columns
 abbrev pub empty_table : ℕ → TableDataType
-empty_table n = record { cols = from_elem null n; is_empty = some true }
+empty_table n = record { cols = from_elem null n; is_empty = Some true }
 
 -- its run stands at p, and nothing else has changed
 pub record PutsTable (cs ds : List Cell) (p n : ℕ) : Type 0 where

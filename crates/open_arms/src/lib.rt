@@ -15,7 +15,8 @@ ghost use Rattle.state.specs.Arms.{CursorArm};
 ghost use Rattle.open_arms.specs.Tables.{IsTable, OpensTable, PutsTable};
 
 use area::Cell;
-use intmap::{Insertion, IntMap, Stored};
+use intmap::IntMap;
+use refusal::Refusal;
 use rows::Row;
 use type_info::DataType;
 
@@ -27,12 +28,12 @@ fn insert_table(
     from: usize,
     n: usize,
     limit: usize,
-) -> Insertion
+) -> Result<IntMap, Refusal>
     requires { Current limit (cells area.old) map × (row ≤ 65535) × RunAbove (cells area.old) limit map from n }
     ensures { Inserts (cells area.old) (cells area.new) limit map (rekey (class_key 2 row) (span (cells area.old) from n)) result }
 {
-    let key = intmap::class_key(cursor_arms::TABLES, row);
-    let found = state::place_of(map, area, cursor_arms::TABLES, row);
+    let key = intmap::class_key(intmap::Class::Tables, row);
+    let found = state::place_of(map, area, intmap::Class::Tables, row);
     if found.left == 0 {
         return map.append_run(area, key, from, n, limit);
     }
@@ -48,15 +49,12 @@ pub fn open_table(
     from: usize,
     n: usize,
     limit: usize,
-) -> Stored
+) -> Result<IntMap, Refusal>
     requires { Current limit (cells area.old) map × (row ≤ 65535) × RunAbove (cells area.old) limit map from n × IsTable limit (cells area.old) from n }
     ensures { OpensTable limit (cells area.old) (cells area.new) map row i from n result }
 {
-    let x = insert_table(map, area, row, from, n, limit);
-    match x {
-        Insertion::Full => Stored::Refused(8),
-        Insertion::Done(m) => cursor_arms::store_normal(m, area, i, row, limit),
-    }
+    let m = insert_table(map, area, row, from, n, limit)?;
+    cursor_arms::store_normal(m, area, i, row, limit)
 }
 
 // Puts the run of an empty table of n columns that may be null at p.
@@ -64,7 +62,7 @@ fn put_table(area: &mut [u8], p: usize, n: usize)
     requires { Inside area.old p (1 + n) }
     ensures { PutsTable (cells area.old) (cells area.new) p n }
 {
-    let head = intmap::pack(intmap::RECORD, 0, cursor_arms::EMPTY, 0);
+    let head = intmap::pack(intmap::RECORD, 0, cursor_arms::nullable_code(Some(true)), 0);
     area::put_cell(
         area,
         p,
@@ -78,16 +76,22 @@ fn put_table(area: &mut [u8], p: usize, n: usize)
 }
 
 // OpenEphemeral, OpenAutoindex, SorterOpen: cursor P1 on an empty table of P2 columns. More columns than `limit` are refused before any is written.
-pub fn open_ephemeral(map: IntMap, area: &mut [u8], row: u64, x: Row, limit: usize) -> Stored
+pub fn open_ephemeral(
+    map: IntMap,
+    area: &mut [u8],
+    row: u64,
+    x: Row,
+    limit: usize,
+) -> Result<IntMap, Refusal>
     requires { Current limit (cells area.old) map × (row ≤ 65535) × (limit ≤ 65536) × IsRow x }
     ensures { CursorArm limit (cells area.old) (cells area.new) map row x op_open_ephemeral result }
 {
     if x.p2 < intmap::ZERO {
-        return Stored::Refused(6);
+        return Err(Refusal::Negative);
     }
     let n = (x.p2 - intmap::ZERO) as usize;
     if limit <= n {
-        return Stored::Refused(8);
+        return Err(Refusal::TooManyCells);
     }
     let from = map.base + limit;
     put_table(area, from, n);

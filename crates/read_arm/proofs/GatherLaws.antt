@@ -1,5 +1,7 @@
 -- Columns gathered along a chain of the blocks: the invariant of the loop, each turn of it, that columns which are too many stay so, and that the
 -- records of other buckets would add none. Assumes nothing.
+use Rattle.refusal.specs.declared.Refusal.{Refusal}
+use Rattle.std.specs.Prelude.{Ok, Err}
 use mathlib.Core.Path.{◌≡◌, refl, sym, ap, subst, ◌∙◌}
 use mathlib.Core.Bool.{Bool, true, false, ◌&&◌, ◌||◌}
 use mathlib.Core.Logic.{◌⊎◌, inl, inr}
@@ -10,8 +12,8 @@ use native.Mathlib.Nat.{mod-lt}
 use lib.Dec.{eqb, leb}
 use lib.IntN.{pos}
 use lib.ListN.{length, get_or}
-use borrow.Author.Tests.{leb-false, eqb-false, ne_eqb}
-use Rattle.model.specs.Walk.{Tried, refused, done}
+use borrow.Author.Tests.{eqb-false, ne_eqb}
+use Rattle.model.specs.Walk.{refused, done}
 use Rattle.model.specs.IntMap.{Entry, ◌⇒◌, insert_by, insert}
 use Rattle.model.specs.State.{ColumnType, as_columns}
 use Rattle.model.specs.Equality.{eq_int, is_zero_int}
@@ -25,46 +27,34 @@ use Rattle.intmap.specs.Pack.{tag_of, key_of}
 use Rattle.intmap.specs.Pick.{pick}
 use Rattle.intmap.specs.Entries.{Runs, entries, key_run, total}
 use Rattle.intmap.specs.Map.{levels, empty, runs_at, HasRoom, Frame}
-use Rattle.intmap.specs.Store.{put, judge_runs, answer_of, NewAt, Inserts}
+use Rattle.intmap.specs.Store.{put, judge_runs, stored_of, NewAt, Inserts, Stored}
 use Rattle.intmap.specs.Signed.{offset, int_of}
 use Rattle.intmap.specs.declared.IntMap.{IntMap}
-use Rattle.intmap.specs.declared.Insertion.{Insertion}
-use Rattle.intmap.specs.declared.Insertion.TheVariants as insertion
 use Rattle.intmap.proofs.MapLaws.{empty_room}
 use Rattle.intmap.proofs.StoreLaws.{room_map, behind_new, frame_same}
 use Rattle.intmap.proofs.SwapLaws.{Under, under_more, under-swap}
 use Rattle.intmap.proofs.Swapped.{seek_under}
 use Rattle.intmap.proofs.SignedLaws.{int_below, int_above}
+use Rattle.encoding.proofs.Accesses.{apart}
 use Rattle.encoding.specs.Encode.{column_runs}
 use Rattle.encoding.proofs.Lengths.{length-flatten, columns_length}
 use Rattle.rows.specs.declared.Row.{Row}
 use Rattle.state.proofs.LeadsLaws.{frame_then}
 use Rattle.root_block.specs.Blocks.{next_of, column_of, first_of, IsBlock, in_bucket, Chain, HasBlocks, IsBlocks}
 use Rattle.read_arm.specs.Gathers.{block_for, at_page, at_database, Gathers, GathersTo}
-use Rattle.read_arm.proofs.ColumnLaws.{number_same, column_plain, Adds, added_not, added}
+use Rattle.read_arm.proofs.ColumnLaws.{number_same, column_plain, Adds, added_not, added, judged-full}
 
 -- ---- judged runs
-
-abbrev refusal : {A : Type 0} → Tried A → ℕ
-refusal (refused k) = 1
-refusal (done a) = 0
-
-judged-full : (limit : ℕ) (rs : Runs) → refused 8 ≡ judge_runs limit rs → limit < total rs
-judged-full limit rs = by (leb (total rs) limit) refl
-  where
-    by : (b : Bool) → leb (total rs) limit ≡ b → refused 8 ≡ pick b (done rs) (refused 8) → limit < total rs
-    by true q e = absurd (omega (arith, ap refusal e))
-    by false q e = leb-false (total rs) limit q
 
 judged-done : (limit : ℕ) (old rs : Runs) → done old ≡ judge_runs limit rs → old ≡ rs
 judged-done limit old rs = by (leb (total rs) limit)
   where
     by : (b : Bool) → done old ≡ pick b (done rs) (refused 8) → old ≡ rs
     by true e = cc
-    by false e = absurd (omega (arith, ap refusal e))
+    by false e = absurd (apart 8 old (sym e))
 
 -- a cell that is stored leaves the keys below any bound that is above its own
-inserted_under : (cs ds : List Cell) (limit : ℕ) (m : IntMap) (c : Cell) (r : IntMap) (high : ℕ) → Inserts cs ds limit m (c ∷ []) (insertion.Done r) → key_of c < high → Under high (runs_at cs m) → Under high (runs_at ds r)
+inserted_under : (cs ds : List Cell) (limit : ℕ) (m : IntMap) (c : Cell) (r : IntMap) (high : ℕ) → Inserts cs ds limit m (c ∷ []) (Ok r) → key_of c < high → Under high (runs_at cs m) → Under high (runs_at ds r)
 unfolding key_run
 inserted_under cs ds limit m c r high ins less under =
     subst (Under high) (sym (judged-done limit (runs_at ds r) (put (c ∷ []) (runs_at cs m)) ins.answer)) (under-swap (key_of c) high ((c ∷ []) ∷ []) (runs_at cs m) (less, tt) under)
@@ -242,7 +232,7 @@ module _ {limit : ℕ} {cs ds : List Cell} {base : ℕ} {bs : List ℕ} {x : Row
   unfolding columns_at
   of_all records first e = ap (λ xs. as_columns (after x [] xs)) (sym e) ∙ ap as_columns (after_bucket x (length (cells bs)) [] records)
 
-  pub gathering_end : link ≤ 0 → Gathers limit cs ds base bs (at_page x) (insertion.Done m)
+  pub gathering_end : link ≤ 0 → Gathers limit cs ds base bs (at_page x) (Ok m)
   gathering_end le =
       record {
         answer = record {
@@ -275,7 +265,7 @@ module _ {limit : ℕ} {cs ds : List Cell} {base : ℕ} {bs : List ℕ} {x : Row
           let l = linked w.records w.has in
           ahead_less (length (cells bs)) link (next_of c) lt l.fits (subst (λ d. (next_of d ≡ 0) ⊎ (link < next_of d)) (sym ce) (chain_on (cells bs) link (next_of (get_or (cells bs) (link - 1) blank)) l.more l.chain))
 
-      module _ (es : List Cell) (z : Insertion) (a : Adds limit ds es m c x z) where
+      module _ (es : List Cell) (z : Stored) (a : Adds limit ds es m c x z) where
         -- the records passed then
         passed : (records : List CatalogueRecord) → HasBlocks bs records → List CatalogueRecord
         passed records h = (g.says records h).first ++ ((linked records h).one ∷ [])
@@ -287,7 +277,7 @@ module _ {limit : ℕ} {cs ds : List Cell} {base : ℕ} {bs : List ℕ} {x : Row
             let l = linked records h in
             f.all ∙ ap (λ r. f.first ++ r) l.are ∙ sym (append_assoc f.first (l.one ∷ []) l.more)
 
-        answer : (records : List CatalogueRecord) (h : HasBlocks bs records) → answer_of es z ≡ judge_runs limit (column_runs (as_columns (after x [] (passed records h))))
+        answer : (records : List CatalogueRecord) (h : HasBlocks bs records) → stored_of es z ≡ judge_runs limit (column_runs (as_columns (after x [] (passed records h))))
         unfolding columns_after passed
         answer records h =
             let f = g.says records h in
@@ -297,18 +287,21 @@ module _ {limit : ℕ} {cs ds : List Cell} {base : ℕ} {bs : List ℕ} {x : Row
         framed : Frame cs es base limit
         framed = frame_then cs ds es base limit g.frame (subst (λ p. Frame ds es p limit) g.place a.frame)
 
-        full : z ≡ insertion.Full → Gathers limit cs es base bs (at_page x) insertion.Full
-        full is =
+        full : (e : Refusal) → z ≡ Err e → Gathers limit cs es base bs (at_page x) (Err e)
+        full e is =
             record {
-              answer = λ records h.
-                  (let first = passed records h in
-                  let more = (linked records h).more in
-                  let over = judged-full limit (column_runs (as_columns (after x [] first))) (sym (ap (answer_of es) is) ∙ answer records h) in
-                  subst (λ k. limit < columns_cells k) (of_all records (first ++ more) (passed_all records h)) (omega (arith, over, more_cells x first more)));
+              answer = (
+                a.only e is,
+                λ records h.
+                    (let first = passed records h in
+                    let more = (linked records h).more in
+                    let over = (judged-full limit (column_runs (as_columns (after x [] first))) e (sym (ap (stored_of es) is) ∙ answer records h)).1 in
+                    subst (λ k. limit < columns_cells k) (of_all records (first ++ more) (passed_all records h)) (omega (arith, over, more_cells x first more))),
+              );
               frame = framed;
             }
 
-        next : (b : IntMap) (high : ℕ) → z ≡ insertion.Done b → Under high (runs_at es b) → Gathering limit cs es base bs x (next_of c) b high
+        next : (b : IntMap) (high : ℕ) → z ≡ Ok b → Under high (runs_at es b) → Gathering limit cs es base bs x (next_of c) b high
         next b high is under =
             let kept = subst (Adds limit ds es m c x) is a in
             record {
@@ -318,7 +311,7 @@ module _ {limit : ℕ} {cs ds : List Cell} {base : ℕ} {bs : List ℕ} {x : Row
                 low = link;
                 all = passed_all records h;
                 chain = subst (λ d. Chain (cells bs) link (next_of d) (linked records h).more) (sym ce) (linked records h).chain;
-                runs = judged-done limit (runs_at es b) (column_runs (as_columns (after x [] (passed records h)))) (sym (ap (answer_of es) is) ∙ answer records h);
+                runs = judged-done limit (runs_at es b) (column_runs (as_columns (after x [] (passed records h)))) (sym (ap (stored_of es) is) ∙ answer records h);
               };
               place = kept.leaves.base ∙ g.place;
               room = kept.leaves.room;
@@ -328,18 +321,18 @@ module _ {limit : ℕ} {cs ds : List Cell} {base : ℕ} {bs : List ℕ} {x : Row
 
       -- a record that is not for the row
       pub gathering_passed : block_for c x ≡ false → Gathering limit cs ds base bs x (next_of c) m bound
-      gathering_passed f = next ds (insertion.Done m) (added_not limit ds m c x f g.room) m bound refl g.under
+      gathering_passed f = next ds (Ok m) (added_not limit ds m c x f g.room) m bound refl g.under
 
       -- a key that is not below the bound belongs behind all
       pub gathering_behind : (key : ℕ) → key ≡ key_of (column_of c) → bound ≤ key → NewAt ds m (key_of (column_of c)) (m.base + m.used)
       gathering_behind key e le = behind_new (room_map g.room) (seek_under ds levels (key_of (column_of c)) m.len m.base (under_more bound (key_of (column_of c)) (runs_at ds m) (omega (arith, e)) g.under))
 
       -- a record that is for the row
-      module _ (f : block_for c x ≡ true) (es : List Cell) (z : Insertion) (ins : Inserts ds es limit m (column_of c ∷ []) z) where
-        pub gathering_full : z ≡ insertion.Full → Gathers limit cs es base bs (at_page x) insertion.Full
+      module _ (f : block_for c x ≡ true) (es : List Cell) (z : Stored) (ins : Inserts ds es limit m (column_of c ∷ []) z) where
+        pub gathering_full : (e : Refusal) → z ≡ Err e → Gathers limit cs es base bs (at_page x) (Err e)
         gathering_full = full es z (added limit ds m c x f es z ins)
 
-        pub gathering_added : (b : IntMap) (high : ℕ) → z ≡ insertion.Done b → key_of (column_of c) < high → bound ≤ high → Gathering limit cs es base bs x (next_of c) b high
+        pub gathering_added : (b : IntMap) (high : ℕ) → z ≡ Ok b → key_of (column_of c) < high → bound ≤ high → Gathering limit cs es base bs x (next_of c) b high
         gathering_added b high is less more =
             next es z (added limit ds m c x f es z ins) b high is
             (inserted_under ds es limit m (column_of c) b high (subst (Inserts ds es limit m (column_of c ∷ [])) is ins) less (under_more bound high (runs_at ds m) more g.under))
@@ -375,10 +368,10 @@ module _ (x : Row) where
       by (suc (suc n)) l = absurd (omega arith)
 
   module _ (limit : ℕ) (cs : List Cell) (base : ℕ) (t : List ℕ) where
-    pub no_database : is_database ≡ false → (m : IntMap) → base + limit ≤ length cs → length cs ≤ 1048576 → m ≡ empty base → Gathers limit cs cs base t (at_database x) (insertion.Done m)
+    pub no_database : is_database ≡ false → (m : IntMap) → base + limit ≤ length cs → length cs ≤ 1048576 → m ≡ empty base → Gathers limit cs cs base t (at_database x) (Ok m)
     unfolding entries column_runs
     no_database h m fits small e =
-        subst (λ n. Gathers limit cs cs base t (at_database x) (insertion.Done n)) (sym e)
+        subst (λ n. Gathers limit cs cs base t (at_database x) (Ok n)) (sym e)
         (record {
           answer = record {
             runs = λ records read. ap (λ b. column_runs (columns_if b (at_page x records))) (sym h);
@@ -388,5 +381,5 @@ module _ (x : Row) where
           frame = frame_same cs cs base limit refl;
         })
 
-    pub the_database : is_database ≡ true → (ds : List Cell) (r : Insertion) → Gathers limit cs ds base t (at_page x) r → Gathers limit cs ds base t (at_database x) r
+    pub the_database : is_database ≡ true → (ds : List Cell) (r : Stored) → Gathers limit cs ds base t (at_page x) r → Gathers limit cs ds base t (at_database x) r
     the_database h ds r g = record { answer = subst (λ b. GathersTo limit ds base t (λ records. columns_if b (at_page x records)) r) (sym h) g.answer; frame = g.frame }

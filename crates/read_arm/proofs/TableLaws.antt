@@ -1,7 +1,9 @@
 -- The table of the gathered columns, its run, and the arm. Assumes nothing.
+use Rattle.refusal.specs.declared.Refusal.TheVariants.{TooManyCells}
+use Rattle.refusal.specs.declared.Refusal.{Refusal}
 use mathlib.Core.Path.{◌≡◌, refl, sym, ap, ap₂, subst, ◌∙◌}
 use mathlib.Core.Bool.{Bool, true, false, ◌||◌}
-use mathlib.Core.Option.{none}
+use Rattle.std.specs.Prelude.{None, Ok, Err}
 use mathlib.Core.List.{List, [], ◌∷◌}
 use Prim.Native.Nat.{ℕ, suc, ◌+◌, ◌-◌, ◌<◌, ◌≤◌}
 use native.Mathlib.Omega.{arith}
@@ -25,13 +27,9 @@ use Rattle.area.specs.declared.Cell.{Cell}
 use Rattle.intmap.specs.Pack.{head}
 use Rattle.intmap.specs.Entries.{total, span}
 use Rattle.intmap.specs.Map.{levels, Frame}
-use Rattle.intmap.specs.Store.{RunAbove}
+use Rattle.intmap.specs.Store.{RunAbove, Stored}
 use Rattle.intmap.specs.Signed.{int_of}
 use Rattle.intmap.specs.declared.IntMap.{IntMap}
-use Rattle.intmap.specs.declared.Insertion.{Insertion}
-use Rattle.intmap.specs.declared.Insertion.TheVariants as insertion
-use Rattle.intmap.specs.declared.Stored.{Stored}
-use Rattle.intmap.specs.declared.Stored.TheVariants as stored
 use Rattle.intmap.proofs.EntryLaws.{span_same, length-span, total-sizes, entries-count}
 use Rattle.intmap.proofs.StoreLaws.{frame_same}
 use Rattle.encoding.specs.Encode.{count, column_runs, run_columns, run_table}
@@ -55,7 +53,7 @@ small_columns (x ∷ xs) (all_cons h more) = (h.col_small, small_columns xs more
 
 -- a table of which it is not known whether it is empty
 abbrev table : Columns → TableDataType
-table c = record { cols = c; is_empty = none }
+table c = record { cols = c; is_empty = None }
 
 module _ (limit : ℕ) (x : Row) where
   arm_is : (row : ℕ) (meaning : Meaning) (records : List CatalogueRecord) (l : Listed) → Standard limit meaning → ((db page : ℤ) → meaning.columns_for db page ≡ columns_at records db page) → Judged l x → (m : MemoryState) → cursor_arm meaning row l m op_open_read ≡ open_table limit row l (table (at_database x records)) m
@@ -81,7 +79,7 @@ module _ (t : List ℕ) (x : Row) (records : List CatalogueRecord) where
 
 module _ (limit : ℕ) (cs : List Cell) (a : IntMap) (t : List ℕ) (x : Row) where
   -- a table that alone has more cells than there may be
-  stops : (row : ℕ) (ds : List Cell) → Frame cs ds a.base (limit + limit) → ((records : List CatalogueRecord) → HasBlocks t records → limit < table_cells (table (at_database x records))) → ReadsTable limit cs ds a t row x (stored.Refused 8)
+  stops : (row : ℕ) (ds : List Cell) → Frame cs ds a.base (limit + limit) → ((records : List CatalogueRecord) → HasBlocks t records → limit < table_cells (table (at_database x records))) → ReadsTable limit cs ds a t row x (Err TooManyCells)
   stops row ds f large =
       record {
         leads = λ meaning records l s read columns j. record {
@@ -91,21 +89,22 @@ module _ (limit : ℕ) (cs : List Cell) (a : IntMap) (t : List ℕ) (x : Row) wh
         };
       }
 
-  pub arm_none : (row : ℕ) → limit ≡ 0 → ReadsTable limit cs cs a t row x (stored.Refused 8)
+  pub arm_none : (row : ℕ) → limit ≡ 0 → ReadsTable limit cs cs a t row x (Err TooManyCells)
   unfolding table_cells
   arm_none row h = stops row cs (frame_same cs cs a.base (limit + limit) refl) (λ records read. omega arith)
 
-  module _ (some-room : limit ≡ 0 → ⊥) (ds : List Cell) (y : Insertion) (g : Gathers (limit - 1) cs ds (a.base + limit + 1) t (at_database x) y) where
+  module _ (some-room : limit ≡ 0 → ⊥) (ds : List Cell) (y : Stored) (g : Gathers (limit - 1) cs ds (a.base + limit + 1) t (at_database x) y) where
     behind : Frame cs ds (a.base + limit) limit
     behind = frame-within cs ds (a.base + limit + 1) (limit - 1) (a.base + limit) limit (omega arith) (omega arith) g.frame
 
-    pub arm_full : (row : ℕ) → y ≡ insertion.Full → ReadsTable limit cs ds a t row x (stored.Refused 8)
+    pub arm_full : (row : ℕ) (k : Refusal) → y ≡ Err k → ReadsTable limit cs ds a t row x (Err k)
     unfolding table_cells
-    arm_full row e =
+    arm_full row k e =
         let h = subst (Gathers (limit - 1) cs ds (a.base + limit + 1) t (at_database x)) e g in
-        stops row ds (frame-within cs ds (a.base + limit) limit a.base (limit + limit) (omega arith) (omega arith) behind) (λ records read. omega (arith, h.answer records read))
+        subst (λ n. ReadsTable limit cs ds a t row x (Err n)) (sym h.answer.0)
+        (stops row ds (frame-within cs ds (a.base + limit) limit a.base (limit + limit) (omega arith) (omega arith) behind) (λ records read. omega (arith, h.answer.1 records read)))
 
-    module _ (m : IntMap) (e : y ≡ insertion.Done m) where
+    module _ (m : IntMap) (e : y ≡ Ok m) where
       got : Gathered (limit - 1) ds (a.base + limit + 1) t (at_database x) m
       got = (subst (Gathers (limit - 1) cs ds (a.base + limit + 1) t (at_database x)) e g).answer
 

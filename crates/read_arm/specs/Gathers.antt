@@ -1,6 +1,8 @@
 -- OpenRead and OpenWrite: the columns that the catalogue's records have for a row's database and page, gathered in the area as runs in the order
 -- of their numbers, and the arm. P3 is the database and P2 the page. The records are in the blocks' bytes. Assumes nothing.
-use Rattle.std.specs.Prelude.{◌≡◌, Bool, ◌&&◌, ◌||◌, List, ℕ, ◌<◌, ℤ, pos}
+use Rattle.refusal.specs.declared.Refusal.TheVariants.{TooManyCells}
+use Rattle.intmap.specs.Store.{Stored}
+use Rattle.std.specs.Prelude.{◌≡◌, Bool, ◌&&◌, ◌||◌, List, ℕ, ◌<◌, ℤ, pos, Ok, Err}
 use Rattle.model.specs.Row.{Row as Listed}
 use Rattle.model.specs.State.{Columns}
 use Rattle.model.specs.Equality.{eq_int, is_zero_int}
@@ -13,9 +15,6 @@ use Rattle.area.specs.declared.Cell.{Cell}
 use Rattle.intmap.specs.Map.{runs_at, HasRoom, Frame}
 use Rattle.intmap.specs.Signed.{int_of}
 use Rattle.intmap.specs.declared.IntMap.{IntMap}
-use Rattle.intmap.specs.declared.Insertion.{Insertion}
-use Rattle.intmap.specs.declared.Insertion.TheVariants as insertion
-use Rattle.intmap.specs.declared.Stored.{Stored}
 use Rattle.encoding.specs.Encode.{column_runs}
 use Rattle.rows.specs.Judged.{Judged}
 use Rattle.rows.specs.declared.Row.{Row}
@@ -41,11 +40,11 @@ pub record Gathered (limit : ℕ) (ds : List Cell) (base : ℕ) (t : List ℕ) (
   pub room : HasRoom ds limit m
 
 -- or they are more than `limit` cells
-abbrev pub GathersTo : ℕ → List Cell → ℕ → List ℕ → (List CatalogueRecord → Columns) → Insertion → Type 0
-GathersTo limit ds base t f insertion.Full = (records : List CatalogueRecord) → HasBlocks t records → limit < columns_cells (f records)
-GathersTo limit ds base t f (insertion.Done m) = Gathered limit ds base t f m
+abbrev pub GathersTo : ℕ → List Cell → ℕ → List ℕ → (List CatalogueRecord → Columns) → Stored → Type 0
+GathersTo limit ds base t f (Err e) = (e ≡ TooManyCells) × ((records : List CatalogueRecord) → HasBlocks t records → limit < columns_cells (f records))
+GathersTo limit ds base t f (Ok m) = Gathered limit ds base t f m
 
-pub record Gathers (limit : ℕ) (cs ds : List Cell) (base : ℕ) (t : List ℕ) (f : List CatalogueRecord → Columns) (r : Insertion) : Type 0 where
+pub record Gathers (limit : ℕ) (cs ds : List Cell) (base : ℕ) (t : List ℕ) (f : List CatalogueRecord → Columns) (r : Stored) : Type 0 where
   pub answer : GathersTo limit ds base t f r
   pub frame : Frame cs ds base limit
 

@@ -13,7 +13,8 @@ ghost use Rattle.root_block.specs.Blocks.{IsBlocks};
 ghost use Rattle.read_arm.specs.Gathers.{block_for, at_page, at_database, Gathers, ReadsTable};
 
 use area::Cell;
-use intmap::{Insertion, IntMap, Stored};
+use intmap::IntMap;
+use refusal::Refusal;
 use rows::Row;
 
 // Whether a record's database and page are the row's.
@@ -40,13 +41,20 @@ fn is_block_for(c: Cell, x: Row) -> bool
 // Gathers the columns of the row's database and page from `base` on, in at most `limit` cells: a later record takes the place of an earlier one
 // for the same column. All keys in the map are below `bound`, so a column that is not goes behind all with no search: most records come in the
 // order of their columns.
-fn columns_at(area: &mut [u8], blocks: &[u8], base: usize, x: Row, limit: usize) -> Insertion
+fn columns_at(
+    area: &mut [u8],
+    blocks: &[u8],
+    base: usize,
+    x: Row,
+    limit: usize,
+) -> Result<IntMap, Refusal>
     requires { (base + limit ≤ length (cells area.old)) × (length (cells area.old) ≤ 1048576) × IsBlocks blocks.now }
     ensures { Gathers limit (cells area.old) (cells area.new) base blocks.now (at_page x) result }
 {
     let mut m = IntMap::new(base);
     let mut bound: u64 = 0;
     let mut link = root_block::first_link(blocks, x.p2);
+    // No `for`: a block tells where the next one is.
     while 0 < link {
         let c = area::cell_at(blocks, link - 1);
         link = (c.payload / root_block::LINK) as usize;
@@ -59,31 +67,31 @@ fn columns_at(area: &mut [u8], blocks: &[u8], base: usize, x: Row, limit: usize)
         };
         let key = intmap::key_of(column);
         if bound <= key {
-            let Insertion::Done(b) = m.insert_new(area, m.base + m.used, column, limit) else {
-                return Insertion::Full;
-            };
-            m = b;
+            m = m.insert_new(area, m.base + m.used, column, limit)?;
             bound = key + 1;
             continue;
         }
-        let Insertion::Done(b) = m.insert_cell(area, column, limit) else {
-            return Insertion::Full;
-        };
-        m = b;
+        m = m.insert_cell(area, column, limit)?;
     }
-    Insertion::Done(m)
+    Ok(m)
 }
 
 // The same, and none if P3 is no database.
-fn opened_columns(area: &mut [u8], blocks: &[u8], base: usize, x: Row, limit: usize) -> Insertion
+fn opened_columns(
+    area: &mut [u8],
+    blocks: &[u8],
+    base: usize,
+    x: Row,
+    limit: usize,
+) -> Result<IntMap, Refusal>
     requires { (base + limit ≤ length (cells area.old)) × (length (cells area.old) ≤ 1048576) × IsBlocks blocks.now }
     ensures { Gathers limit (cells area.old) (cells area.new) base blocks.now (at_database x) result }
 {
     if x.p3 < intmap::ZERO {
-        return Insertion::Done(IntMap::new(base));
+        return Ok(IntMap::new(base));
     }
     if intmap::ZERO + 1 < x.p3 {
-        return Insertion::Done(IntMap::new(base));
+        return Ok(IntMap::new(base));
     }
     columns_at(area, blocks, base, x, limit)
 }
@@ -96,28 +104,17 @@ pub fn open_read(
     row: u64,
     x: Row,
     limit: usize,
-) -> Stored
+) -> Result<IntMap, Refusal>
     requires { Current limit (cells area.old) map × (row ≤ 65535) × (limit ≤ 65535) × IsRow x × IsBlocks blocks.now }
     ensures { ReadsTable limit (cells area.old) (cells area.new) map blocks.now row x result }
 {
     if limit == 0 {
-        return Stored::Refused(8);
+        return Err(Refusal::TooManyCells);
     }
     let from = map.base + limit;
-    let y = opened_columns(area, blocks, from + 1, x, limit - 1);
-    match y {
-        Insertion::Full => Stored::Refused(8),
-        Insertion::Done(m) => {
-            let head = intmap::pack(intmap::RECORD, 0, cursor_arms::MAYBE_EMPTY, 0);
-            area::put_cell(
-                area,
-                from,
-                Cell {
-                    head,
-                    payload: m.len,
-                },
-            );
-            open_arms::open_table(map, area, row, x.p1, from, 1 + m.used, limit)
-        }
-    }
+    let m = opened_columns(area, blocks, from + 1, x, limit - 1)?;
+    let head = intmap::pack(intmap::RECORD, 0, cursor_arms::nullable_code(None), 0);
+    let payload = m.len;
+    area::put_cell(area, from, Cell { head, payload });
+    open_arms::open_table(map, area, row, x.p1, from, 1 + m.used, limit)
 }

@@ -1,21 +1,22 @@
 -- The record's run is built column after column: that of a register, absent or present, stands behind those that stand already; then its head.
 -- Assumes nothing.
+use Rattle.state.proofs.LeadsLaws.{frame-within, frame_then}
 use mathlib.Core.Path.{◌≡◌, refl, sym, ap, ap₂, subst, ◌∙◌}
 use mathlib.Core.Bool.{Bool, true, false}
-use mathlib.Core.Option.{some}
+use Rattle.std.specs.Prelude.{Some, None, Option}
 use mathlib.Core.List.{List, [], ◌∷◌, flatten}
 use Prim.Native.Nat.{ℕ, zero, suc, ◌+◌, ◌-◌, ◌<◌, ◌≤◌}
 use native.Mathlib.Omega.{arith}
 use lib.Dec.{eqb}
 use lib.ListN.{length, get_or, set, length-set}
 use lib.Seq.{get_or-set_same, get_or-set_other}
-use borrow.Author.Tests.{eqb-true, eq-eqb, ne_eqb}
+use borrow.Author.Tests.{eqb-true}
 use Rattle.area.specs.Cells.{cell, blank}
 use Rattle.area.specs.Moves.{moved}
 use Rattle.area.specs.declared.Cell.{Cell}
 use Rattle.intmap.specs.Pack.{head, tag_of, with_key, class_key}
 use Rattle.intmap.specs.Pick.{pick}
-use Rattle.intmap.specs.Runs.{size, sizes, Agree}
+use Rattle.intmap.specs.Runs.{size, sizes, Agree, IsColumn}
 use Rattle.intmap.specs.Entries.{Runs, span, entries, total}
 use Rattle.intmap.specs.Find.{seek}
 use Rattle.intmap.specs.Swap.{lookup}
@@ -36,23 +37,13 @@ use Rattle.encoding.specs.Changes.{column_run}
 use Rattle.encoding.proofs.Standing.{entries_flat}
 use Rattle.state.specs.Leads.{Current}
 use Rattle.record_arms.specs.Records.{runs_from, Flat, Puttable, Ahead, PutOr, PutsColumn, Laid, LaidOr, PutsColumns, BuildsRecord}
-use Rattle.record_arms.specs.declared.Room.{Room}
-use Rattle.record_arms.specs.declared.Room.TheVariants as room
-use Rattle.record_arms.specs.declared.Step.{Step}
-use Rattle.record_arms.specs.declared.Step.TheVariants as step
+use Rattle.record_arms.specs.declared.Progress.{Progress}
 use Rattle.record_arms.proofs.SearchLaws.{seek_left, ahead_there, ahead_behind}
 
 -- ---- frames
 
 pub frame-none : (cs : List Cell) (base n : ℕ) → Frame cs cs base n
 frame-none cs base n = record { long = refl; below = λ j lt. refl; above = λ j le. refl }
-
-pub frame-within : (cs ds : List Cell) (inner few base n : ℕ) → base ≤ inner → inner + few ≤ base + n → Frame cs ds inner few → Frame cs ds base n
-frame-within cs ds inner few base n low high f = record { long = f.long; below = λ j lt. f.below j (omega arith); above = λ j le. f.above j (omega arith) }
-
-pub frame_then : (cs ds es : List Cell) (base n : ℕ) → Frame cs ds base n → Frame ds es base n → Frame cs es base n
-frame_then cs ds es base n f g =
-    record { long = g.long ∙ f.long; below = λ j lt. g.below j lt ∙ f.below j lt; above = λ j le. g.above j le ∙ f.above j le }
 
 pub frame-set : (cs ds : List Cell) (p : ℕ) (c : Cell) → ds ≡ set cs p c → Frame cs ds p 1
 frame-set cs ds p c e =
@@ -63,12 +54,6 @@ frame-set cs ds p c e =
     }
 
 -- ---- a head changed
-
-pub column_int : (c x : Cell) → tag_of c ≡ 3 → x ≡ single 1 1 0 → x ≡ as_column c
-column_int c x t e = e ∙ sym (ap (λ b. pick b (cell (head 1 1 1 0) 0) c) (eq-eqb (tag_of c) 3 t))
-
-pub column_other : (c : Cell) → (tag_of c ≡ 3 → ⊥) → c ≡ as_column c
-column_other c t = sym (ap (λ b. pick b (cell (head 1 1 1 0) 0) c) (ne_eqb (tag_of c) 3 t))
 
 pub rekey_twice : (key : ℕ) (c : Cell) → with_key key (with_key 0 c) ≡ with_key key c
 rekey_twice key c = ap (λ h. cell h c.payload) (omega arith)
@@ -98,7 +83,7 @@ module _ (es ds : List Cell) (q key : ℕ) (fits : q < length es) (is : ds ≡ s
       ap₂ (λ (c : Cell) (l : List Cell). c ∷ l) (headed ∙ sym (rekey_twice key (as_column was)))
       (span_same es ds n (q + 1) (q + 1) (λ j h. ap (λ l. get_or l (q + 1 + j) blank) is ∙ get_or-set_other es q (q + 1 + j) (with_key key (as_column was)) blank (omega arith)))
 
-column_long : (run : List Cell) → length (column_run (some run)) ≡ length run
+column_long : (run : List Cell) → length (column_run (Some run)) ≡ length run
 column_long [] = refl
 column_long (c ∷ run) = refl
 
@@ -120,7 +105,7 @@ module _ (cs : List Cell) (at left k key to end : ℕ) (ok : Puttable cs at left
     unfolding run_column
     its_one = ap column_run (seek_none cs levels (class_key 0 k) left at (present_is false e))
 
-    pub absent_full : end ≤ to → PutsColumn cs cs at left k key to end step.Full
+    pub absent_full : end ≤ to → PutsColumn cs cs at left k key to end None
     absent_full h = record { answer = omega (arith, ap length its_one); frame = frame-none cs to (end - to) }
 
     module _ (ds : List Cell) (c x : Cell) (ce : c ≡ single 0 0 0) (xe : x ≡ with_key key c) (de : ds ≡ set cs to x) (lt : to < end) where
@@ -134,7 +119,7 @@ module _ (cs : List Cell) (at left k key to end : ℕ) (ok : Puttable cs at left
       unfolding span
       default_span = ap (λ y. y ∷ []) default_here
 
-      pub absent_put : PutsColumn cs ds at left k key to end (step.Next (to + 1) w.at w.left)
+      pub absent_put : PutsColumn cs ds at left k key to end (Some (record { to = to + 1; at = w.at; left = w.left }))
       absent_put =
           record {
             answer = (
@@ -149,20 +134,23 @@ module _ (cs : List Cell) (at left k key to end : ℕ) (ok : Puttable cs at left
     pub present_within : w.at + size cs levels w.at ≤ to
     present_within = omega (arith, found-whole cs levels found left at w we e, ok.below)
 
+    pub present_column : IsColumn cs levels w.at
+    present_column = record { fits = omega (arith, present_within, ok.ordered, ok.fits); small = ok.small }
+
     pub present_left : 0 < w.left
     present_left = subst (λ (v : Found). 0 < v.left) (sym there) (seek_left cs levels (class_key 0 k) left at (present_is true e))
 
     -- and takes n cells
     module _ (n : ℕ) (counted : n ≡ size cs levels w.at) where
-      run_found : lookup (class_key 0 k) runs ≡ some (span cs w.at n)
+      run_found : lookup (class_key 0 k) runs ≡ Some (span cs w.at n)
       run_found =
           seek_some cs levels (class_key 0 k) left at (present_is true e)
-          ∙ ap (λ (v : Found). some (span cs v.at (size cs levels v.at))) (sym there) ∙ ap (λ z. some (span cs w.at z)) (sym counted)
+          ∙ ap (λ (v : Found). Some (span cs v.at (size cs levels v.at))) (sym there) ∙ ap (λ z. Some (span cs w.at z)) (sym counted)
 
       present_some : 0 < n
       present_some = omega (arith, size-pos cs levels w.at)
 
-      its_run : column_run (lookup (class_key 0 k) runs) ≡ column_run (some (span cs w.at n))
+      its_run : column_run (lookup (class_key 0 k) runs) ≡ column_run (Some (span cs w.at n))
       its_run = ap column_run run_found
 
       behind : Ahead cs at left k (w.at + n) (w.left - 1)
@@ -170,7 +158,7 @@ module _ (cs : List Cell) (at left k key to end : ℕ) (ok : Puttable cs at left
           subst (λ z. Ahead cs at left k (w.at + z) (w.left - 1)) (sym counted)
           (subst (λ (v : Found). Ahead cs at left k (v.at + size cs levels v.at) (v.left - 1)) (sym there) (ahead_behind cs at left k (present_is true e)))
 
-      pub present_full : end < to + n → PutsColumn cs cs at left k key to end step.Full
+      pub present_full : end < to + n → PutsColumn cs cs at left k key to end None
       present_full h =
           record {
             answer = omega (arith, ap length its_run, column_long (span cs w.at n), length-span cs w.at n);
@@ -202,7 +190,7 @@ module _ (cs : List Cell) (at left k key to end : ℕ) (ok : Puttable cs at left
         put_size : size ds 8 to ≡ n
         put_size = head_size es ds to key inside written 8 ∙ moved_size
 
-        pub present_put : PutsColumn cs ds at left k key to end (step.Next (to + n) (w.at + n) (w.left - 1))
+        pub present_put : PutsColumn cs ds at left k key to end (Some (record { to = to + n; at = w.at + n; left = w.left - 1 }))
         present_put =
             record {
               answer = (
@@ -294,7 +282,7 @@ module _ (cs ds : List Cell) (es : Runs) (first k low end to at left : ℕ) (goi
       }
 
   -- a turn
-  module _ (fs : List Cell) (x : Step) (puts : PutsColumn ds fs at left (first + k) k to end x) where
+  module _ (fs : List Cell) (x : Option Progress) (puts : PutsColumn ds fs at left (first + k) k to end x) where
     framed : Frame cs fs low (end - low)
     framed =
         frame_then cs ds fs low (end - low) going.frame
@@ -303,7 +291,7 @@ module _ (cs ds : List Cell) (es : Runs) (first k low end to at left : ℕ) (goi
     its_column : column_run (lookup (class_key 0 (first + k)) (entries ds levels left at)) ≡ column_run (lookup (class_key 0 (first + k)) es)
     its_column = ap column_run (going.same (first + k) (omega arith))
 
-    pub going_full : (n : ℕ) → k < n → x ≡ step.Full → PutsColumns cs fs es first n low end room.Full
+    pub going_full : (n : ℕ) → k < n → x ≡ None → PutsColumns cs fs es first n low end None
     going_full n lt e =
         let over : end < to + length (column_run (lookup (class_key 0 (first + k)) (entries ds levels left at))) = subst (PutOr ds fs at left (first + k) k to end) e puts.answer in
         record {
@@ -311,8 +299,8 @@ module _ (cs ds : List Cell) (es : Runs) (first k low end to at left : ℕ) (goi
           frame = framed;
         }
 
-    module _ (q p l : ℕ) (e : x ≡ step.Next q p l) where
-      told : PutOr ds fs at left (first + k) k to end (step.Next q p l)
+    module _ (w : Progress) (e : x ≡ Some w) where
+      told : PutOr ds fs at left (first + k) k to end (Some w)
       told = subst (PutOr ds fs at left (first + k) k to end) e puts.answer
 
       kept : Agree ds low fs low (sizes (size ds 8) k low)
@@ -324,7 +312,7 @@ module _ (cs ds : List Cell) (es : Runs) (first k low end to at left : ℕ) (goi
       ends_kept : low + sizes (size fs 8) k low ≡ to
       ends_kept = omega (arith, sizes_kept, going.laid.ends)
 
-      laid_on : Laid fs es first (suc k) low end q
+      laid_on : Laid fs es first (suc k) low end w.to
       laid_on =
           let y : 0 + k ≡ k = omega arith in
           let f = ap (size fs 8) ends_kept in
@@ -336,23 +324,20 @@ module _ (cs ds : List Cell) (es : Runs) (first k low end to at left : ℕ) (goi
                 (told.0.run ∙ ap (rekey k) its_column ∙ ap (λ t. rekey t (column_run (lookup (class_key 0 (first + k)) es))) (sym y));
           }
 
-      rest_kept : Agree ds p fs p (sizes (size ds levels) l p)
-      rest_kept i lt = puts.frame.below (p + i) (omega (arith, told.1.below, going.below, going.laid.ends))
+      rest_kept : Agree ds w.at fs w.at (sizes (size ds levels) w.left w.at)
+      rest_kept i lt = puts.frame.below (w.at + i) (omega (arith, told.1.below, going.below, going.laid.ends))
 
-      pub going_on : Going cs fs es first (k + 1) low end q p l
+      pub going_on : Going cs fs es first (k + 1) low end w.to w.at w.left
       going_on =
-          let s = sizes_same (size ds levels) (size fs levels) ds fs (size_same ds fs levels) l p p rest_kept in
+          let s = sizes_same (size ds levels) (size fs levels) ds fs (size_same ds fs levels) w.left w.at w.at rest_kept in
           let z : suc k ≡ k + 1 = omega arith in
           record {
-            laid = subst (λ m. Laid fs es first m low end q) z laid_on;
+            laid = subst (λ m. Laid fs es first m low end w.to) z laid_on;
             below = omega (arith, s, told.1.below, going.below);
             same = λ j h.
-                (ap (lookup (class_key 0 j)) (entries-same ds fs levels l p p rest_kept) ∙ told.1.same j (omega arith) ∙ going.same j (omega arith));
+                (ap (lookup (class_key 0 j)) (entries-same ds fs levels w.left w.at w.at rest_kept) ∙ told.1.same j (omega arith) ∙ going.same j (omega arith));
             frame = framed;
           }
-
-  pub going_end : (n : ℕ) → k ≡ n → PutsColumns cs ds es first n low end (room.At to)
-  going_end n e = record { answer = subst (λ m. Laid ds es first m low end to) e going.laid; frame = going.frame }
 
 -- ---- the record
 
@@ -387,7 +372,7 @@ module _ (cs ds fs : List Cell) (a : IntMap) (k n limit q : ℕ) (laid : Laid ds
         let z : 1 + sizes (size fs 8) n (p + 1) ≡ suc (sizes (size fs 8) n (p + 1)) = omega arith in
         rw z (ap₂ (λ (c : Cell) (l : List Cell). c ∷ l) head_there (sym (entries_flat fs 8 n (p + 1)) ∙ ap (λ l. flatten l) same_runs))
 
-    record_built : 0 < limit → BuildsRecord cs fs a k n limit (room.At p)
+    record_built : 0 < limit → BuildsRecord cs fs a k n limit (Some p)
     record_built lt =
         record {
           answer = record { above = omega arith; ends = omega (arith, record_size, same_sizes, laid.ends, laid.within); run = ap (span fs p) record_size ∙ record_span };
@@ -397,17 +382,9 @@ module _ (cs ds fs : List Cell) (a : IntMap) (k n limit q : ℕ) (laid : Laid ds
         }
 
 -- in the words of the code
-module _ (cs ds : List Cell) (a : IntMap) (k n limit : ℕ) (current : Current limit cs a) (lt : 0 < limit) (x : Room) (puts : PutsColumns cs ds (runs_at cs a) k n (a.base + limit + 1) (a.base + limit + limit) x) where
-  pub columns_full : x ≡ room.Full → BuildsRecord cs ds a k n limit room.Full
-  columns_full e =
-      let over : a.base + limit + limit < a.base + limit + 1 + total (runs_from n k (runs_at cs a)) = subst (LaidOr ds (runs_at cs a) k n (a.base + limit + 1) (a.base + limit + limit)) e puts.answer in
-      record {
-        answer = omega arith;
-        frame = frame-within cs ds (a.base + limit + 1) (a.base + limit + limit - (a.base + limit + 1)) (a.base + limit) limit (omega arith) (omega arith) puts.frame;
-      }
-
+module _ (cs ds : List Cell) (a : IntMap) (k n limit : ℕ) (current : Current limit cs a) (lt : 0 < limit) (x : Option ℕ) (puts : PutsColumns cs ds (runs_at cs a) k n (a.base + limit + 1) (a.base + limit + limit) x) where
   pub columns_inside : a.base + limit < length ds
   columns_inside = omega (arith, puts.frame.long, current.scratch)
 
-  pub columns_built : (q : ℕ) → x ≡ room.At q → (fs : List Cell) → fs ≡ set ds (a.base + limit) (cell 2 n) → BuildsRecord cs fs a k n limit (room.At (a.base + limit))
+  pub columns_built : (q : ℕ) → x ≡ Some q → (fs : List Cell) → fs ≡ set ds (a.base + limit) (cell 2 n) → BuildsRecord cs fs a k n limit (Some (a.base + limit))
   columns_built q e fs written = record_built cs ds fs a k n limit q (subst (LaidOr ds (runs_at cs a) k n (a.base + limit + 1) (a.base + limit + limit)) e puts.answer) columns_inside puts.frame written lt

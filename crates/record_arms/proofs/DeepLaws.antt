@@ -2,7 +2,8 @@
 -- and in a state that the cells hold it is the depth of the record. Assumes nothing.
 use mathlib.Core.Path.{◌≡◌, refl, sym, ap, subst, ◌∙◌}
 use mathlib.Core.Bool.{Bool, true, false, false≢true}
-use mathlib.Core.Option.{some, none-ne-some}
+use Rattle.std.specs.Prelude.{Some}
+use Rattle.std.proofs.lemmas.Option.{none-some}
 use mathlib.Core.List.{List, [], ◌∷◌, ◌++◌}
 use Prim.Native.Nat.{ℕ, zero, suc, ◌+◌, ◌-◌, ◌<◌, ◌≤◌}
 use native.Mathlib.Omega.{arith}
@@ -19,13 +20,13 @@ use Rattle.area.specs.Cells.{blank}
 use Rattle.area.specs.declared.Cell.{Cell}
 use Rattle.intmap.specs.Pack.{tag_of, key_of, class_key}
 use Rattle.intmap.specs.Pick.{pick}
-use Rattle.intmap.specs.Runs.{size, Agree}
+use Rattle.intmap.specs.Runs.{size, Agree, sizes, IsColumn}
 use Rattle.intmap.specs.Depth.{nesting}
 use Rattle.intmap.specs.Entries.{Runs, span, entries, key_run}
 use Rattle.intmap.specs.Find.{place, seek}
 use Rattle.intmap.specs.Map.{levels, runs_at}
 use Rattle.intmap.specs.declared.IntMap.{IntMap}
-use Rattle.intmap.proofs.RunLaws.{size-pos}
+use Rattle.intmap.proofs.RunLaws.{size-pos, sizes_step}
 use Rattle.intmap.proofs.EntryLaws.{key-span, length-span}
 use Rattle.intmap.proofs.SameCells.{size_same}
 use Rattle.intmap.proofs.DepthLaws.{nesting-single, size_deep}
@@ -159,6 +160,10 @@ module _ (cs : List Cell) (low high : ℕ) where
           let same = eqb-true (key_of (get_or cs at blank)) key f in
           not_deep cs low at (picked (deep_at cs low at) (any_deep cs low high n (at + size cs levels at)) (sym (below n at (omega arith)) ∙ e)).0 (omega arith)
 
+-- the first of n entries that lie within the area is a column
+pub one_column : (cs : List Cell) (n at : ℕ) → 0 < n → at + sizes (size cs levels) n at ≤ length cs → length cs ≤ 1048576 → IsColumn cs levels at
+one_column cs n at some fits small = record { fits = omega (arith, sizes_step (size cs levels) n at some, fits); small = small }
+
 -- ---- as long one level lower
 
 span_agree : (cs ds : List Cell) (n p q : ℕ) → span ds q n ≡ span cs p n → Agree cs p ds q n
@@ -194,9 +199,9 @@ module _ (cs : List Cell) (a : IntMap) (first end : ℕ) (flat : any_deep cs (cl
           let is : span cs at (size cs levels at) ≡ run = same (sym (seek_some cs levels its a.len a.base f) ∙ e) in
           subst (λ r. Stands es p r → size es 8 p ≡ length r) is (flat_run cs at (found_flat cs (class_key 0 first) (class_key 0 end) its a.len a.base (omega arith) (omega arith) flat f) es p) st
         where
-          same : {x y : List Cell} → some x ≡ some y → x ≡ y
+          same : {x y : List Cell} → Some x ≡ Some y → x ≡ y
           same e = cc
-      go false f es p st = absurd (none-ne-some run (sym (seek_none cs levels its a.len a.base f) ∙ e))
+      go false f es p st = absurd (none-some run (sym (seek_none cs levels its a.len a.base f) ∙ e))
 
 -- ---- the record of a state's registers
 
@@ -229,7 +234,7 @@ module _ (m : MemoryState) where
 
 -- ---- held cells
 
-done-same : {A : Type 0} {a b : A} → done a ≡ done b → a ≡ b
+pub done-same : {A : Type 0} {a b : A} → done a ≡ done b → a ≡ b
 done-same e = cc
 
 -- runs whose keys are not below `high` have nothing deep
@@ -256,7 +261,7 @@ each-join P (x ∷ a) b f g = (f.0, each-join P a b f.1 g)
 record DeepIn (first end low : ℕ) (es : List (Entry RegDataType)) : Type 0 where
   key : ℕ
   value : RegDataType
-  found : get key es ≡ some value
+  found : get key es ≡ Some value
   above : first ≤ class_key 0 key
   below : class_key 0 key < end
   from : low ≤ key

@@ -1,8 +1,8 @@
 -- The record of registers that stand side by side, put over another of as many columns: its run is the definition's record, so what is in the
 -- map then is the definition's store. Assumes nothing.
 use mathlib.Core.Path.{◌≡◌, refl, sym, ap, ap₂, subst, ◌∙◌}
-use mathlib.Core.Bool.{Bool, true, false, true≢false}
-use mathlib.Core.Option.{some}
+use mathlib.Core.Bool.{Bool, true, false}
+use Rattle.std.specs.Prelude.{Some, Ok, Option}
 use mathlib.Core.List.{List, [], ◌∷◌, ◌++◌, flatten}
 use Prim.Native.Nat.{ℕ, zero, suc, ◌+◌, ◌-◌, ◌<◌, ◌≤◌}
 use native.Mathlib.Omega.{arith}
@@ -10,9 +10,8 @@ use native.Mathlib.Decide.{ℕ_discrete}
 use lib.Dec.{eqb, leb, ltb}
 use lib.ListN.{length, get_or, set, length-set}
 use lib.Seq.{get_or-set_same, get_or-set_other}
-use borrow.Author.Tests.{ltb-true, ltb-false, leb-true, leb-false, eqb-false}
-use Rattle.model.specs.Walk.{Tried}
-use Rattle.model.specs.State.{Record, RegDataType, Column, MemoryState, from_dense_record}
+use borrow.Author.Tests.{ltb-true, ltb-false, leb-true, leb-false}
+use Rattle.model.specs.State.{Record, RegDataType, Column, from_dense_record}
 use Rattle.model.specs.Cells.{register_depth}
 use Rattle.area.specs.Cells.{blank, cell}
 use Rattle.area.specs.declared.Cell.{Cell}
@@ -20,7 +19,7 @@ use Rattle.intmap.specs.Change.{rekey, rekeyed}
 use Rattle.intmap.specs.Depth.{nesting}
 use Rattle.intmap.specs.Entries.{Runs, span}
 use Rattle.intmap.specs.Find.{seek}
-use Rattle.intmap.specs.Get.{Judges}
+use Rattle.intmap.specs.Get.{Judges, Index}
 use Rattle.intmap.specs.Map.{levels, runs_at, IsMap, Frame}
 use Rattle.intmap.specs.Over.{Plain, Overlaid}
 use Rattle.intmap.specs.Pack.{head, tag_of, key_of, with_key, class_key}
@@ -29,20 +28,13 @@ use Rattle.intmap.specs.Runs.{size}
 use Rattle.intmap.specs.Signed.{int_of}
 use Rattle.intmap.specs.Store.{store_runs, Stores}
 use Rattle.intmap.specs.Swap.{lookup}
-use Rattle.intmap.specs.declared.Index.{Index}
-use Rattle.intmap.specs.declared.Index.TheVariants as index_is
 use Rattle.intmap.specs.declared.IntMap.{IntMap}
-use Rattle.intmap.specs.declared.Insertion.TheVariants as insertion
-use Rattle.intmap.specs.declared.Slot.{Slot}
-use Rattle.intmap.specs.declared.Slot.TheVariants as slot
-use Rattle.intmap.specs.declared.Stored.{Stored}
-use Rattle.intmap.specs.declared.Stored.TheVariants as stored
 use Rattle.intmap.proofs.ChangeLaws.{key-rekey}
 use Rattle.intmap.proofs.DepthLaws.{nesting-single}
 use Rattle.intmap.proofs.EntryLaws.{length-span}
 use Rattle.intmap.proofs.FindLaws.{seek_key}
 use Rattle.intmap.proofs.JudgedLaws.{store_tried}
-use Rattle.intmap.proofs.OverLaws.{plain_record, plain_more, plain-none, overwritten_run}
+use Rattle.intmap.proofs.OverLaws.{plain_record, overwritten_run}
 use Rattle.intmap.proofs.PackLaws.{keyed_tag}
 use Rattle.intmap.proofs.RunLaws.{size-single}
 use Rattle.intmap.proofs.StoreLaws.{found_in}
@@ -56,7 +48,7 @@ use Rattle.state.specs.Own.{entry_slot}
 use Rattle.state.proofs.OwnLaws.{entry_led}
 use Rattle.state.proofs.StoreLeads.{wider}
 use Rattle.record_arms.specs.Records.{columns_from, runs_from, record_from}
-use Rattle.record_arms.specs.Over.{SideBySide, TellsSideBySide, Apart, PutsRegisters, RecordAt, PutsRecord, RecordOver}
+use Rattle.record_arms.specs.Over.{Apart, PutsRegisters, RecordAt, PutsRecord, RecordOver}
 use Rattle.record_arms.proofs.BuildLaws.{rekey_twice}
 use Rattle.record_arms.proofs.DeepLaws.{held_shallow}
 use Rattle.record_arms.proofs.RecordLaws.{made_run, made_depth, made_sorted}
@@ -68,56 +60,15 @@ pub record Beside (cs : List Cell) (p k d : ℕ) : Type 0 where
   pub keys : (j : ℕ) → j < d → key_of (get_or cs (p + j) blank) ≡ class_key 0 (k + j)
   pub plain : Plain cs p d
 
-pub beside_none : (cs : List Cell) (p k : ℕ) → Beside cs p k 0
-beside_none cs p k = record { keys = λ j lt. absurd (omega (arith, lt)); plain = plain-none cs p }
-
-pub beside_more : (cs : List Cell) (p k d : ℕ) → Beside cs p k d → key_of (get_or cs (p + d) blank) ≡ class_key 0 (k + d) → (tag_of (get_or cs (p + d) blank) ≡ 2 → ⊥) → Beside cs p k (d + 1)
-beside_more cs p k d b key plain = record { keys = λ j lt. go j lt (ℕ_discrete j d); plain = plain_more cs p d b.plain plain }
-  where
-    go : (j : ℕ) → j < d + 1 → Dec (j ≡ d) → key_of (get_or cs (p + j) blank) ≡ class_key 0 (k + j)
-    go j lt (yes e) = subst (λ i. key_of (get_or cs (p + i) blank) ≡ class_key 0 (k + i)) (sym e) key
-    go j lt (no ne) = b.keys j (omega (arith, lt, ne))
-
-pub tells_all : {cs : List Cell} {end p k n d : ℕ} → p + n ≤ end → Beside cs p k d → n ≤ d → TellsSideBySide cs end p k n true
-tells_all inside b le =
-    record {
-      yes = λ _. record { inside = inside; keys = λ j lt. b.keys j (omega (arith, lt, le)); plain = record { none = λ j lt. b.plain.none j (omega (arith, lt, le)) } };
-      no = λ e. absurd (true≢false e);
-    }
-
-pub tells-not : {cs : List Cell} {end p k n : ℕ} → (SideBySide cs end p k n → ⊥) → TellsSideBySide cs end p k n false
-tells-not not = record { yes = λ e. absurd (true≢false (sym e)); no = λ _. not }
-
-module _ {cs : List Cell} {end p k n d : ℕ} (lt : d < n) (c : Cell) (ce : c ≡ get_or cs (p + d) blank) where
-  pub other_key : (key : ℕ) → key ≡ class_key 0 (k + d) → (b : Bool) → b ≡ eqb (key_of c) key → b ≡ false → TellsSideBySide cs end p k n false
-  other_key key ke b be e = tells-not (λ s. eqb-false (key_of c) key (sym be ∙ e) (ap key_of ce ∙ s.keys d lt ∙ sym ke))
-
-  pub record_there : tag_of c ≡ 2 → TellsSideBySide cs end p k n false
-  record_there t = tells-not (λ s. s.plain.none d lt (sym (ap tag_of ce) ∙ t))
-
--- ---- apart
-
-pub apart_below : {p q n : ℕ} → p + n ≤ q → Apart p q n
-apart_below le = record { none = λ i j l m e. omega (arith, le, l, e) }
-
-pub apart_above : {p q n : ℕ} → q + n ≤ p → Apart p q n
-apart_above le = record { none = λ i j l m e. omega (arith, le, m, e) }
-
 -- ---- where an entry is
 
-pub entry-within : (cs : List Cell) (a : IntMap) (class k p : ℕ) → IsMap cs a → entry_slot cs a class k ≡ slot.At p → (a.base ≤ p) × (p ≤ a.base + a.used)
+pub entry-within : (cs : List Cell) (a : IntMap) (class k p : ℕ) → IsMap cs a → entry_slot cs a class k ≡ Some p → (a.base ≤ p) × (p ≤ a.base + a.used)
 entry-within cs a class k p map e =
     let w = entry_led cs a class k p e in
     let f = found_in cs a (class_key class k) (seek cs levels (class_key class k) a.len a.base) map refl in
     (omega (arith, f.0, w.1), omega (arith, f.1, w.1))
 
 -- ---- put as columns
-
-pub puts_none : (cs : List Cell) (p q : ℕ) → PutsRegisters cs cs p q 0
-puts_none cs p q = record { cells = λ j lt. absurd (omega (arith, lt)); frame = record { long = refl; below = λ j lt. refl; above = λ j le. refl } }
-
-pub puts_all : {cs ds : List Cell} {p q d n : ℕ} → PutsRegisters cs ds p q d → d ≡ n → PutsRegisters cs ds p q n
-puts_all {cs} {ds} {p} {q} puts e = subst (PutsRegisters cs ds p q) e puts
 
 pub puts_more : {cs ms ds : List Cell} {p q d n : ℕ} → PutsRegisters cs ms p q d → d < n → Apart p q n → q + n ≤ length cs → (c x y : Cell) → c ≡ get_or ms (p + d) blank → x ≡ as_column c → y ≡ with_key d x → ds ≡ set ms (q + d) y → PutsRegisters cs ds p q (d + 1)
 puts_more {cs} {ms} {ds} {p} {q} {d} {n} puts lt apart fits c x y ce xe ye de =
@@ -161,23 +112,23 @@ column_plain c key plain t = go (eqb (tag_of c) 3) (sym (keyed_tag key (as_colum
 
 -- ---- the record's run
 
-laid : (cs ds : List Cell) (es : Runs) (n from k q p : ℕ) → ((i : ℕ) → i < n → lookup (class_key 0 (k + i)) es ≡ some (get_or cs (p + i) blank ∷ [])) → ((i : ℕ) → i < n → get_or ds (q + i) blank ≡ with_key (from + i) (as_column (get_or cs (p + i) blank))) → span ds q n ≡ flatten (rekeyed from (runs_from n k es))
+laid : (cs ds : List Cell) (es : Runs) (n from k q p : ℕ) → ((i : ℕ) → i < n → lookup (class_key 0 (k + i)) es ≡ Some (get_or cs (p + i) blank ∷ [])) → ((i : ℕ) → i < n → get_or ds (q + i) blank ≡ with_key (from + i) (as_column (get_or cs (p + i) blank))) → span ds q n ≡ flatten (rekeyed from (runs_from n k es))
 unfolding span runs_from rekeyed flatten
 laid cs ds es zero from k q p there put = refl
 laid cs ds es (suc n) from k q p there put =
     let z : (x : ℕ) → x + 0 ≡ x = λ x. omega arith in
     let next : (x i : ℕ) → x + suc i ≡ suc x + i = λ x i. omega arith in
     let one : (x i : ℕ) → x + suc i ≡ x + 1 + i = λ x i. omega arith in
-    let h : lookup (class_key 0 k) es ≡ some (get_or cs p blank ∷ []) = ap (λ x. lookup (class_key 0 x) es) (sym (z k)) ∙ there 0 (omega arith) ∙ ap (λ x. some (get_or cs x blank ∷ [])) (z p) in
+    let h : lookup (class_key 0 k) es ≡ Some (get_or cs p blank ∷ []) = ap (λ x. lookup (class_key 0 x) es) (sym (z k)) ∙ there 0 (omega arith) ∙ ap (λ x. Some (get_or cs x blank ∷ [])) (z p) in
     let c : get_or ds q blank ≡ with_key from (as_column (get_or cs p blank)) = ap (λ x. get_or ds x blank) (sym (z q)) ∙ put 0 (omega arith) ∙ ap₂ (λ x y. with_key x (as_column (get_or cs y blank))) (z from) (z p) in
     let rest = laid cs ds es n (suc from) (suc k) (q + 1) (p + 1)
-    (λ i lt. ap (λ x. lookup (class_key 0 x) es) (sym (next k i)) ∙ there (suc i) (omega (arith, lt)) ∙ ap (λ x. some (get_or cs x blank ∷ [])) (one p i))
+    (λ i lt. ap (λ x. lookup (class_key 0 x) es) (sym (next k i)) ∙ there (suc i) (omega (arith, lt)) ∙ ap (λ x. Some (get_or cs x blank ∷ [])) (one p i))
     (λ i lt. ap (λ x. get_or ds x blank) (sym (one q i)) ∙ put (suc i) (omega (arith, lt)) ∙ ap₂ (λ x y. with_key x (as_column (get_or cs y blank))) (next from i) (one p i)) in
     ap₂ (λ x l. x ∷ l) (c ∙ sym (rekey_twice from (as_column (get_or cs p blank)))) rest
     ∙ ap (λ o. rekey from (column_run o) ++ flatten (rekeyed (suc from) (runs_from n (suc k) es))) (sym h)
 
-module _ (limit : ℕ) (cs ds : List Cell) (a : IntMap) (first n i k p q : ℕ) (x : Index) (judges : Judges i x) (xe : x ≡ index_is.At k) (within : first + n ≤ 65536) (current : Current limit cs a)
-    (target : entry_slot cs a 0 k ≡ slot.At q) (low : a.base ≤ p) (at : RecordAt cs ds (a.base + a.used) p q first n)
+module _ (limit : ℕ) (cs ds : List Cell) (a : IntMap) (first n i k p q : ℕ) (x : Index) (judges : Judges i x) (xe : x ≡ Ok k) (within : first + n ≤ 65536) (current : Current limit cs a)
+    (target : entry_slot cs a 0 k ≡ Some q) (low : a.base ≤ p) (at : RecordAt cs ds (a.base + a.used) p q first n)
   where
     -- each register is where it is told
     found : (j : ℕ) → j < n → ((seek cs levels (class_key 0 (first + j)) a.len a.base).at ≡ p + j) × ((seek cs levels (class_key 0 (first + j)) a.len a.base).present ≡ true)
@@ -190,12 +141,12 @@ module _ (limit : ℕ) (cs ds : List Cell) (a : IntMap) (first n i k p q : ℕ) 
     one_cell : (j : ℕ) → j < n → 1 ≡ size cs levels (p + j)
     one_cell j lt = size-single cs levels (p + j) (get_or cs (p + j) blank) refl (at.source.plain.none j lt)
 
-    there : (j : ℕ) → j < n → lookup (class_key 0 (first + j)) (runs_at cs a) ≡ some (get_or cs (p + j) blank ∷ [])
+    there : (j : ℕ) → j < n → lookup (class_key 0 (first + j)) (runs_at cs a) ≡ Some (get_or cs (p + j) blank ∷ [])
     unfolding span
     there j lt =
         seek_some cs levels (class_key 0 (first + j)) a.len a.base (found j lt).1
-        ∙ ap (λ s. some (span cs s (size cs levels s))) (found j lt).0
-        ∙ ap (λ s. some (span cs (p + j) s)) (sym (one_cell j lt))
+        ∙ ap (λ s. Some (span cs s (size cs levels s))) (found j lt).0
+        ∙ ap (λ s. Some (span cs (p + j) s)) (sym (one_cell j lt))
 
     abbrev run : List Cell
     run = cell 2 n ∷ flatten (rekeyed 0 (runs_from n first (runs_at cs a)))
@@ -228,10 +179,10 @@ module _ (limit : ℕ) (cs ds : List Cell) (a : IntMap) (first n i k p q : ℕ) 
           frame = subst (Frame cs ds q) (omega (arith, long)) at.frame;
         }
 
-    stores : (depth : ℕ) → depth ≤ 8 → Stores cs ds limit a 0 i depth run (stored.Done a)
+    stores : (depth : ℕ) → depth ≤ 8 → Stores cs ds limit a 0 i depth run (Ok a)
     stores depth low =
-        store_tried cs ds limit a 0 i depth run x judges.answer k xe (class_key 0 k) (rekey (class_key 0 k) run) (insertion.Done a) (stored.Done a) low refl refl
-        (overwritten_run cs ds limit a (class_key 0 k) q (rekey (class_key 0 k) run) current.room led.1 led.0 (key-rekey (class_key 0 k) run (omega arith)) over) refl
+        store_tried cs ds limit a 0 i depth run x judges.answer k xe (class_key 0 k) (rekey (class_key 0 k) run) (Ok a) low refl refl
+        (overwritten_run cs ds limit a (class_key 0 k) q (rekey (class_key 0 k) run) current.room led.1 led.0 (key-rekey (class_key 0 k) run (omega arith)) over)
 
     shallow : (r : ℕ) → first ≤ r → r < first + n → (seek cs levels (class_key 0 r) a.len a.base).present ≡ true → nesting cs levels (seek cs levels (class_key 0 r) a.len a.base).at ≤ 7
     shallow r ge lt e =
@@ -242,7 +193,7 @@ module _ (limit : ℕ) (cs ds : List Cell) (a : IntMap) (first n i k p q : ℕ) 
         let none = nesting-single cs levels (p + j) (get_or cs (p + j) blank) refl (at.source.plain.none j less) in
         subst (λ s. nesting cs levels s ≤ 7) (sym here) (omega (arith, none))
 
-    pub over_leads : Leads limit cs ds a (stored.Done a) (record_from limit n first (int_of i))
+    pub over_leads : Leads limit cs ds a (Ok a) (record_from limit n first (int_of i))
     unfolding record_from
     over_leads =
         record {
@@ -258,46 +209,9 @@ module _ (limit : ℕ) (cs ds : List Cell) (a : IntMap) (first n i k p q : ℕ) 
 
 -- ---- what the code answers
 
-pub record_not : {cs : List Cell} {end p q k n : ℕ} → PutsRecord cs cs end p q k n false
-record_not = record { yes = λ e. absurd (true≢false (sym e)); no = λ _. refl }
-
-pub over-not : {cs : List Cell} {a : IntMap} {first n i : ℕ} → RecordOver cs cs a first n i false
-over-not = record { yes = λ e. absurd (true≢false (sym e)); no = λ _. refl }
-
-pub record_put : {cs es ds : List Cell} {end p q k n : ℕ} → q < length cs → (d : Cell) → d ≡ get_or cs q blank → tag_of d ≡ 2 → d.payload ≡ n → Plain cs (q + 1) n → SideBySide cs end p k n → PutsRegisters cs es p (q + 1) n → (key : ℕ) → key ≡ key_of d → (h : Cell) → h ≡ with_key key (cell 2 n) → ds ≡ set es q h → PutsRecord cs ds end p q k n true
-record_put {cs} {es} {ds} {end} {p} {q} {k} {n} inside d de tag number plain source puts key ke h he dse =
-    record {
-      yes = λ _.
-          record {
-            tag = ap tag_of (sym de) ∙ tag;
-            number = ap (λ (y : Cell). y.payload) (sym de) ∙ number;
-            plain = plain;
-            source = source;
-            head = ap (λ l. get_or l q blank) dse ∙ get_or-set_same es q h blank (omega (arith, inside, puts.frame.long)) ∙ he ∙ ap (λ s. with_key s (cell 2 n)) (ke ∙ ap key_of de);
-            cells = λ j lt. other (q + 1 + j) (omega arith) ∙ puts.cells j lt;
-            frame =
-                record {
-                  long = ap length dse ∙ length-set es q h ∙ puts.frame.long;
-                  below = λ j lt. other j (omega (arith, lt)) ∙ puts.frame.below j (omega (arith, lt));
-                  above = λ j le. other j (omega (arith, le)) ∙ puts.frame.above j (omega (arith, le));
-                };
-          };
-      no = λ e. absurd (true≢false e);
-    }
-  where
-    other : (j : ℕ) → (j ≡ q → ⊥) → get_or ds j blank ≡ get_or es j blank
-    other j ne = ap (λ l. get_or l j blank) dse ∙ get_or-set_other es q j h blank ne
-
-pub record_over : {cs ds : List Cell} {a : IntMap} {first n i k p q : ℕ} {x : Index} {s u : Slot} {r : Bool} → Held cs a → first + n ≤ 65536 → Judges i x → x ≡ index_is.At k → s ≡ entry_slot cs a 0 k → s ≡ slot.At q → u ≡ entry_slot cs a 0 first → u ≡ slot.At p → PutsRecord cs ds (a.base + a.used) p q first n r → RecordOver cs ds a first n i r
+pub record_over : {cs ds : List Cell} {a : IntMap} {first n i k p q : ℕ} {x : Index} {s u : Option ℕ} {r : Bool} → Held cs a → first + n ≤ 65536 → Judges i x → x ≡ Ok k → s ≡ entry_slot cs a 0 k → s ≡ Some q → u ≡ entry_slot cs a 0 first → u ≡ Some p → PutsRecord cs ds (a.base + a.used) p q first n r → RecordOver cs ds a first n i r
 record_over {cs} {ds} {a} {first} {n} {i} {k} {p} {q} {x} held within judges xe se sq ue up puts =
     record {
       yes = λ e limit current. over_leads limit cs ds a first n i k p q x judges xe within current (sym se ∙ sq) (entry-within cs a 0 first p held.map (sym ue ∙ up)).0 (puts.yes e);
       no = puts.no;
     }
-
--- or it was not, and stored from behind the map
-pub leads_then : {limit : ℕ} {cs es ds : List Cell} {a : IntMap} {r : Stored} {f : MemoryState → Tried MemoryState} → es ≡ cs → Leads limit es ds a r f → Leads limit cs ds a r f
-leads_then {limit} {ds = ds} {a} {r} {f} same leads = subst (λ l. Leads limit l ds a r f) same leads
-
-pub current_then : {limit : ℕ} {cs es : List Cell} {a : IntMap} → es ≡ cs → Current limit cs a → Current limit es a
-current_then {limit} {a = a} same current = subst (λ l. Current limit l a) (sym same) current

@@ -1,20 +1,24 @@
 -- Which reads of registers one after the other are refused, and what is read otherwise. From the definition alone. Assumes nothing.
-use mathlib.Core.Path.{◌≡◌, refl, ap, ◌∙◌}
+use Rattle.record_arms.specs.declared.registers.Registers.{Registers}
+use Rattle.refusal.specs.declared.Refusal.TheVariants.{IndexTooLarge}
+use Rattle.refusal.specs.Numbers.{number_of}
+use Rattle.refusal.specs.declared.Refusal.{Refusal}
+use Rattle.std.specs.Prelude.{Ok, Err}
+use mathlib.Core.Path.{◌≡◌, refl, sym, ap, ◌∙◌}
 use mathlib.Core.Bool.{Bool, true, false}
 use mathlib.Core.List.{List, ◌∷◌}
-use Prim.Native.Nat.{ℕ, zero, suc, ◌+◌, ◌-◌, ◌<◌, ◌≤◌}
+use Prim.Native.Nat.{ℕ, zero, suc, ◌+◌, ◌<◌, ◌≤◌}
 use native.Mathlib.Omega.{arith}
 use lib.Dec.{leb}
-use lib.IntN.{pos, negsuc}
+use lib.IntN.{ℤ, pos, negsuc, suc_ℤ}
 use borrow.Author.Tests.{le-leb, leb-true}
 use Rattle.model.specs.Walk.{Tried, refused, done}
 use Rattle.model.specs.IntMap.{get}
 use Rattle.model.specs.State.{ColumnType, MemoryState}
 use Rattle.model.specs.Access.{◌>>=◌, index_if, index, register_column, read_register, read_columns}
-use Rattle.intmap.specs.Signed.{offset, int_of}
-use Rattle.intmap.proofs.SignedLaws.{int_below, int_above}
+use Rattle.intmap.specs.Get.{index_of, Judges, Index}
+use Rattle.intmap.specs.Signed.{int_of}
 use Rattle.record_arms.specs.Records.{columns_from, JudgesRange}
-use Rattle.record_arms.specs.declared.Range.TheVariants as range
 
 -- a register that is read, with those after it
 abbrev one : Bool → ℕ → MemoryState → Tried (List ColumnType) → Tried (List ColumnType)
@@ -36,27 +40,46 @@ columns-over m (suc n) k lt h = go (leb k 65535) refl (columns-over m n (suc k))
     go true e rest = ap (λ t. one true k m t) (rest (omega (arith, leb-true k 65535 e)) (omega arith))
     go false e rest = refl
 
-columns-under : (m : MemoryState) (n j : ℕ) → (n ≡ 0 → ⊥) → read_columns n (negsuc j) m ≡ refused 6
-unfolding read_columns read_register index
-columns-under m zero j h = absurd (h refl)
-columns-under m (suc n) j h = refl
+columns-stop : (m : MemoryState) (n : ℕ) (z : ℤ) (k : ℕ) → (n ≡ 0 → ⊥) → index z ≡ refused k → read_columns n z m ≡ refused k
+unfolding read_columns read_register
+columns-stop m zero z k some e = absurd (some refl)
+columns-stop m (suc n) z k some e = ap (λ t. (t >>= λ i. done (get i m.r)) >>= λ v. read_columns n (suc_ℤ z) m >>= λ cs. done (register_column v ∷ cs)) e
 
 columns-none : (m : MemoryState) (i n : ℕ) → n ≡ 0 → read_columns n (int_of i) m ≡ done (columns_from n 0 m)
 unfolding read_columns columns_from
 columns-none m i zero h = refl
 columns-none m i (suc n) h = absurd (omega arith)
 
+-- an index that is not refused is the number itself
+index_pos : (z : ℤ) (k : ℕ) → index z ≡ done k → z ≡ pos k
+unfolding index
+index_pos (negsuc j) k e = cc
+index_pos (pos j) k e = go (leb j 65535) e
+  where
+    go : (b : Bool) → index_if b j ≡ done k → pos j ≡ pos k
+    go true d = cc
+    go false d = cc
+
 -- in the words of the code
 module _ (i n : ℕ) where
-  pub range_none : n ≡ 0 → JudgesRange i n (range.From 0)
-  range_none h = record { none = λ e. refl; says = λ m. columns-none m i n h; within = omega arith }
+  pub range_none : n ≡ 0 → (r : Registers) → r.first ≡ 0 → r.count ≡ 0 → JudgesRange i n (Ok r)
+  range_none h r first count = record { none = λ e. first; says = λ m. columns-none m i n h ∙ ap (λ k. done (columns_from n k m)) (sym first); many = omega (arith, h, count) }
 
-  module _ (some : n ≡ 0 → ⊥) where
-    pub range_low : i < offset → JudgesRange i n (range.Bad 6)
-    range_low h = record { none = λ e. absurd (some e); says = λ m. ap (λ z. read_columns n z m) (int_below i h) ∙ columns-under m n _ some; within = tt }
+  module _ (some : n ≡ 0 → ⊥) (x : Index) (judges : Judges i x) where
+    pub range_bad : (e : Refusal) → x ≡ Err e → JudgesRange i n (Err e)
+    range_bad e xe = record { none = λ z. absurd (some z); says = λ m. columns-stop m n (int_of i) (number_of e) some (sym judges.answer ∙ ap index_of xe); many = tt }
 
-    pub range_high : offset ≤ i → 65536 < i - offset + n → JudgesRange i n (range.Bad 7)
-    range_high le h = record { none = λ e. absurd (some e); says = λ m. ap (λ z. read_columns n z m) (int_above i le) ∙ columns-over m n (i - offset) (omega (arith, some)) h; within = tt }
+    module _ (k : ℕ) (xe : x ≡ Ok k) where
+      is : int_of i ≡ pos k
+      is = index_pos (int_of i) k (sym judges.answer ∙ ap index_of xe)
 
-    pub range_within : offset ≤ i → i - offset + n ≤ 65536 → JudgesRange i n (range.From (i - offset))
-    range_within le h = record { none = λ e. absurd (some e); says = λ m. ap (λ z. read_columns n z m) (int_above i le) ∙ columns-read m n (i - offset) h; within = h }
+      pub range_high : 65536 < k + n → JudgesRange i n (Err IndexTooLarge)
+      range_high h = record { none = λ e. absurd (some e); says = λ m. ap (λ z. read_columns n z m) is ∙ columns-over m n k (omega (arith, some)) h; many = tt }
+
+      pub range_within : (r : Registers) → r.first ≡ k → r.count ≡ n → JudgesRange i n (Ok r)
+      range_within r first count =
+          record {
+            none = λ e. absurd (some e);
+            says = λ m. ap (λ z. read_columns n z m) is ∙ columns-read m n k (omega (arith, r.within, first, count)) ∙ ap (λ j. done (columns_from n j m)) (sym first);
+            many = count;
+          }

@@ -1,5 +1,11 @@
 -- MakeRecord: what the code refuses the definition refuses, in its order, and a record that is built and stored is the definition's.
 -- Assumes nothing.
+use Rattle.record_arms.specs.declared.registers.Registers.{Registers}
+use Rattle.state.proofs.LeadsLaws.{frame-within, frame_then}
+use Rattle.refusal.specs.declared.Refusal.TheVariants.{TooManyCells, TooDeep, Negative}
+use Rattle.refusal.specs.Numbers.{number_of}
+use Rattle.refusal.specs.declared.Refusal.{Refusal}
+use Rattle.std.specs.Prelude.{Ok, Err, Some, None}
 use mathlib.Core.Path.{◌≡◌, refl, sym, ap, ap₂, subst, ◌∙◌}
 use mathlib.Core.Bool.{Bool, true, false}
 use mathlib.Core.List.{List, ◌∷◌, flatten, map}
@@ -31,12 +37,10 @@ use Rattle.intmap.specs.Entries.{Runs, span, total}
 use Rattle.intmap.specs.Swap.{lookup}
 use Rattle.intmap.specs.Map.{levels, runs_at, Frame, HasRoom}
 use Rattle.intmap.specs.Change.{rekeyed}
-use Rattle.intmap.specs.Get.{read_runs}
+use Rattle.intmap.specs.Get.{read_runs, index_of, Judges, Index}
 use Rattle.intmap.specs.Signed.{offset, int_of}
-use Rattle.intmap.specs.Store.{stored_of, Stores}
+use Rattle.intmap.specs.Store.{stored_of, Stores, Stored}
 use Rattle.intmap.specs.declared.IntMap.{IntMap}
-use Rattle.intmap.specs.declared.Stored.{Stored}
-use Rattle.intmap.specs.declared.Stored.TheVariants as stored
 use Rattle.intmap.proofs.EntryLaws.{length-span}
 use Rattle.intmap.proofs.MapLaws.{placed_room}
 use Rattle.intmap.proofs.ChangeLaws.{total-rekeyed}
@@ -56,11 +60,9 @@ use Rattle.state.specs.Leads.{Current, HoldsMap, Tells, Leaves, Leads}
 use Rattle.state.specs.Arms.{Standard, RegisterArm}
 use Rattle.state.proofs.StoreLeads.{leads_as}
 use Rattle.record_arms.specs.Records.{columns_from, runs_from, any_deep, JudgesRange, BuildsRecord, record_from}
-use Rattle.record_arms.specs.declared.Range.TheVariants as range
-use Rattle.record_arms.specs.declared.Room.TheVariants as room
 use Rattle.record_arms.proofs.RangeLaws.{columns-read}
-use Rattle.record_arms.proofs.DeepLaws.{held_deep, held_flat}
-use Rattle.record_arms.proofs.BuildLaws.{frame-none, frame-within, frame_then}
+use Rattle.record_arms.proofs.DeepLaws.{held_deep, held_flat, done-same}
+use Rattle.record_arms.proofs.BuildLaws.{frame-none}
 
 -- ---- the definition's store, refused
 
@@ -100,9 +102,6 @@ runs-read es zero k h = refl
 runs-read es (suc n) k h =
     ap (λ b. one b k es (read_column_runs n (pos (suc k)) es)) (le-leb k 65535 (omega arith))
     ∙ ap (λ t. one true k es t) (runs-read es n (suc k) (omega arith))
-
-done-same : {A : Type 0} {a b : A} → done a ≡ done b → a ≡ b
-done-same e = cc
 
 module _ (limit bound : ℕ) (cs : List Cell) (a : IntMap) (m : MemoryState) (holds : HoldsMap limit bound cs a m) (n k : ℕ) (within : k + n ≤ 65536) where
   abbrev columns : List ColumnType
@@ -146,37 +145,40 @@ module _ (limit bound : ℕ) (cs : List Cell) (a : IntMap) (m : MemoryState) (ho
 -- ---- what the code answers
 
 module _ (limit : ℕ) (cs : List Cell) (a : IntMap) (first n i : ℕ) (within : first + n ≤ 65536) where
-  stops : (ds : List Cell) (k : ℕ) → Frame cs ds a.base (limit + limit) → ((bound : ℕ) (m : MemoryState) → HoldsMap limit bound cs a m → record_from limit n first (int_of i) m ≡ refused k) → Leads limit cs ds a (stored.Refused k) (record_from limit n first (int_of i))
+  stops : (ds : List Cell) (k : Refusal) → Frame cs ds a.base (limit + limit) → ((bound : ℕ) (m : MemoryState) → HoldsMap limit bound cs a m → record_from limit n first (int_of i) m ≡ refused (number_of k)) → Leads limit cs ds a (Err k) (record_from limit n first (int_of i))
   stops ds k frame e = record { says = λ bound m le h. e bound m h; leaves = tt; frame = frame }
 
-  pub record_index : (k : ℕ) → refused k ≡ index (int_of i) → Leads limit cs cs a (stored.Refused k) (record_from limit n first (int_of i))
+  pub record_index : (x : Index) → Judges i x → (k : Refusal) → x ≡ Err k → Leads limit cs cs a (Err k) (record_from limit n first (int_of i))
   unfolding record_from
-  record_index k e = stops cs k (frame-none cs a.base (limit + limit)) (λ bound m h. store_index limit (int_of i) _ m k (sym e))
+  record_index x judges k xe = stops cs k (frame-none cs a.base (limit + limit)) (λ bound m h. store_index limit (int_of i) _ m (number_of k) (sym judges.answer ∙ ap index_of xe))
 
-  module _ (k : ℕ) (e : done k ≡ index (int_of i)) where
-    pub record_deep : any_deep cs (class_key 0 first) (class_key 0 (first + n)) a.len a.base ≡ true → Leads limit cs cs a (stored.Refused 9) (record_from limit n first (int_of i))
+  module _ (x : Index) (judges : Judges i x) (k : ℕ) (xe : x ≡ Ok k) where
+    judged_index : index (int_of i) ≡ done k
+    judged_index = sym judges.answer ∙ ap index_of xe
+
+    pub record_deep : any_deep cs (class_key 0 first) (class_key 0 (first + n)) a.len a.base ≡ true → Leads limit cs cs a (Err TooDeep) (record_from limit n first (int_of i))
     unfolding record_from
     record_deep d =
-        stops cs 9 (frame-none cs a.base (limit + limit))
-        (λ bound m h. store_deep limit (int_of i) _ m k (sym e) (omega (arith, held_deep limit bound cs a m h first n within d, made_depth limit bound cs a m h n first within)))
+        stops cs TooDeep (frame-none cs a.base (limit + limit))
+        (λ bound m h. store_deep limit (int_of i) _ m k judged_index (omega (arith, held_deep limit bound cs a m h first n within d, made_depth limit bound cs a m h n first within)))
 
     module _ (flat : any_deep cs (class_key 0 first) (class_key 0 (first + n)) a.len a.base ≡ false) where
-      large : (ds : List Cell) → Frame cs ds a.base (limit + limit) → ((bound : ℕ) (m : MemoryState) → HoldsMap limit bound cs a m → limit < register_cells (Column (Record (from_dense_record (columns_from n first m))))) → Leads limit cs ds a (stored.Refused 8) (record_from limit n first (int_of i))
+      large : (ds : List Cell) → Frame cs ds a.base (limit + limit) → ((bound : ℕ) (m : MemoryState) → HoldsMap limit bound cs a m → limit < register_cells (Column (Record (from_dense_record (columns_from n first m))))) → Leads limit cs ds a (Err TooManyCells) (record_from limit n first (int_of i))
       unfolding record_from
       large ds frame more =
-          stops ds 8 frame
-          (λ bound m h. store_large limit (int_of i) _ m k (sym e) (omega (arith, held_flat limit bound cs a m h first n within flat, made_depth limit bound cs a m h n first within)) (more bound m h))
+          stops ds TooManyCells frame
+          (λ bound m h. store_large limit (int_of i) _ m k judged_index (omega (arith, held_flat limit bound cs a m h first n within flat, made_depth limit bound cs a m h n first within)) (more bound m h))
 
-      pub record_many : limit ≤ n → Leads limit cs cs a (stored.Refused 8) (record_from limit n first (int_of i))
+      pub record_many : limit ≤ n → Leads limit cs cs a (Err TooManyCells) (record_from limit n first (int_of i))
       record_many le = large cs (frame-none cs a.base (limit + limit)) (λ bound m h. omega (arith, made_least limit bound cs a m h n first within))
 
-      pub record_full : (ds : List Cell) → BuildsRecord cs ds a first n limit room.Full → Leads limit cs ds a (stored.Refused 8) (record_from limit n first (int_of i))
+      pub record_full : (ds : List Cell) → BuildsRecord cs ds a first n limit None → Leads limit cs ds a (Err TooManyCells) (record_from limit n first (int_of i))
       record_full ds b =
           large ds (frame-within cs ds (a.base + limit) limit a.base (limit + limit) (omega arith) (omega arith) b.frame)
           (λ bound m h. omega (arith, made_cells limit bound cs a m h n first within, b.answer))
 
       -- it stands behind the map, and is stored from there
-      module _ (es : List Cell) (p : ℕ) (b : BuildsRecord cs es a first n limit (room.At p)) (current : Current limit cs a) where
+      module _ (es : List Cell) (p : ℕ) (b : BuildsRecord cs es a first n limit (Some p)) (current : Current limit cs a) where
         same : Agree cs a.base es a.base a.used
         same j lt = b.frame.below (a.base + j) (omega (arith, current.room.most))
 
@@ -204,12 +206,12 @@ module _ (limit : ℕ) (cs : List Cell) (a : IntMap) (first n i : ℕ) (within :
             }
           where
             left : (r : Stored) → Stores es ds limit a 0 i (nesting es levels p) (span es p (size es levels p)) r → Leaves limit ds a r
-            left (stored.Refused n) st = tt
-            left (stored.Done b) st = record { base = st.leaves.base; room = st.leaves.room }
+            left (Err n) st = tt
+            left (Ok b) st = record { base = st.leaves.base; room = st.leaves.room }
 
             tells : (bound : ℕ) (t : Tried MemoryState) (r : Stored) → Carried limit bound (stored_of ds r) t → Leaves limit ds a r → Tells limit bound ds r t
-            tells bound t (stored.Refused n) c l = c.refuses n refl
-            tells bound t (stored.Done b) c l = c.next ds b.base b.len b.used (runs_at ds b) refl refl l.room.used
+            tells bound t (Err n) c l = c.refuses (number_of n) refl
+            tells bound t (Ok b) c l = c.next ds b.base b.len b.used (runs_at ds b) refl refl l.room.used
 
 -- ---- the arm
 
@@ -222,7 +224,7 @@ module _ (limit : ℕ) (cs : List Cell) (a : IntMap) (x : Row) where
   unfolding register_arm
   arm_is meaning l s j m = ap (λ n. count_of l.p2 >>= λ c. read_columns c l.p1 m >>= λ cs. store_register n l.p3 (Column (Record (from_dense_record cs))) m) s.cells ∙ ap (λ z. counted (count_of z) l m) (sym j.p2)
 
-  pub arm_negative : x.p2 < offset → RegisterArm limit cs cs a x op_make_record (stored.Refused 6)
+  pub arm_negative : x.p2 < offset → RegisterArm limit cs cs a x op_make_record (Err Negative)
   arm_negative h =
       record {
         leads = λ meaning l s j. record {
@@ -240,7 +242,7 @@ module _ (limit : ℕ) (cs : List Cell) (a : IntMap) (x : Row) where
     arm_reads meaning l s j m =
         arm_is meaning l s j m ∙ ap (λ t. counted t l m) (count_above x.p2 h ∙ ap done (sym ne)) ∙ ap (λ z. read (read_columns n z m) l m) (sym j.p1)
 
-    pub arm_range : (k : ℕ) → JudgesRange x.p1 n (range.Bad k) → RegisterArm limit cs cs a x op_make_record (stored.Refused k)
+    pub arm_range : (k : Refusal) → JudgesRange x.p1 n (Err k) → RegisterArm limit cs cs a x op_make_record (Err k)
     arm_range k g =
         record {
           leads = λ meaning l s j. record {
@@ -250,9 +252,9 @@ module _ (limit : ℕ) (cs : List Cell) (a : IntMap) (x : Row) where
           };
         }
 
-    pub arm_stored : (first : ℕ) → JudgesRange x.p1 n (range.From first) → (ds : List Cell) (r : Stored) → Leads limit cs ds a r (record_from limit n first (int_of x.p3)) → RegisterArm limit cs ds a x op_make_record r
+    pub arm_stored : (from : Registers) → JudgesRange x.p1 n (Ok from) → (ds : List Cell) (r : Stored) → Leads limit cs ds a r (record_from limit from.count from.first (int_of x.p3)) → RegisterArm limit cs ds a x op_make_record r
     unfolding record_from
-    arm_stored first g ds r led =
+    arm_stored from g ds r led =
         record {
-          leads = λ meaning l s j. leads_as r (λ m. sym (arm_reads meaning l s j m ∙ ap (λ t. read t l m) (g.says m) ∙ ap (λ z. store_register limit z (Column (Record (from_dense_record (columns_from n first m)))) m) (sym j.p3))) led;
+          leads = λ meaning l s j. leads_as r (λ m. sym (arm_reads meaning l s j m ∙ ap (λ t. read t l m) (g.says m) ∙ ap (λ z. store_register limit z (Column (Record (from_dense_record (columns_from n from.first m)))) m) (sym j.p3))) (subst (λ k. Leads limit cs ds a r (record_from limit k from.first (int_of x.p3))) g.many led);
         }

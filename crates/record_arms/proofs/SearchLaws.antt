@@ -1,7 +1,7 @@
 -- A search goes on from where another for a smaller key ended: from there on stands what a larger key has. Assumes nothing.
 use mathlib.Core.Path.{◌≡◌, refl, sym, ap, ◌∙◌}
 use mathlib.Core.Bool.{Bool, true, false, false≢true}
-use mathlib.Core.Option.{none, some}
+use Rattle.std.specs.Prelude.{None, Some}
 use mathlib.Core.List.{List}
 use Prim.Native.Nat.{ℕ, zero, suc, ◌+◌, ◌-◌, ◌<◌, ◌≤◌}
 use native.Mathlib.Omega.{arith}
@@ -28,7 +28,7 @@ unfolding lookup entries
 passed cs d n p j lt =
     let key = key-span cs p (size cs d p) (size-pos cs d p) in
     sym
-    (ap (λ b. pick b (lookup j (entries cs d n (p + size cs d p))) (pick (eqb (key_run (span cs p (size cs d p))) j) (some (span cs p (size cs d p))) none))
+    (ap (λ b. pick b (lookup j (entries cs d n (p + size cs d p))) (pick (eqb (key_run (span cs p (size cs d p))) j) (Some (span cs p (size cs d p))) None))
     (lt-ltb (key_run (span cs p (size cs d p))) j (omega (arith, key))))
 
 module _ (cs : List Cell) (d key : ℕ) where

@@ -1,6 +1,6 @@
 -- The record of registers that stand side by side, put over another record of as many columns where that stands, all of one cell each: what is
 -- in the map then is what the store leaves. Assumes nothing.
-use Rattle.std.specs.Prelude.{◌≡◌, Bool, true, false, List, ℕ, ◌+◌, ◌<◌, ◌≤◌, get_or}
+use Rattle.std.specs.Prelude.{◌≡◌, Bool, true, false, List, ℕ, ◌+◌, ◌<◌, ◌≤◌, get_or, Ok}
 use Rattle.area.specs.Cells.{blank, cell}
 use Rattle.area.specs.declared.Cell.{Cell}
 use Rattle.intmap.specs.Map.{Frame}
@@ -8,7 +8,6 @@ use Rattle.intmap.specs.Over.{Plain}
 use Rattle.intmap.specs.Pack.{tag_of, key_of, with_key, class_key}
 use Rattle.intmap.specs.Signed.{int_of}
 use Rattle.intmap.specs.declared.IntMap.{IntMap}
-use Rattle.intmap.specs.declared.Stored.TheVariants as stored
 use Rattle.encoding.specs.Heads.{as_column}
 use Rattle.state.specs.Leads.{Current, Leads}
 use Rattle.record_arms.specs.Records.{record_from}
@@ -50,5 +49,5 @@ pub record PutsRecord (cs ds : List Cell) (end p q k n : ℕ) (r : Bool) : Type 
 
 -- that was the definition's store in register i
 pub record RecordOver (cs ds : List Cell) (a : IntMap) (first n i : ℕ) (r : Bool) : Type 0 where
-  pub yes : r ≡ true → (limit : ℕ) → Current limit cs a → Leads limit cs ds a (stored.Done a) (record_from limit n first (int_of i))
+  pub yes : r ≡ true → (limit : ℕ) → Current limit cs a → Leads limit cs ds a (Ok a) (record_from limit n first (int_of i))
   pub no : r ≡ false → ds ≡ cs

@@ -1,7 +1,9 @@
 -- Registers one after the other as columns, as MakeRecord and ResultRow read them: which reads are refused, which columns they are otherwise, of a
 -- state and of runs; whether a record of them nests too deep, by the cells; and its run, built column after column. Assumes nothing.
-use Rattle.std.specs.Prelude.{◌≡◌, Bool, true, false, ℕ, zero, suc, ◌+◌, ◌-◌, ◌<◌, ◌≤◌, leb, ltb, length, get_or, ℤ}
-use Rattle.std.proofs.Math.Option.{some}
+use Rattle.record_arms.specs.declared.registers.Registers.{Registers}
+use Rattle.refusal.specs.Numbers.{number_of}
+use Rattle.refusal.specs.declared.Refusal.{Refusal}
+use Rattle.std.specs.Prelude.{◌≡◌, Bool, true, false, ℕ, zero, suc, ◌+◌, ◌-◌, ◌<◌, ◌≤◌, leb, ltb, length, get_or, ℤ, Some, Ok, Err, None, Result, Option}
 use mathlib.Core.List.{List, [], ◌∷◌, flatten}
 use Rattle.model.specs.Walk.{Tried, refused, done}
 use Rattle.model.specs.IntMap.{get}
@@ -21,12 +23,7 @@ use Rattle.intmap.specs.Signed.{int_of}
 use Rattle.intmap.specs.declared.IntMap.{IntMap}
 use Rattle.encoding.specs.Changes.{column_run}
 use Rattle.encoding.specs.Holds.{Stands}
-use Rattle.record_arms.specs.declared.Range.{Range}
-use Rattle.record_arms.specs.declared.Range.TheVariants as range
-use Rattle.record_arms.specs.declared.Room.{Room}
-use Rattle.record_arms.specs.declared.Room.TheVariants as room
-use Rattle.record_arms.specs.declared.Step.{Step}
-use Rattle.record_arms.specs.declared.Step.TheVariants as step
+use Rattle.record_arms.specs.declared.Progress.{Progress}
 
 -- ---- reads
 
@@ -39,21 +36,30 @@ unfoldable pub runs_from : ℕ → ℕ → Runs → Runs
 runs_from zero k es = []
 runs_from (suc n) k es = column_run (lookup (class_key 0 k) es) ∷ runs_from n (suc k) es
 
+-- registers one after the other, judged: why they are refused, or which they are
+abbrev pub Range : Type 0
+Range = Result Registers Refusal
+
 -- the definition's reads of n registers are refused, or they are these
 abbrev pub TellsRange : MemoryState → ℕ → Range → Tried (List ColumnType) → Type 0
-TellsRange m n (range.Bad k) t = t ≡ refused k
-TellsRange m n (range.From first) t = t ≡ done (columns_from n first m)
+TellsRange m n (Err e) t = t ≡ refused (number_of e)
+TellsRange m n (Ok r) t = t ≡ done (columns_from n r.first m)
 
--- which are registers
-abbrev pub RangeWithin : ℕ → Range → Type 0
-RangeWithin n (range.Bad k) = Unit {0}
-RangeWithin n (range.From first) = first + n ≤ 65536
+-- there are n of them
+abbrev pub AreMany : ℕ → Range → Type 0
+AreMany n (Err e) = Unit {0}
+AreMany n (Ok r) = r.count ≡ n
+
+-- the first is number k
+abbrev pub FirstIs : ℕ → Range → Type 0
+FirstIs k (Err e) = ⊥
+FirstIs k (Ok r) = r.first ≡ k
 
 -- where none is read, the first is 0
 pub record JudgesRange (i n : ℕ) (r : Range) : Type 0 where
-  pub none : n ≡ 0 → r ≡ range.From 0
+  pub none : n ≡ 0 → FirstIs 0 r
   pub says : (m : MemoryState) → TellsRange m n r (read_columns n (int_of i) m)
-  pub within : RangeWithin n r
+  pub many : AreMany n r
 
 -- ---- depth
 
@@ -72,7 +78,7 @@ any_deep cs low high (suc n) at =
 
 -- the run of register k, if there is one, is as long one level lower, wherever it stands
 abbrev pub Flat : ℕ → Runs → Type 0
-Flat k es = (run : List Cell) → lookup (class_key 0 k) es ≡ some run → (cs : List Cell) (p : ℕ) → Stands cs p run → size cs 8 p ≡ length run
+Flat k es = (run : List Cell) → lookup (class_key 0 k) es ≡ Some run → (cs : List Cell) (p : ℕ) → Stands cs p run → size cs 8 p ≡ length run
 
 -- the entries from `at` on lie below `to`, and there is room from there up to `end`; a run of register k is as long one level lower
 pub record Puttable (cs : List Cell) (at left k to end : ℕ) : Type 0 where
@@ -94,11 +100,11 @@ pub record Ahead (cs : List Cell) (at left k p l : ℕ) : Type 0 where
   pub same : (j : ℕ) → k < j → lookup (class_key 0 j) (entries cs levels l p) ≡ lookup (class_key 0 j) (entries cs levels left at)
 
 -- the column of register k stands there, and the entries for the next are these; or there is no room for it
-abbrev pub PutOr : List Cell → List Cell → ℕ → ℕ → ℕ → ℕ → ℕ → ℕ → Step → Type 0
-PutOr cs ds at left k key to end step.Full = end < to + length (column_run (lookup (class_key 0 k) (entries cs levels left at)))
-PutOr cs ds at left k key to end (step.Next q p l) = Put ds (entries cs levels left at) k key to end q × Ahead cs at left k p l
+abbrev pub PutOr : List Cell → List Cell → ℕ → ℕ → ℕ → ℕ → ℕ → ℕ → Option Progress → Type 0
+PutOr cs ds at left k key to end None = end < to + length (column_run (lookup (class_key 0 k) (entries cs levels left at)))
+PutOr cs ds at left k key to end (Some w) = Put ds (entries cs levels left at) k key to end w.to × Ahead cs at left k w.at w.left
 
-pub record PutsColumn (cs ds : List Cell) (at left k key to end : ℕ) (r : Step) : Type 0 where
+pub record PutsColumn (cs ds : List Cell) (at left k key to end : ℕ) (r : Option Progress) : Type 0 where
   pub answer : PutOr cs ds at left k key to end r
   pub frame : Frame cs ds to (end - to)
 
@@ -108,11 +114,11 @@ pub record Laid (ds : List Cell) (es : Runs) (k n low end q : ℕ) : Type 0 wher
   pub ends : low + sizes (size ds 8) n low ≡ q
   pub runs : entries ds 8 n low ≡ rekeyed 0 (runs_from n k es)
 
-abbrev pub LaidOr : List Cell → Runs → ℕ → ℕ → ℕ → ℕ → Room → Type 0
-LaidOr ds es k n low end room.Full = end < low + total (runs_from n k es)
-LaidOr ds es k n low end (room.At q) = Laid ds es k n low end q
+abbrev pub LaidOr : List Cell → Runs → ℕ → ℕ → ℕ → ℕ → Option ℕ → Type 0
+LaidOr ds es k n low end None = end < low + total (runs_from n k es)
+LaidOr ds es k n low end (Some q) = Laid ds es k n low end q
 
-pub record PutsColumns (cs ds : List Cell) (es : Runs) (k n low end : ℕ) (r : Room) : Type 0 where
+pub record PutsColumns (cs ds : List Cell) (es : Runs) (k n low end : ℕ) (r : Option ℕ) : Type 0 where
   pub answer : LaidOr ds es k n low end r
   pub frame : Frame cs ds low (end - low)
 
@@ -122,11 +128,11 @@ pub record Built (ds : List Cell) (es : Runs) (k n low end p : ℕ) : Type 0 whe
   pub ends : p + size ds levels p ≤ end
   pub run : span ds p (size ds levels p) ≡ cell (head 2 0 0 0) n ∷ flatten (rekeyed 0 (runs_from n k es))
 
-abbrev pub BuiltOr : List Cell → Runs → ℕ → ℕ → ℕ → ℕ → ℕ → Room → Type 0
-BuiltOr ds es k n limit low end room.Full = limit ≤ total (runs_from n k es)
-BuiltOr ds es k n limit low end (room.At p) = Built ds es k n low end p
+abbrev pub BuiltOr : List Cell → Runs → ℕ → ℕ → ℕ → ℕ → ℕ → Option ℕ → Type 0
+BuiltOr ds es k n limit low end None = limit ≤ total (runs_from n k es)
+BuiltOr ds es k n limit low end (Some p) = Built ds es k n low end p
 
-pub record BuildsRecord (cs ds : List Cell) (a : IntMap) (k n limit : ℕ) (r : Room) : Type 0 where
+pub record BuildsRecord (cs ds : List Cell) (a : IntMap) (k n limit : ℕ) (r : Option ℕ) : Type 0 where
   pub answer : BuiltOr ds (runs_at cs a) k n limit (a.base + limit) (a.base + limit + limit) r
   pub frame : Frame cs ds (a.base + limit) limit
 

@@ -1,7 +1,9 @@
 -- What Cast and HaltIfNull store is what the definition changes in place: neither makes a register larger. Assumes nothing.
+use Rattle.refusal.specs.Numbers.{number_of}
+use Rattle.refusal.specs.declared.Refusal.{Refusal}
 use mathlib.Core.Path.{◌≡◌, refl, sym, ap, subst, ◌∙◌}
 use mathlib.Core.Bool.{true, false}
-use mathlib.Core.Option.{Option, none, some}
+use Rattle.std.specs.Prelude.{Option, None, Some, Ok, Err, is_some}
 use mathlib.Core.List.{List}
 use Prim.Native.Nat.{ℕ, ◌%◌}
 use lib.IntN.{ℤ}
@@ -27,24 +29,24 @@ use Rattle.rows.specs.Judged.{Judged}
 use Rattle.rows.specs.declared.Row.{Row}
 use Rattle.state.specs.Arms.{Standard}
 use Rattle.state.specs.Leads.{HoldsMap}
-use Rattle.state.specs.Reads.{Reads, TellsRegister}
+use Rattle.state.specs.Reads.{Reads, TellsRegister, Reading}
 use Rattle.state.specs.declared.Register.{Register}
 use Rattle.state.specs.declared.Register.TheVariants as register
-use Rattle.register_arms.specs.Values.{nullable_of, IsNullable, is_absent}
-use Rattle.register_arms.proofs.ValueLaws.{is_bad, is_absent_lem, IsSome, some-value}
+use Rattle.register_arms.specs.Values.{nullable_of, IsNullable}
+use Rattle.register_arms.proofs.ValueLaws.{absent_lem, IsSome, some-value}
 use Rattle.register_arms.proofs.RegisterLaws.{good_read}
 
-cast_column : (limit : ℕ) (m : MemoryState) → Good limit m → (i : ℤ) (v : Option RegDataType) → IsSome v → read_register i m ≡ done v → (d : DataType) (n : ℕ) → get_or nullables n none ≡ nullable_of v → store_register limit i (Column (Single d (get_or nullables n none))) m ≡ update_register i (cast_to d) m
-cast_column limit m good i none is read d n e = absurd is
-cast_column limit m good i (some v) is read d n e =
+cast_column : (limit : ℕ) (m : MemoryState) → Good limit m → (i : ℤ) (v : Option RegDataType) → IsSome v → read_register i m ≡ done v → (d : DataType) (n : ℕ) → get_or nullables n None ≡ nullable_of v → store_register limit i (Column (Single d (get_or nullables n None))) m ≡ update_register i (cast_to d) m
+cast_column limit m good i None is read d n e = absurd is
+cast_column limit m good i (Some v) is read d n e =
     ap (λ z. store_register limit i (Column (Single d z)) m) e ∙ sym (update_stored good i (cast_to d) v read (cast_to_no_larger d))
 
 module _
     (limit : ℕ) (meaning : Meaning) (l : Listed) (x : Row) (s : Standard limit meaning) (j : Judged l x)
-    (cs : List Cell) (a : IntMap) (r : Register) (bound : ℕ) (m : MemoryState) (h : HoldsMap limit bound cs a m)
+    (cs : List Cell) (a : IntMap) (r : Reading) (bound : ℕ) (m : MemoryState) (h : HoldsMap limit bound cs a m)
   where
     -- what was read, of a register that is known
-    told : (i : ℕ) → Reads cs a i r → (q : Register) → r ≡ q → TellsRegister bound cs a q (read_register (int_of i) m)
+    told : (i : ℕ) → Reads cs a i r → (q : Reading) → r ≡ q → TellsRegister bound cs a q (read_register (int_of i) m)
     told i g q e = (subst (Reads cs a i) e g).says limit bound m h
 
     cast_is : register_arm meaning l m op_cast ≡ update_register (int_of x.p1) (cast_to (affinity_to_type (low_byte l.p2))) m
@@ -52,19 +54,19 @@ module _
     cast_is = ap (λ i. update_register i (cast_to (affinity_to_type (low_byte l.p2))) m) (sym j.p1)
 
     module _ (g : Reads cs a x.p1 r) where
-      pub cast_refused : (n : ℕ) → r ≡ register.Bad n → register_arm meaning l m op_cast ≡ refused n
-      cast_refused n e = cast_is ∙ update_refused h.good (int_of x.p1) (cast_to (affinity_to_type (low_byte l.p2))) n (told x.p1 g (register.Bad n) e)
+      pub cast_refused : (n : Refusal) → r ≡ Err n → register_arm meaning l m op_cast ≡ refused (number_of n)
+      cast_refused n e = cast_is ∙ update_refused h.good (int_of x.p1) (cast_to (affinity_to_type (low_byte l.p2))) (number_of n) (told x.p1 g (Err n) e)
 
-      pub cast_nothing : true ≡ is_absent r → register_arm meaning l m op_cast ≡ done m
-      cast_nothing e =
+      pub cast_nothing : (q : Option Register) → r ≡ Ok q → is_some q ≡ false → register_arm meaning l m op_cast ≡ done m
+      cast_nothing q good e =
           cast_is
-          ∙ update_kept h.good (int_of x.p1) (cast_to (affinity_to_type (low_byte l.p2))) none (told x.p1 g register.Absent (is_absent_lem r e)) tt
+          ∙ update_kept h.good (int_of x.p1) (cast_to (affinity_to_type (low_byte l.p2))) None (told x.p1 g (Ok None) (good ∙ ap Ok (absent_lem q e))) tt
 
-      pub cast_stored : is_bad r ≡ false → false ≡ is_absent r → (d : DataType) (b n : ℕ) → b ≡ x.p2 % 256 → d ≡ affinity_to_type b → IsNullable r n → store_register limit (int_of x.p1) (Column (Single d (get_or nullables n none))) m ≡ register_arm meaning l m op_cast
-      cast_stored good present d b n low kind nullable =
-          let v = good_read limit bound cs a x.p1 r g m h good in
+      pub cast_stored : (q : Option Register) → r ≡ Ok q → is_some q ≡ true → (d : DataType) (b n : ℕ) → b ≡ x.p2 % 256 → d ≡ affinity_to_type b → IsNullable q n → store_register limit (int_of x.p1) (Column (Single d (get_or nullables n None))) m ≡ register_arm meaning l m op_cast
+      cast_stored q good present d b n low kind nullable =
+          let v = good_read limit bound cs a x.p1 r g m h q good in
           let byte : b ≡ low_byte l.p2 = low ∙ sym (int_low x.p2) ∙ ap low_byte j.p2 in
-          cast_column limit m h.good (int_of x.p1) v.value (some-value bound cs a r v.value present v.told) v.answer d n (nullable.says bound cs a v.value v.told)
+          cast_column limit m h.good (int_of x.p1) v.value (some-value bound cs a q v.value present v.told) v.answer d n (nullable.says bound cs a v.value v.told)
           ∙ ap (λ k. update_register (int_of x.p1) (cast_to k) m) (kind ∙ ap affinity_to_type byte)
           ∙ sym cast_is
 
@@ -73,23 +75,23 @@ module _
     halt_is = ap (λ i. update_register i to_not_null m) (sym j.p3)
 
     module _ (g : Reads cs a x.p3 r) where
-      pub halt_refused : (n : ℕ) → r ≡ register.Bad n → register_arm meaning l m op_halt_if_null ≡ refused n
-      halt_refused n e = halt_is ∙ update_refused h.good (int_of x.p3) to_not_null n (told x.p3 g (register.Bad n) e)
+      pub halt_refused : (n : Refusal) → r ≡ Err n → register_arm meaning l m op_halt_if_null ≡ refused (number_of n)
+      halt_refused n e = halt_is ∙ update_refused h.good (int_of x.p3) to_not_null (number_of n) (told x.p3 g (Err n) e)
 
-      pub halt_nothing : r ≡ register.Absent → register_arm meaning l m op_halt_if_null ≡ done m
-      halt_nothing e = halt_is ∙ update_kept h.good (int_of x.p3) to_not_null none (told x.p3 g register.Absent e) tt
+      pub halt_nothing : r ≡ (Ok None) → register_arm meaning l m op_halt_if_null ≡ done m
+      halt_nothing e = halt_is ∙ update_kept h.good (int_of x.p3) to_not_null None (told x.p3 g (Ok None) e) tt
 
-      pub halt_record : (at : ℕ) → r ≡ register.Record at → register_arm meaning l m op_halt_if_null ≡ done m
+      pub halt_record : (at : ℕ) → r ≡ Ok (Some (register.Record at)) → register_arm meaning l m op_halt_if_null ≡ done m
       halt_record at e =
-          let t = told x.p3 g (register.Record at) e in
-          halt_is ∙ update_kept h.good (int_of x.p3) to_not_null (some (Column (Record t.columns))) t.answer refl
+          let t = told x.p3 g (Ok (Some (register.Record at))) e in
+          halt_is ∙ update_kept h.good (int_of x.p3) to_not_null (Some (Column (Record t.columns))) t.answer refl
 
-      pub halt_int : (w : ℕ) → r ≡ register.Int w → register_arm meaning l m op_halt_if_null ≡ done m
+      pub halt_int : (w : ℕ) → r ≡ Ok (Some (register.Int w)) → register_arm meaning l m op_halt_if_null ≡ done m
       halt_int w e =
-          halt_is ∙ update_kept h.good (int_of x.p3) to_not_null (some (Int (int_of w))) (told x.p3 g (register.Int w) e).answer refl
+          halt_is ∙ update_kept h.good (int_of x.p3) to_not_null (Some (Int (int_of w))) (told x.p3 g (Ok (Some (register.Int w))) e).answer refl
 
-      pub halt_stored : (k n : ℕ) (d : DataType) → r ≡ register.Single k n → d ≡ get_or datatypes k Null → store_register limit (int_of x.p3) (Column (Single d (get_or nullables 1 none))) m ≡ register_arm meaning l m op_halt_if_null
+      pub halt_stored : (k n : ℕ) (d : DataType) → r ≡ Ok (Some (register.Single k n)) → d ≡ get_or datatypes k Null → store_register limit (int_of x.p3) (Column (Single d (get_or nullables 1 None))) m ≡ register_arm meaning l m op_halt_if_null
       halt_stored k n d e kind =
-          let v = Column (Single (get_or datatypes k Null) (get_or nullables n none)) in
-          ap (λ y. store_register limit (int_of x.p3) (Column (Single y (some false))) m) kind
-          ∙ sym (halt_is ∙ update_stored h.good (int_of x.p3) to_not_null v (told x.p3 g (register.Single k n) e).answer to_not_null_no_larger)
+          let v = Column (Single (get_or datatypes k Null) (get_or nullables n None)) in
+          ap (λ y. store_register limit (int_of x.p3) (Column (Single y (Some false))) m) kind
+          ∙ sym (halt_is ∙ update_stored h.good (int_of x.p3) to_not_null v (told x.p3 g (Ok (Some (register.Single k n))) e).answer to_not_null_no_larger)

@@ -1,4 +1,7 @@
 -- Null's loop: what is still to come of the definition's loop is the whole. Assumes nothing.
+use Rattle.refusal.specs.declared.Refusal.{Refusal}
+use Rattle.std.specs.Prelude.{Ok, Err}
+use Rattle.intmap.specs.Store.{Stored}
 use mathlib.Core.Path.{◌≡◌, refl, sym, ap, ap₂, subst, ◌∙◌}
 use mathlib.Core.List.{List}
 use Prim.Native.Nat.{ℕ, zero, suc, ◌+◌, ◌-◌, ◌<◌, ◌≤◌}
@@ -16,8 +19,6 @@ use Rattle.area.specs.declared.Cell.{Cell}
 use Rattle.intmap.specs.Signed.{int_of}
 use Rattle.intmap.specs.Map.{Frame}
 use Rattle.intmap.specs.declared.IntMap.{IntMap}
-use Rattle.intmap.specs.declared.Stored.{Stored}
-use Rattle.intmap.specs.declared.Stored.TheVariants as stored
 use Rattle.intmap.proofs.SignedLaws.{int_suc, int_difference}
 use Rattle.rows.specs.Judged.{Judged}
 use Rattle.rows.specs.declared.Row.{Row}
@@ -67,7 +68,7 @@ null-begins limit cs a from n c =
     }
 
 module _ (limit : ℕ) (cs ds : List Cell) (a b : IntMap) (from n i left : ℕ) (rest : Rest limit cs ds a b from n i left) where
-  pub null_ends : (0 < left → ⊥) → Leads limit cs ds a (stored.Done b) (null_many limit n (int_of from))
+  pub null_ends : (0 < left → ⊥) → Leads limit cs ds a (Ok b) (null_many limit n (int_of from))
   null_ends z =
       record {
         says = λ bound m le h.
@@ -78,7 +79,7 @@ module _ (limit : ℕ) (cs ds : List Cell) (a b : IntMap) (from n i left : ℕ) 
       }
 
   module _ (es : List Cell) (r : Stored) (more : 0 < left) (step : Leads limit ds es b r (store_register limit (int_of i) (Column null))) where
-    pub null_refused : (k : ℕ) → r ≡ stored.Refused k → Leads limit cs es a (stored.Refused k) (null_many limit n (int_of from))
+    pub null_refused : (k : Refusal) → r ≡ Err k → Leads limit cs es a (Err k) (null_many limit n (int_of from))
     null_refused k e =
         let told = subst (λ x. Leads limit ds es b x (store_register limit (int_of i) (Column null))) e step in
         record {
@@ -90,7 +91,7 @@ module _ (limit : ℕ) (cs ds : List Cell) (a b : IntMap) (from n i left : ℕ) 
           frame = join cs ds es a.base b.base (limit + limit) rest.base rest.frame told.frame;
         }
 
-    pub null_again : (d : IntMap) → r ≡ stored.Done d → Rest limit cs es a d from n (i + 1) (left - 1)
+    pub null_again : (d : IntMap) → r ≡ Ok d → Rest limit cs es a d from n (i + 1) (left - 1)
     null_again d e =
         let told = subst (λ x. Leads limit ds es b x (store_register limit (int_of i) (Column null))) e step in
         record {

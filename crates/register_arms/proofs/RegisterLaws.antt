@@ -1,7 +1,10 @@
 -- What each arm stores is what the definition's arm gives. Assumes nothing.
+use Rattle.refusal.specs.Numbers.{number_of}
+use Rattle.refusal.specs.declared.Refusal.{Refusal}
+use Rattle.intmap.specs.Store.{Stored}
 use mathlib.Core.Path.{◌≡◌, refl, sym, ap, ap₂, subst, ◌∙◌}
 use mathlib.Core.Bool.{true, false, not}
-use mathlib.Core.Option.{Option, none, some}
+use Rattle.std.specs.Prelude.{Option, None, Some, Ok, Err, is_some}
 use mathlib.Core.List.{List}
 use Prim.Native.Nat.{ℕ, zero, suc, ◌<◌}
 use native.Mathlib.Omega.{arith}
@@ -23,19 +26,16 @@ use Rattle.area.specs.declared.Cell.{Cell}
 use Rattle.intmap.specs.Signed.{offset, int_of}
 use Rattle.intmap.specs.Map.{Frame}
 use Rattle.intmap.specs.declared.IntMap.{IntMap}
-use Rattle.intmap.specs.declared.Stored.{Stored}
-use Rattle.intmap.specs.declared.Stored.TheVariants as stored
 use Rattle.intmap.proofs.SignedLaws.{int_same}
 use Rattle.encoding.specs.Decode.{nullables}
 use Rattle.opcode.specs.P4.{values, function_at, aggregates, aggregate_at}
 use Rattle.rows.specs.Judged.{Judged}
 use Rattle.rows.specs.declared.Row.{Row}
 use Rattle.state.specs.Leads.{Current, Leads, HoldsMap, Tells}
-use Rattle.state.specs.Reads.{Reads}
+use Rattle.state.specs.Reads.{Reads, Reading}
 use Rattle.state.specs.declared.Register.{Register}
-use Rattle.state.specs.declared.Register.TheVariants as register
-use Rattle.register_arms.specs.Values.{datatype_of, nullable_of, IsDatatype, IsNullable, AreNullable, is_absent}
-use Rattle.register_arms.proofs.ValueLaws.{is_bad, IsRead, value_read, operands_are, is_absent_lem, IsSome, some-value}
+use Rattle.register_arms.specs.Values.{datatype_of, nullable_of, IsDatatype, IsNullable, AreNullable}
+use Rattle.register_arms.proofs.ValueLaws.{IsRead, value_read, operands_are, absent_lem, IsSome, some-value}
 use Rattle.state.specs.Arms.{Standard}
 
 -- ---- without a store
@@ -46,10 +46,10 @@ same-frame cs base n = record { long = refl; below = λ j h. refl; above = λ j 
 
 module _ (limit : ℕ) (cs : List Cell) (a : IntMap) (f : MemoryState → Tried MemoryState) where
   -- a refusal, and a map left as it is; what holds of every state that is held suffices
-  pub refuses_leads : (n : ℕ) → ((bound : ℕ) (m : MemoryState) → HoldsMap limit bound cs a m → f m ≡ refused n) → Leads limit cs cs a (stored.Refused n) f
+  pub refuses_leads : (n : Refusal) → ((bound : ℕ) (m : MemoryState) → HoldsMap limit bound cs a m → f m ≡ refused (number_of n)) → Leads limit cs cs a (Err n) f
   refuses_leads n e = record { says = λ bound m le h. e bound m h; leaves = tt; frame = same-frame cs a.base _ }
 
-  pub same_leads : Current limit cs a → ((bound : ℕ) (m : MemoryState) → HoldsMap limit bound cs a m → f m ≡ done m) → Leads limit cs cs a (stored.Done a) f
+  pub same_leads : Current limit cs a → ((bound : ℕ) (m : MemoryState) → HoldsMap limit bound cs a m → f m ≡ done m) → Leads limit cs cs a (Ok a) f
   same_leads c e =
       record {
         says = λ bound m le h. record { state = m; answer = e bound m h; holds = h };
@@ -64,13 +64,13 @@ leads_where {limit} {ds} r e l =
 
 -- ---- Function's values
 
-pub zero-not-null : (p2 : ℕ) → p2 ≡ 9223372036854775808 → get_or nullables 1 none ≡ some (is_nullable by_p2 (int_of p2))
+pub zero-not-null : (p2 : ℕ) → p2 ≡ 9223372036854775808 → get_or nullables 1 None ≡ Some (is_nullable by_p2 (int_of p2))
 unfolding int_of
-zero-not-null p2 e = ap (λ b. some (not b)) (sym (int_same p2 offset ∙ eq-eqb p2 offset e))
+zero-not-null p2 e = ap (λ b. Some (not b)) (sym (int_same p2 offset ∙ eq-eqb p2 offset e))
 
-pub others-null : (p2 : ℕ) → (p2 ≡ 9223372036854775808 → ⊥) → get_or nullables 2 none ≡ some (is_nullable by_p2 (int_of p2))
+pub others-null : (p2 : ℕ) → (p2 ≡ 9223372036854775808 → ⊥) → get_or nullables 2 None ≡ Some (is_nullable by_p2 (int_of p2))
 unfolding int_of
-others-null p2 e = ap (λ b. some (not b)) (sym (int_same p2 offset ∙ ne_eqb p2 offset e))
+others-null p2 e = ap (λ b. Some (not b)) (sym (int_same p2 offset ∙ ne_eqb p2 offset e))
 
 last_of_five : (n : ℕ) → n < 5 → (n ≡ 0 → ⊥) → (n ≡ 1 → ⊥) → (n ≡ 2 → ⊥) → (n ≡ 3 → ⊥) → n ≡ 4
 last_of_five n h a b c d = omega arith
@@ -117,7 +117,7 @@ module _ (limit : ℕ) (meaning : Meaning) (l : Listed) (x : Row) (s : Standard 
   unfolding function_at values
   function_unknown e is = function_is e 0 is
 
-  value_stored : (d : DataType) (k : MayBeNull) (nullable : ℕ) → get_or nullables nullable none ≡ some (is_nullable k (int_of x.p2)) → store_register limit (int_of x.p3) (Column (Single d (get_or nullables nullable none))) m ≡ function_arm meaning.cell_limit l m (some (gives d k))
+  value_stored : (d : DataType) (k : MayBeNull) (nullable : ℕ) → get_or nullables nullable None ≡ Some (is_nullable k (int_of x.p2)) → store_register limit (int_of x.p3) (Column (Single d (get_or nullables nullable None))) m ≡ function_arm meaning.cell_limit l m (Some (gives d k))
   value_stored d k nullable e = rw (e, s.cells, j.p2, j.p3)
 
   module _ (e : x.text ≡ 1) where
@@ -125,32 +125,32 @@ module _ (limit : ℕ) (meaning : Meaning) (l : Listed) (x : Row) (s : Standard 
     unfolding function_at values
     function_rowid is = value_stored Integer never 1 refl ∙ sym (function_is e 1 is)
 
-    module _ (nullable : ℕ) (by_p : get_or nullables nullable none ≡ some (is_nullable by_p2 (int_of x.p2))) where
-      pub function_text : x.function ≡ 2 → store_register limit (int_of x.p3) (Column (Single Text (get_or nullables nullable none))) m ≡ register_arm meaning l m op_function
+    module _ (nullable : ℕ) (by_p : get_or nullables nullable None ≡ Some (is_nullable by_p2 (int_of x.p2))) where
+      pub function_text : x.function ≡ 2 → store_register limit (int_of x.p3) (Column (Single Text (get_or nullables nullable None))) m ≡ register_arm meaning l m op_function
       unfolding function_at values
       function_text is = value_stored Text by_p2 nullable by_p ∙ sym (function_is e 2 is)
 
-      pub function_real : x.function ≡ 3 → store_register limit (int_of x.p3) (Column (Single Float (get_or nullables nullable none))) m ≡ register_arm meaning l m op_function
+      pub function_real : x.function ≡ 3 → store_register limit (int_of x.p3) (Column (Single Float (get_or nullables nullable None))) m ≡ register_arm meaning l m op_function
       unfolding function_at values
       function_real is = value_stored Float by_p2 nullable by_p ∙ sym (function_is e 3 is)
 
-      pub function_integer : (x.function ≡ 0 → ⊥) → (x.function ≡ 1 → ⊥) → (x.function ≡ 2 → ⊥) → (x.function ≡ 3 → ⊥) → store_register limit (int_of x.p3) (Column (Single Integer (get_or nullables nullable none))) m ≡ register_arm meaning l m op_function
+      pub function_integer : (x.function ≡ 0 → ⊥) → (x.function ≡ 1 → ⊥) → (x.function ≡ 2 → ⊥) → (x.function ≡ 3 → ⊥) → store_register limit (int_of x.p3) (Column (Single Integer (get_or nullables nullable None))) m ≡ register_arm meaning l m op_function
       unfolding function_at values
       function_integer a b c d =
           value_stored Integer by_p2 nullable by_p ∙ sym (function_is e 4 (last_of_five x.function (j.function (is_text_lem e)).below a b c d))
 
 -- ---- registers that are read
 
-module _ (limit bound : ℕ) (cs : List Cell) (a : IntMap) (i : ℕ) (r : Register) (g : Reads cs a i r) (m : MemoryState) (h : HoldsMap limit bound cs a m) where
-  pub bad_read : (n : ℕ) → r ≡ register.Bad n → read_register (int_of i) m ≡ refused n
+module _ (limit bound : ℕ) (cs : List Cell) (a : IntMap) (i : ℕ) (r : Reading) (g : Reads cs a i r) (m : MemoryState) (h : HoldsMap limit bound cs a m) where
+  pub bad_read : (n : Refusal) → r ≡ Err n → read_register (int_of i) m ≡ refused (number_of n)
   bad_read n e = (subst (Reads cs a i) e g).says limit bound m h
 
-  pub good_read : is_bad r ≡ false → IsRead bound cs a r (read_register (int_of i) m)
-  good_read e = value_read bound cs a r (read_register (int_of i) m) e (g.says limit bound m h)
+  pub good_read : (q : Option Register) → r ≡ Ok q → IsRead bound cs a q (read_register (int_of i) m)
+  good_read q e = value_read bound cs a q (read_register (int_of i) m) ((subst (Reads cs a i) e g).says limit bound m h)
 
 module _
     (limit : ℕ) (meaning : Meaning) (l : Listed) (x : Row) (s : Standard limit meaning) (j : Judged l x)
-    (cs : List Cell) (a : IntMap) (q r : Register) (gq : Reads cs a x.p1 q) (bound : ℕ) (m : MemoryState) (h : HoldsMap limit bound cs a m)
+    (cs : List Cell) (a : IntMap) (q r : Reading) (gq : Reads cs a x.p1 q) (bound : ℕ) (m : MemoryState) (h : HoldsMap limit bound cs a m)
   where
     abbrev both : Tried (Option RegDataType) → Tried (Option RegDataType) → Tried MemoryState
     both t u = t >>= λ v. u >>= λ w. store_register meaning.cell_limit l.p3 (operands v w) m
@@ -159,21 +159,21 @@ module _
     unfolding register_arm
     arithmetic_is = ap₂ (λ i k. both (read_register i m) (read_register k m)) (sym j.p1) (sym j.p2)
 
-    pub first_refused : (n : ℕ) → q ≡ register.Bad n → register_arm meaning l m op_arithmetic ≡ refused n
+    pub first_refused : (n : Refusal) → q ≡ Err n → register_arm meaning l m op_arithmetic ≡ refused (number_of n)
     first_refused n e = arithmetic_is ∙ ap (λ t. both t (read_register (int_of x.p2) m)) (bad_read limit bound cs a x.p1 q gq m h n e)
 
-    module _ (gr : Reads cs a x.p2 r) (good : is_bad q ≡ false) where
-      v : IsRead bound cs a q (read_register (int_of x.p1) m)
-      v = good_read limit bound cs a x.p1 q gq m h good
+    module _ (gr : Reads cs a x.p2 r) (first_read : Option Register) (good : q ≡ Ok first_read) where
+      v : IsRead bound cs a first_read (read_register (int_of x.p1) m)
+      v = good_read limit bound cs a x.p1 q gq m h first_read good
 
-      pub second_refused : (n : ℕ) → r ≡ register.Bad n → register_arm meaning l m op_arithmetic ≡ refused n
+      pub second_refused : (n : Refusal) → r ≡ Err n → register_arm meaning l m op_arithmetic ≡ refused (number_of n)
       second_refused n e = arithmetic_is ∙ ap₂ both v.answer (bad_read limit bound cs a x.p2 r gr m h n e)
 
-      pub operands_stored : is_bad r ≡ false → (d c e : DataType) (n : ℕ) → e ≡ first_datatype d c → IsDatatype q d → IsDatatype r c → AreNullable q r n → store_register limit (int_of x.p3) (Column (Single e (get_or nullables n none))) m ≡ register_arm meaning l m op_arithmetic
-      operands_stored other d c e n first dq cr nullable =
-          let w = good_read limit bound cs a x.p2 r gr m h other in
+      pub operands_stored : (second_read : Option Register) → r ≡ Ok second_read → (d c e : DataType) (n : ℕ) → e ≡ first_datatype d c → IsDatatype first_read d → IsDatatype second_read c → AreNullable first_read second_read n → store_register limit (int_of x.p3) (Column (Single e (get_or nullables n None))) m ≡ register_arm meaning l m op_arithmetic
+      operands_stored second_read other d c e n first dq cr nullable =
+          let w = good_read limit bound cs a x.p2 r gr m h second_read other in
           let kind : e ≡ first_datatype (datatype_of v.value) (datatype_of w.value) = first ∙ ap₂ first_datatype (dq.says bound cs a v.value v.told) (cr.says bound cs a w.value w.told) in
-          let column : Column (Single e (get_or nullables n none)) ≡ operands v.value w.value =
+          let column : Column (Single e (get_or nullables n None)) ≡ operands v.value w.value =
           ap₂ (λ y z. Column (Single y z)) kind (nullable.says bound cs a v.value w.value v.told w.told) ∙ sym (operands_are v.value w.value) in
           ap (λ y. store_register limit (int_of x.p3) y m) column
           ∙ ap₂ (λ y z. store_register y z (operands v.value w.value) m) (sym s.cells) j.p3
@@ -181,15 +181,15 @@ module _
 
 -- ---- aggregates
 
-sum_column : (limit : ℕ) (k : ℤ) (m : MemoryState) (v : Option RegDataType) → IsSome v → (d e : DataType) (n : ℕ) → e ≡ sum_datatype d → d ≡ datatype_of v → get_or nullables n none ≡ nullable_of v → store_register limit k (Column (Single e (get_or nullables n none))) m ≡ store_some limit k summed v m
-sum_column limit k m none is d e n kind dv nv = absurd is
-sum_column limit k m (some v) is d e n kind dv nv = ap₂ (λ y z. store_register limit k (Column (Single y z)) m) (kind ∙ ap sum_datatype dv) nv
+sum_column : (limit : ℕ) (k : ℤ) (m : MemoryState) (v : Option RegDataType) → IsSome v → (d e : DataType) (n : ℕ) → e ≡ sum_datatype d → d ≡ datatype_of v → get_or nullables n None ≡ nullable_of v → store_register limit k (Column (Single e (get_or nullables n None))) m ≡ store_some limit k summed v m
+sum_column limit k m None is d e n kind dv nv = absurd is
+sum_column limit k m (Some v) is d e n kind dv nv = ap₂ (λ y z. store_register limit k (Column (Single y z)) m) (kind ∙ ap sum_datatype dv) nv
 
-row_column : (limit : ℕ) (k : ℤ) (m : MemoryState) (v : Option RegDataType) → IsSome v → (d : DataType) → d ≡ datatype_of v → store_register limit k (Column (Single d (get_or nullables 2 none))) m ≡ store_some limit k from_other_row v m
-row_column limit k m none is d dv = absurd is
-row_column limit k m (some v) is d dv = ap (λ y. store_register limit k (Column (Single y (some true))) m) dv
+row_column : (limit : ℕ) (k : ℤ) (m : MemoryState) (v : Option RegDataType) → IsSome v → (d : DataType) → d ≡ datatype_of v → store_register limit k (Column (Single d (get_or nullables 2 None))) m ≡ store_some limit k from_other_row v m
+row_column limit k m None is d dv = absurd is
+row_column limit k m (Some v) is d dv = ap (λ y. store_register limit k (Column (Single y (Some true))) m) dv
 
-module _ (limit : ℕ) (cs : List Cell) (a : IntMap) (i k : ℕ) (r : Register) (g : Reads cs a i r) (bound : ℕ) (m : MemoryState) (h : HoldsMap limit bound cs a m) where
+module _ (limit : ℕ) (cs : List Cell) (a : IntMap) (i k : ℕ) (r : Reading) (g : Reads cs a i r) (bound : ℕ) (m : MemoryState) (h : HoldsMap limit bound cs a m) where
   abbrev stores : (RegDataType → RegDataType) → Tried (Option RegDataType) → Tried MemoryState
   stores f t = t >>= λ v. store_some limit (int_of k) f v m
 
@@ -197,23 +197,23 @@ module _ (limit : ℕ) (cs : List Cell) (a : IntMap) (i k : ℕ) (r : Register) 
   unfolding copy_to
   copy_is f = refl
 
-  pub copy_refused : (f : RegDataType → RegDataType) (n : ℕ) → r ≡ register.Bad n → copy_to limit (int_of i) (int_of k) f m ≡ refused n
+  pub copy_refused : (f : RegDataType → RegDataType) (n : Refusal) → r ≡ Err n → copy_to limit (int_of i) (int_of k) f m ≡ refused (number_of n)
   copy_refused f n e = copy_is f ∙ ap (stores f) (bad_read limit bound cs a i r g m h n e)
 
-  pub copy_nothing : (f : RegDataType → RegDataType) → true ≡ is_absent r → copy_to limit (int_of i) (int_of k) f m ≡ done m
-  copy_nothing f e = copy_is f ∙ ap (stores f) ((subst (Reads cs a i) (is_absent_lem r e) g).says limit bound m h)
+  pub copy_nothing : (f : RegDataType → RegDataType) (q : Option Register) → r ≡ Ok q → is_some q ≡ false → copy_to limit (int_of i) (int_of k) f m ≡ done m
+  copy_nothing f q good e = copy_is f ∙ ap (stores f) ((subst (Reads cs a i) (good ∙ ap Ok (absent_lem q e)) g).says limit bound m h)
 
-  module _ (good : is_bad r ≡ false) (present : false ≡ is_absent r) (d : DataType) (kind : IsDatatype r d) where
-    pub sum_stored : (e : DataType) (n : ℕ) → e ≡ sum_datatype d → IsNullable r n → store_register limit (int_of k) (Column (Single e (get_or nullables n none))) m ≡ copy_to limit (int_of i) (int_of k) summed m
+  module _ (q : Option Register) (good : r ≡ Ok q) (present : is_some q ≡ true) (d : DataType) (kind : IsDatatype q d) where
+    pub sum_stored : (e : DataType) (n : ℕ) → e ≡ sum_datatype d → IsNullable q n → store_register limit (int_of k) (Column (Single e (get_or nullables n None))) m ≡ copy_to limit (int_of i) (int_of k) summed m
     sum_stored e n ed nullable =
-        let v = good_read limit bound cs a i r g m h good in
-        sum_column limit (int_of k) m v.value (some-value bound cs a r v.value present v.told) d e n ed (kind.says bound cs a v.value v.told) (nullable.says bound cs a v.value v.told)
+        let v = good_read limit bound cs a i r g m h q good in
+        sum_column limit (int_of k) m v.value (some-value bound cs a q v.value present v.told) d e n ed (kind.says bound cs a v.value v.told) (nullable.says bound cs a v.value v.told)
         ∙ sym (copy_is summed ∙ ap (stores summed) v.answer)
 
-    pub row_stored : store_register limit (int_of k) (Column (Single d (get_or nullables 2 none))) m ≡ copy_to limit (int_of i) (int_of k) from_other_row m
+    pub row_stored : store_register limit (int_of k) (Column (Single d (get_or nullables 2 None))) m ≡ copy_to limit (int_of i) (int_of k) from_other_row m
     row_stored =
-        let v = good_read limit bound cs a i r g m h good in
-        row_column limit (int_of k) m v.value (some-value bound cs a r v.value present v.told) d (kind.says bound cs a v.value v.told)
+        let v = good_read limit bound cs a i r g m h q good in
+        row_column limit (int_of k) m v.value (some-value bound cs a q v.value present v.told) d (kind.says bound cs a v.value v.told)
         ∙ sym (copy_is from_other_row ∙ ap (stores from_other_row) v.answer)
 
 final_same : (limit : ℕ) (l : Listed) (m : MemoryState) (n : ℕ) → n < 5 → (n ≡ 1 → ⊥) → (n ≡ 2 → ⊥) → (n ≡ 4 → ⊥) → agg_final_arm limit l m (aggregate_at n) ≡ done m

@@ -1,5 +1,7 @@
 -- Turns of the definition's loop, first some and then the rest; and registers made null where they stand, one after the other.
 -- Assumes nothing.
+use Rattle.std.specs.Prelude.{Ok, Some}
+use Rattle.intmap.specs.Store.{Stored}
 use mathlib.Core.Path.{◌≡◌, refl, sym, ap, ap₂, subst, ◌∙◌}
 use mathlib.Core.Bool.{Bool, true, false}
 use mathlib.Core.List.{List}
@@ -11,13 +13,9 @@ use Rattle.model.specs.State.{Column, MemoryState, null, datatype_code}
 use Rattle.model.specs.Access.{◌>>=◌, store_register}
 use Rattle.model.specs.RegisterArms.{null_many}
 use Rattle.area.specs.declared.Cell.{Cell}
-use Rattle.intmap.specs.Get.{Gets}
+use Rattle.intmap.specs.Get.{Gets, Slot}
 use Rattle.intmap.specs.Signed.{int_of}
 use Rattle.intmap.specs.declared.IntMap.{IntMap}
-use Rattle.intmap.specs.declared.Slot.{Slot}
-use Rattle.intmap.specs.declared.Slot.TheVariants as slot
-use Rattle.intmap.specs.declared.Stored.{Stored}
-use Rattle.intmap.specs.declared.Stored.TheVariants as stored
 use Rattle.intmap.proofs.SignedLaws.{int_suc}
 use Rattle.encoding.specs.Encode.{single}
 use Rattle.state.specs.Leads.{Current, Leads}
@@ -92,7 +90,7 @@ pub record Nulling (limit : ℕ) (cs ds : List Cell) (a : IntMap) (p from n d : 
   pub low : a.base ≤ p + d
   pub most : p + d ≤ a.base + a.used
 
-pub nulling_first : (limit : ℕ) (cs : List Cell) (a : IntMap) (p from n : ℕ) → Current limit cs a → (x : Slot) → Gets cs a 0 from x → x ≡ slot.At p → Nulling limit cs cs a p from n 0
+pub nulling_first : (limit : ℕ) (cs : List Cell) (a : IntMap) (p from n : ℕ) → Current limit cs a → (x : Slot) → Gets cs a 0 from x → x ≡ Ok (Some p) → Nulling limit cs cs a p from n 0
 nulling_first limit cs a p from n current x gets e =
     let g = subst (Gets cs a 0 from) e gets in
     record { run = run_none limit cs a from n current; current = current; low = omega (arith, g.place.0); most = omega (arith, g.place.1) }
@@ -103,13 +101,13 @@ module _ {limit : ℕ} {cs ds : List Cell} {a : IntMap} {p from n d : ℕ} (null
 
   pub nulling_on : Current limit cs a → d < n → c ≡ single (datatype_code Null) 2 0 → r ≡ true → Nulling limit cs es a p from n (d + 1)
   nulling_on current lt ce e =
-      let step : Leads limit ds es a (stored.Done a) (store_register limit (int_of (from + d)) (Column null)) = cell_leads (over.yes e limit nulling.current.room) (single_leads limit ds es a (from + d) (stored.Done a) Null 2 c (omega arith) ce) in
+      let step : Leads limit ds es a (Ok a) (store_register limit (int_of (from + d)) (Column null)) = cell_leads (over.yes e limit nulling.current.room) (single_leads limit ds es a (from + d) (Ok a) Null 2 c (omega arith) ce) in
       let inside = over.inside e in
       record {
         run = record {
           few = omega arith;
-          leads = leads_as (stored.Done a) (null_more limit d from)
-              (leads_then limit cs ds a (null_many limit d (int_of from)) (store_register limit (int_of (from + d)) (Column null)) current es a (stored.Done a) nulling.run.leads step);
+          leads = leads_as (Ok a) (null_more limit d from)
+              (leads_then limit cs ds a (null_many limit d (int_of from)) (store_register limit (int_of (from + d)) (Column null)) current es a (Ok a) nulling.run.leads step);
         };
         current = led_current nulling.current a step;
         low = omega (arith, nulling.low);

@@ -1,7 +1,7 @@
 -- The kind and the nullable of what a register holds, by value. Assumes nothing.
 use mathlib.Core.Path.{◌≡◌, refl, sym, ap, subst, ◌∙◌}
 use mathlib.Core.Bool.{Bool, true, false, true≢false}
-use mathlib.Core.Option.{Option, none, some}
+use Rattle.std.specs.Prelude.{Option, None, Some, Ok, is_some}
 use mathlib.Core.List.{List}
 use Prim.Native.Nat.{ℕ, zero, suc, ◌<◌, ◌≤◌}
 use native.Mathlib.Omega.{arith}
@@ -17,7 +17,7 @@ use Rattle.encoding.specs.Decode.{datatypes, nullables}
 use Rattle.state.specs.Reads.{TellsRegister}
 use Rattle.state.specs.declared.Register.{Register}
 use Rattle.state.specs.declared.Register.TheVariants as register
-use Rattle.register_arms.specs.Values.{datatype_of, nullable_of, operands_nullable, register_datatype, register_nullable, IsDatatype, IsNullable, AreNullable, is_absent}
+use Rattle.register_arms.specs.Values.{datatype_of, nullable_of, operands_nullable, register_datatype, register_nullable, IsDatatype, IsNullable, AreNullable}
 
 -- ---- codes
 
@@ -35,14 +35,14 @@ datatype_none (suc (suc (suc (suc (suc (suc (suc (suc (suc zero))))))))) a b c d
 datatype_none (suc (suc (suc (suc (suc (suc (suc (suc (suc (suc zero)))))))))) a b c d e f g h i j = absurd (j refl)
 datatype_none (suc (suc (suc (suc (suc (suc (suc (suc (suc (suc (suc k))))))))))) a b c d e f g h i j = refl
 
-pub nullable_none : (n : ℕ) → 3 ≤ n → get_or nullables 0 none ≡ get_or nullables n none
+pub nullable_none : (n : ℕ) → 3 ≤ n → get_or nullables 0 None ≡ get_or nullables n None
 nullable_none zero h = refl
 nullable_none (suc zero) h = absurd (omega arith)
 nullable_none (suc (suc zero)) h = absurd (omega arith)
 nullable_none (suc (suc (suc n))) h = refl
 
 -- the larger code
-pub either_second : (a b : ℕ) → a < b → b < 3 → get_or nullables b none ≡ either_nullable (get_or nullables a none) (get_or nullables b none)
+pub either_second : (a b : ℕ) → a < b → b < 3 → get_or nullables b None ≡ either_nullable (get_or nullables a None) (get_or nullables b None)
 either_second zero b h g = refl
 either_second (suc zero) zero h g = absurd (omega arith)
 either_second (suc zero) (suc zero) h g = absurd (omega arith)
@@ -50,7 +50,7 @@ either_second (suc zero) (suc (suc zero)) h g = refl
 either_second (suc zero) (suc (suc (suc b))) h g = absurd (omega arith)
 either_second (suc (suc a)) b h g = absurd (omega arith)
 
-pub either_first : (a b : ℕ) → b ≤ a → a < 3 → get_or nullables a none ≡ either_nullable (get_or nullables a none) (get_or nullables b none)
+pub either_first : (a b : ℕ) → b ≤ a → a < 3 → get_or nullables a None ≡ either_nullable (get_or nullables a None) (get_or nullables b None)
 either_first zero zero h g = refl
 either_first zero (suc b) h g = absurd (omega arith)
 either_first (suc zero) zero h g = refl
@@ -86,77 +86,71 @@ read-value : {A : Type 0} {v w : A} → done v ≡ done w → v ≡ w
 read-value e = cc
 
 module _ (bound : ℕ) (cs : List Cell) (a : IntMap) where
-  datatype_read : (r : Register) (v : Option RegDataType) → TellsRegister bound cs a r (done v) → register_datatype r ≡ datatype_of v
-  datatype_read (register.Bad n) v t = absurd (not_refused t)
-  datatype_read register.Absent v t = sym (ap datatype_of (read-value t))
-  datatype_read (register.Single k n) v t = sym (ap datatype_of (read-value t.answer))
-  datatype_read (register.Record at) v t = sym (ap datatype_of (read-value t.answer))
-  datatype_read (register.Int w) v t = sym (ap datatype_of (read-value t.answer))
+  datatype_read : (r : Option Register) (v : Option RegDataType) → TellsRegister bound cs a (Ok r) (done v) → register_datatype r ≡ datatype_of v
+  datatype_read None v t = sym (ap datatype_of (read-value t))
+  datatype_read (Some (register.Single k n)) v t = sym (ap datatype_of (read-value t.answer))
+  datatype_read (Some (register.Record at)) v t = sym (ap datatype_of (read-value t.answer))
+  datatype_read (Some (register.Int w)) v t = sym (ap datatype_of (read-value t.answer))
 
-  nullable_read : (r : Register) (v : Option RegDataType) → TellsRegister bound cs a r (done v) → register_nullable r ≡ nullable_of v
-  nullable_read (register.Bad n) v t = absurd (not_refused t)
-  nullable_read register.Absent v t = sym (ap nullable_of (read-value t))
-  nullable_read (register.Single k n) v t = sym (ap nullable_of (read-value t.answer))
-  nullable_read (register.Record at) v t = sym (ap nullable_of (read-value t.answer))
-  nullable_read (register.Int w) v t = sym (ap nullable_of (read-value t.answer))
+  nullable_read : (r : Option Register) (v : Option RegDataType) → TellsRegister bound cs a (Ok r) (done v) → register_nullable r ≡ nullable_of v
+  nullable_read None v t = sym (ap nullable_of (read-value t))
+  nullable_read (Some (register.Single k n)) v t = sym (ap nullable_of (read-value t.answer))
+  nullable_read (Some (register.Record at)) v t = sym (ap nullable_of (read-value t.answer))
+  nullable_read (Some (register.Int w)) v t = sym (ap nullable_of (read-value t.answer))
 
 -- by the variant that it was
-module _ (r q : Register) (e : r ≡ q) where
+module _ (r q : Option Register) (e : r ≡ q) where
   pub datatype_is : (d : DataType) → d ≡ register_datatype q → IsDatatype r d
   datatype_is d is =
       let same : d ≡ register_datatype r = is ∙ ap register_datatype (sym e) in
       record { is = same; says = λ bound cs a v t. same ∙ datatype_read bound cs a r v t }
 
-  pub nullable_is : (n : ℕ) → get_or nullables n none ≡ register_nullable q → n < 3 → IsNullable r n
+  pub nullable_is : (n : ℕ) → get_or nullables n None ≡ register_nullable q → n < 3 → IsNullable r n
   nullable_is n is small =
-      let same : get_or nullables n none ≡ register_nullable r = is ∙ ap register_nullable (sym e) in
+      let same : get_or nullables n None ≡ register_nullable r = is ∙ ap register_nullable (sym e) in
       record { is = same; says = λ bound cs a v t. same ∙ nullable_read bound cs a r v t; below = small }
 
 -- ---- absent, or not
 
-pub is_absent_lem : (r : Register) → true ≡ is_absent r → r ≡ register.Absent
-is_absent_lem (register.Bad n) e = absurd (true≢false e)
-is_absent_lem register.Absent e = refl
-is_absent_lem (register.Single k n) e = absurd (true≢false e)
-is_absent_lem (register.Record at) e = absurd (true≢false e)
-is_absent_lem (register.Int w) e = absurd (true≢false e)
+pub absent_lem : (r : Option Register) → is_some r ≡ false → r ≡ None
+absent_lem None e = refl
+absent_lem (Some q) e = absurd (true≢false e)
 
-none-value : (bound : ℕ) (cs : List Cell) (a : IntMap) (r : Register) (v : Option RegDataType) → true ≡ is_absent r → TellsRegister bound cs a r (done v) → v ≡ none
-none-value bound cs a r v e t = read-value (subst (λ x. TellsRegister bound cs a x (done v)) (is_absent_lem r e) t)
+none-value : (bound : ℕ) (cs : List Cell) (a : IntMap) (r : Option Register) (v : Option RegDataType) → is_some r ≡ false → TellsRegister bound cs a (Ok r) (done v) → v ≡ None
+none-value bound cs a r v e t = read-value (subst (λ x. TellsRegister bound cs a (Ok x) (done v)) (absent_lem r e) t)
 
 abbrev pub IsSome : Option RegDataType → Type 0
-IsSome none = ⊥
-IsSome (some v) = Unit {0}
+IsSome None = ⊥
+IsSome (Some v) = Unit {0}
 
-pub some-value : (bound : ℕ) (cs : List Cell) (a : IntMap) (r : Register) (v : Option RegDataType) → false ≡ is_absent r → TellsRegister bound cs a r (done v) → IsSome v
-some-value bound cs a (register.Bad n) v e t = absurd (not_refused t)
-some-value bound cs a register.Absent v e t = absurd (true≢false (sym e))
-some-value bound cs a (register.Single k n) v e t = subst IsSome (sym (read-value t.answer)) tt
-some-value bound cs a (register.Record at) v e t = subst IsSome (sym (read-value t.answer)) tt
-some-value bound cs a (register.Int w) v e t = subst IsSome (sym (read-value t.answer)) tt
+pub some-value : (bound : ℕ) (cs : List Cell) (a : IntMap) (r : Option Register) (v : Option RegDataType) → is_some r ≡ true → TellsRegister bound cs a (Ok r) (done v) → IsSome v
+some-value bound cs a None v e t = absurd (true≢false (sym e))
+some-value bound cs a (Some (register.Single k n)) v e t = subst IsSome (sym (read-value t.answer)) tt
+some-value bound cs a (Some (register.Record at)) v e t = subst IsSome (sym (read-value t.answer)) tt
+some-value bound cs a (Some (register.Int w)) v e t = subst IsSome (sym (read-value t.answer)) tt
 
-two_none : (v w : Option RegDataType) → w ≡ none → none ≡ operands_nullable v w
-two_none none w e = refl
-two_none (some v) w e = sym (ap (operands_nullable (some v)) e)
+two_none : (v w : Option RegDataType) → w ≡ None → None ≡ operands_nullable v w
+two_none None w e = refl
+two_none (Some v) w e = sym (ap (operands_nullable (Some v)) e)
 
 two_some : (v w : Option RegDataType) (n : Option Bool) → IsSome v → IsSome w → n ≡ either_nullable (nullable_of v) (nullable_of w) → n ≡ operands_nullable v w
-two_some none w n p q e = absurd p
-two_some (some v) none n p q e = absurd q
-two_some (some v) (some w) n p q e = e
+two_some None w n p q e = absurd p
+two_some (Some v) None n p q e = absurd q
+two_some (Some v) (Some w) n p q e = e
 
-module _ (r s : Register) where
-  pub first_absent : true ≡ is_absent r → AreNullable r s 0
+module _ (r s : Option Register) where
+  pub first_absent : is_some r ≡ false → AreNullable r s 0
   first_absent e = record { says = λ bound cs a v w t u. sym (ap (λ x. operands_nullable x w) (none-value bound cs a r v e t)); below = omega arith }
 
-  pub second_absent : true ≡ is_absent s → AreNullable r s 0
+  pub second_absent : is_some s ≡ false → AreNullable r s 0
   second_absent e = record { says = λ bound cs a v w t u. two_none v w (none-value bound cs a s w e u); below = omega arith }
 
-  pub both_nullable : (p q n : ℕ) → false ≡ is_absent r → false ≡ is_absent s → IsNullable r p → IsNullable s q → get_or nullables n none ≡ either_nullable (get_or nullables p none) (get_or nullables q none) → n < 3 → AreNullable r s n
+  pub both_nullable : (p q n : ℕ) → is_some r ≡ true → is_some s ≡ true → IsNullable r p → IsNullable s q → get_or nullables n None ≡ either_nullable (get_or nullables p None) (get_or nullables q None) → n < 3 → AreNullable r s n
   both_nullable p q n ra sa rp sq e small =
       record {
         says = λ bound cs a v w t u.
-            two_some v w (get_or nullables n none) (some-value bound cs a r v ra t) (some-value bound cs a s w sa u)
-            (e ∙ ap (λ x. either_nullable x (get_or nullables q none)) (rp.says bound cs a v t) ∙ ap (either_nullable (nullable_of v)) (sq.says bound cs a w u));
+            two_some v w (get_or nullables n None) (some-value bound cs a r v ra t) (some-value bound cs a s w sa u)
+            (e ∙ ap (λ x. either_nullable x (get_or nullables q None)) (rp.says bound cs a v t) ∙ ap (either_nullable (nullable_of v)) (sq.says bound cs a w u));
         below = small;
       }
 
@@ -176,39 +170,23 @@ first_of_one Time = refl
 first_of_one Datetime = refl
 
 pub operands_are : (v w : Option RegDataType) → operands v w ≡ Column (Single (first_datatype (datatype_of v) (datatype_of w)) (operands_nullable v w))
-operands_are none none = refl
-operands_are none (some w) = refl
-operands_are (some v) none = ap (λ d. Column (Single d none)) (first_of_one (map_to_datatype v))
-operands_are (some v) (some w) = refl
+operands_are None None = refl
+operands_are None (Some w) = refl
+operands_are (Some v) None = ap (λ d. Column (Single d None)) (first_of_one (map_to_datatype v))
+operands_are (Some v) (Some w) = refl
 
 -- ---- a register that could be read
 
-abbrev pub is_bad : Register → Bool
-is_bad (register.Bad n) = true
-is_bad register.Absent = false
-is_bad (register.Single k n) = false
-is_bad (register.Record at) = false
-is_bad (register.Int w) = false
-
--- what `if let` has not taken is no refusal
-pub not_bad : (r : Register) → ((n : ℕ) → r ≡ register.Bad n → ⊥) → is_bad r ≡ false
-not_bad (register.Bad n) h = absurd (h n refl)
-not_bad register.Absent h = refl
-not_bad (register.Single k n) h = refl
-not_bad (register.Record at) h = refl
-not_bad (register.Int w) h = refl
-
-pub record IsRead (bound : ℕ) (cs : List Cell) (a : IntMap) (r : Register) (t : Tried (Option RegDataType)) : Type 0 where
+pub record IsRead (bound : ℕ) (cs : List Cell) (a : IntMap) (r : Option Register) (t : Tried (Option RegDataType)) : Type 0 where
   pub value : Option RegDataType
   pub answer : t ≡ done value
-  pub told : TellsRegister bound cs a r (done value)
+  pub told : TellsRegister bound cs a (Ok r) (done value)
 
-pub value_read : (bound : ℕ) (cs : List Cell) (a : IntMap) (r : Register) (t : Tried (Option RegDataType)) → is_bad r ≡ false → TellsRegister bound cs a r t → IsRead bound cs a r t
-value_read bound cs a (register.Bad n) t e h = absurd (true≢false e)
-value_read bound cs a register.Absent t e h = record { value = _; answer = h; told = subst (TellsRegister bound cs a register.Absent) h h }
-value_read bound cs a (register.Single k n) t e h =
-    record { value = _; answer = h.answer; told = subst (TellsRegister bound cs a (register.Single k n)) h.answer h }
-value_read bound cs a (register.Record at) t e h =
-    record { value = _; answer = h.answer; told = subst (TellsRegister bound cs a (register.Record at)) h.answer h }
-value_read bound cs a (register.Int w) t e h =
-    record { value = _; answer = h.answer; told = subst (TellsRegister bound cs a (register.Int w)) h.answer h }
+pub value_read : (bound : ℕ) (cs : List Cell) (a : IntMap) (r : Option Register) (t : Tried (Option RegDataType)) → TellsRegister bound cs a (Ok r) t → IsRead bound cs a r t
+value_read bound cs a None t h = record { value = _; answer = h; told = subst (TellsRegister bound cs a (Ok None)) h h }
+value_read bound cs a (Some (register.Single k n)) t h =
+    record { value = _; answer = h.answer; told = subst (TellsRegister bound cs a (Ok (Some (register.Single k n)))) h.answer h }
+value_read bound cs a (Some (register.Record at)) t h =
+    record { value = _; answer = h.answer; told = subst (TellsRegister bound cs a (Ok (Some (register.Record at)))) h.answer h }
+value_read bound cs a (Some (register.Int w)) t h =
+    record { value = _; answer = h.answer; told = subst (TellsRegister bound cs a (Ok (Some (register.Int w)))) h.answer h }

@@ -3,8 +3,7 @@
 // two operands, OP_AGG_STEP, OP_AGG_FINAL, OP_NULL, OP_CAST and OP_HALT_IF_NULL, with `map_to_datatype` and `map_to_nullable`.
 #![tactic(auto)]
 
-ghost use Rattle.std.specs.Prelude.{◌≡◌, ◌+◌, ◌%◌, ◌<◌, get_or};
-ghost use Rattle.std.proofs.Math.Option.{none, some};
+ghost use Rattle.std.specs.Prelude.{◌≡◌, ◌+◌, ◌%◌, ◌<◌, get_or, None, Some};
 ghost use Rattle.model.specs.Functions.{by_p2, is_nullable, sum_datatype};
 ghost use Rattle.model.specs.RegisterArms.{summed, from_other_row, copy_to, null_many};
 ghost use Rattle.type_info.specs.declared.DataType.TheVariants.{Null};
@@ -17,18 +16,16 @@ ghost use Rattle.rows.specs.Judged.{IsRow};
 ghost use Rattle.state.specs.Leads.{Current, Leads};
 ghost use Rattle.state.specs.Arms.{RegisterArm};
 ghost use Rattle.register_arms.specs.Nulls.{NullsRun};
-ghost use Rattle.register_arms.specs.Values.{IsDatatype, IsNullable, AreNullable, is_absent};
+ghost use Rattle.register_arms.specs.Values.{IsDatatype, IsNullable, AreNullable};
 
-use intmap::{IntMap, Slot, Stored};
+use intmap::IntMap;
+use refusal::Refusal;
 use rows::Row;
 use state::Register;
 use type_info::DataType;
 
-// The refusal of a P4 that is not UTF-8.
-const NOT_UTF8: u64 = 10;
-
 // Integer: the number P1 in register P2.
-pub fn integer(map: IntMap, area: &mut [u8], x: Row, limit: usize) -> Stored
+pub fn integer(map: IntMap, area: &mut [u8], x: Row, limit: usize) -> Result<IntMap, Refusal>
     requires { Current limit (cells area.old) map × IsRow x }
     ensures { RegisterArm limit (cells area.old) (cells area.new) map x op_integer result }
 {
@@ -36,7 +33,13 @@ pub fn integer(map: IntMap, area: &mut [u8], x: Row, limit: usize) -> Stored
 }
 
 // The operations that store a value of a known kind in register P2.
-pub fn constant(map: IntMap, area: &mut [u8], x: Row, d: DataType, limit: usize) -> Stored
+pub fn constant(
+    map: IntMap,
+    area: &mut [u8],
+    x: Row,
+    d: DataType,
+    limit: usize,
+) -> Result<IntMap, Refusal>
     requires { Current limit (cells area.old) map × IsRow x }
     ensures { RegisterArm limit (cells area.old) (cells area.new) map x (op_constant d) result }
 {
@@ -44,7 +47,7 @@ pub fn constant(map: IntMap, area: &mut [u8], x: Row, d: DataType, limit: usize)
 }
 
 // Variable: a parameter may be null, and its kind is not known.
-pub fn variable(map: IntMap, area: &mut [u8], x: Row, limit: usize) -> Stored
+pub fn variable(map: IntMap, area: &mut [u8], x: Row, limit: usize) -> Result<IntMap, Refusal>
     requires { Current limit (cells area.old) map × IsRow x }
     ensures { RegisterArm limit (cells area.old) (cells area.new) map x op_variable result }
 {
@@ -53,7 +56,7 @@ pub fn variable(map: IntMap, area: &mut [u8], x: Row, limit: usize) -> Stored
 
 // Without arguments, where P2 is 0, the value is never null.
 fn nullable_by(p2: u64) -> u64
-    ensures { (get_or nullables result none ≡ some (is_nullable by_p2 (int_of p2))) × (result < 3) }
+    ensures { (get_or nullables result None ≡ Some (is_nullable by_p2 (int_of p2))) × (result < 3) }
 {
     if p2 == intmap::ZERO {
         return state::NEVER;
@@ -62,15 +65,15 @@ fn nullable_by(p2: u64) -> u64
 }
 
 // Function: the value of a built-in function in register P3; an unknown function changes nothing.
-pub fn function(map: IntMap, area: &mut [u8], x: Row, limit: usize) -> Stored
+pub fn function(map: IntMap, area: &mut [u8], x: Row, limit: usize) -> Result<IntMap, Refusal>
     requires { Current limit (cells area.old) map × IsRow x }
     ensures { RegisterArm limit (cells area.old) (cells area.new) map x op_function result }
 {
     if x.text != 1 {
-        return Stored::Refused(NOT_UTF8);
+        return Err(Refusal::NotUtf8);
     }
     if x.function == 0 {
-        return Stored::Done(map);
+        return Ok(map);
     }
     if x.function == 1 {
         return state::store_single(map, area, x.p3, DataType::Integer, state::NEVER, limit);
@@ -104,13 +107,14 @@ pub fn datatype(kind: u64) -> DataType
     }
 }
 
-// The kind of what a register holds: a record has none, and a known number is an integer.
-pub fn map_to_datatype(r: Register) -> DataType
+// The kind of what a register holds: nothing and a record have none, and a known number is an integer.
+pub fn map_to_datatype(r: Option<Register>) -> DataType
     ensures { IsDatatype r result }
 {
-    match r {
-        Register::Bad(_) => DataType::Null,
-        Register::Absent => DataType::Null,
+    let Some(held) = r else {
+        return DataType::Null;
+    };
+    match held {
         Register::Single(kind, _) => datatype(kind),
         Register::Record(_) => DataType::Null,
         Register::Int(_) => DataType::Integer,
@@ -119,7 +123,7 @@ pub fn map_to_datatype(r: Register) -> DataType
 
 // A code of `nullable`: what is none of them says nothing.
 fn nullable_code(n: u64) -> u64
-    ensures { (get_or nullables result none ≡ get_or nullables n none) × (result < 3) }
+    ensures { (get_or nullables result None ≡ get_or nullables n None) × (result < 3) }
 {
     if n < 3 {
         return n;
@@ -127,13 +131,14 @@ fn nullable_code(n: u64) -> u64
     state::UNKNOWN
 }
 
-// Whether what a register holds is nullable: of a record that is not known, and a known number is not null.
-pub fn map_to_nullable(r: Register) -> u64
+// Whether what a register holds is nullable: of nothing and of a record that is not known, and a known number is not null.
+pub fn map_to_nullable(r: Option<Register>) -> u64
     ensures { IsNullable r result }
 {
-    match r {
-        Register::Bad(_) => state::UNKNOWN,
-        Register::Absent => state::UNKNOWN,
+    let Some(held) = r else {
+        return state::UNKNOWN;
+    };
+    match held {
         Register::Single(_, n) => nullable_code(n),
         Register::Record(_) => state::UNKNOWN,
         Register::Int(_) => state::NEVER,
@@ -153,7 +158,7 @@ pub fn first_datatype(a: DataType, b: DataType) -> DataType
 // Nullable if one is; what is not known says nothing. The codes rise in this order.
 fn either_nullable(a: u64, b: u64) -> u64
     requires { (a < 3) × (b < 3) }
-    ensures { (get_or nullables result none ≡ either_nullable (get_or nullables a none) (get_or nullables b none)) × (result < 3) }
+    ensures { (get_or nullables result None ≡ either_nullable (get_or nullables a None) (get_or nullables b None)) × (result < 3) }
 {
     if a < b {
         return b;
@@ -161,45 +166,26 @@ fn either_nullable(a: u64, b: u64) -> u64
     a
 }
 
-// Whether nothing is in the register.
-fn is_absent(r: Register) -> bool
-    ensures { result ≡ is_absent r }
-{
-    match r {
-        Register::Bad(_) => false,
-        Register::Absent => true,
-        Register::Single(_, _) => false,
-        Register::Record(_) => false,
-        Register::Int(_) => false,
-    }
-}
-
 // Two operands: where one is absent, nothing is known of the other.
-pub fn operands_nullable(a: Register, b: Register) -> u64
+pub fn operands_nullable(a: Option<Register>, b: Option<Register>) -> u64
     ensures { AreNullable a b result }
 {
-    if is_absent(a) {
+    if a.is_none() {
         return state::UNKNOWN;
     }
-    if is_absent(b) {
+    if b.is_none() {
         return state::UNKNOWN;
     }
     either_nullable(map_to_nullable(a), map_to_nullable(b))
 }
 
 // The operations on two operands: the kind of the first, unless it is Null, in register P3.
-pub fn arithmetic(map: IntMap, area: &mut [u8], x: Row, limit: usize) -> Stored
+pub fn arithmetic(map: IntMap, area: &mut [u8], x: Row, limit: usize) -> Result<IntMap, Refusal>
     requires { Current limit (cells area.old) map × IsRow x }
     ensures { RegisterArm limit (cells area.old) (cells area.new) map x op_arithmetic result }
 {
-    let a = state::read_register(map, area, x.p1);
-    if let Register::Bad(n) = a {
-        return Stored::Refused(n);
-    }
-    let b = state::read_register(map, area, x.p2);
-    if let Register::Bad(n) = b {
-        return Stored::Refused(n);
-    }
+    let a = state::read_register(map, area, x.p1)?;
+    let b = state::read_register(map, area, x.p2)?;
     let d = first_datatype(map_to_datatype(a), map_to_datatype(b));
     state::store_single(map, area, x.p3, d, operands_nullable(a, b), limit)
 }
@@ -224,43 +210,43 @@ fn sum_datatype(d: DataType) -> DataType
 }
 
 // The sum of register `from` in register `to`, if there is an operand.
-fn sum(map: IntMap, area: &mut [u8], from: u64, to: u64, limit: usize) -> Stored
+fn sum(map: IntMap, area: &mut [u8], from: u64, to: u64, limit: usize) -> Result<IntMap, Refusal>
     requires { Current limit (cells area.old) map }
     ensures { Leads limit (cells area.old) (cells area.new) map result (copy_to limit (int_of from) (int_of to) summed) }
 {
-    let v = state::read_register(map, area, from);
-    if let Register::Bad(n) = v {
-        return Stored::Refused(n);
-    }
-    if is_absent(v) {
-        return Stored::Done(map);
+    let v = state::read_register(map, area, from)?;
+    if v.is_none() {
+        return Ok(map);
     }
     let d = sum_datatype(map_to_datatype(v));
     state::store_single(map, area, to, d, map_to_nullable(v), limit)
 }
 
 // The kind of register `from` in register `to`: another row's value is null where there is no such row.
-fn other_row(map: IntMap, area: &mut [u8], from: u64, to: u64, limit: usize) -> Stored
+fn other_row(
+    map: IntMap,
+    area: &mut [u8],
+    from: u64,
+    to: u64,
+    limit: usize,
+) -> Result<IntMap, Refusal>
     requires { Current limit (cells area.old) map }
     ensures { Leads limit (cells area.old) (cells area.new) map result (copy_to limit (int_of from) (int_of to) from_other_row) }
 {
-    let v = state::read_register(map, area, from);
-    if let Register::Bad(n) = v {
-        return Stored::Refused(n);
-    }
-    if is_absent(v) {
-        return Stored::Done(map);
+    let v = state::read_register(map, area, from)?;
+    if v.is_none() {
+        return Ok(map);
     }
     state::store_single(map, area, to, map_to_datatype(v), state::NULLABLE, limit)
 }
 
 // AggStep and AggValue: what the aggregate gives in register P3. An aggregate of code 0 gives its operand, which may be a record.
-pub fn agg_step(map: IntMap, area: &mut [u8], x: Row, limit: usize) -> Stored
+pub fn agg_step(map: IntMap, area: &mut [u8], x: Row, limit: usize) -> Result<IntMap, Refusal>
     requires { Current limit (cells area.old) map × IsRow x }
     ensures { RegisterArm limit (cells area.old) (cells area.new) map x op_agg_step result }
 {
     if x.text != 1 {
-        return Stored::Refused(NOT_UTF8);
+        return Err(Refusal::NotUtf8);
     }
     if x.aggregate == 1 {
         return state::store_single(map, area, x.p3, DataType::Integer, state::NEVER, limit);
@@ -278,12 +264,12 @@ pub fn agg_step(map: IntMap, area: &mut [u8], x: Row, limit: usize) -> Stored
 }
 
 // AggFinal: an integer goes to register P1, a real to register P3; a sum and an operand stay as they are.
-pub fn agg_final(map: IntMap, area: &mut [u8], x: Row, limit: usize) -> Stored
+pub fn agg_final(map: IntMap, area: &mut [u8], x: Row, limit: usize) -> Result<IntMap, Refusal>
     requires { Current limit (cells area.old) map × IsRow x }
     ensures { RegisterArm limit (cells area.old) (cells area.new) map x op_agg_final result }
 {
     if x.text != 1 {
-        return Stored::Refused(NOT_UTF8);
+        return Err(Refusal::NotUtf8);
     }
     if x.aggregate == 1 {
         return state::store_single(map, area, x.p1, DataType::Integer, state::NEVER, limit);
@@ -294,7 +280,7 @@ pub fn agg_final(map: IntMap, area: &mut [u8], x: Row, limit: usize) -> Stored
     if x.aggregate == 4 {
         return other_row(map, area, x.p2, x.p3, limit);
     }
-    Stored::Done(map)
+    Ok(map)
 }
 
 // Null in the registers from `from` on where they stand side by side as plain cells, at most n. Gives how many.
@@ -302,8 +288,7 @@ fn null_run(map: IntMap, area: &mut [u8], from: u64, n: u64, limit: usize) -> u6
     requires { Current limit (cells area.old) map × (from + n < 18446744073709551616) }
     ensures { NullsRun limit (cells area.old) (cells area.new) map from n result }
 {
-    let x = state::get(map, area, state::REGISTERS, from);
-    let Slot::At(p) = x else {
+    let Ok(Some(p)) = state::get(map, area, intmap::Class::Registers, from) else {
         return 0;
     };
     let c = state::single(DataType::Null, state::NULLABLE);
@@ -319,7 +304,13 @@ fn null_run(map: IntMap, area: &mut [u8], from: u64, n: u64, limit: usize) -> u6
 
 // Null in n registers from `from` on, first those that stand side by side; a refusal ends it. Each turn leaves one more register of the range
 // present, which is at least a cell, so that the turns are at most one more than the limit, however many n are.
-fn null_many(map: IntMap, area: &mut [u8], from: u64, n: u64, limit: usize) -> Stored
+fn null_many(
+    map: IntMap,
+    area: &mut [u8],
+    from: u64,
+    n: u64,
+    limit: usize,
+) -> Result<IntMap, Refusal>
     requires { Current limit (cells area.old) map × (from + n < 18446744073709551616) }
     ensures { Leads limit (cells area.old) (cells area.new) map result (null_many limit n (int_of from)) }
 {
@@ -328,23 +319,15 @@ fn null_many(map: IntMap, area: &mut [u8], from: u64, n: u64, limit: usize) -> S
     let mut i = from + first;
     let mut left = n - first;
     while 0 < left {
-        let s = state::store_single(held, area, i, DataType::Null, state::NULLABLE, limit);
-        match s {
-            Stored::Refused(k) => {
-                return Stored::Refused(k);
-            }
-            Stored::Done(next) => {
-                held = next;
-            }
-        }
+        held = state::store_single(held, area, i, DataType::Null, state::NULLABLE, limit)?;
         i += 1;
         left -= 1;
     }
-    Stored::Done(held)
+    Ok(held)
 }
 
 // Null: null in the registers from P2 to P3, or in P2 alone.
-pub fn null(map: IntMap, area: &mut [u8], x: Row, limit: usize) -> Stored
+pub fn null(map: IntMap, area: &mut [u8], x: Row, limit: usize) -> Result<IntMap, Refusal>
     requires { Current limit (cells area.old) map × IsRow x }
     ensures { RegisterArm limit (cells area.old) (cells area.new) map x op_null result }
 {
@@ -362,33 +345,29 @@ fn low_byte(w: u64) -> u8
 }
 
 // Cast: the kind of the affinity in P2's low byte in register P1, if something is there; whether it is null stays.
-pub fn cast(map: IntMap, area: &mut [u8], x: Row, limit: usize) -> Stored
+pub fn cast(map: IntMap, area: &mut [u8], x: Row, limit: usize) -> Result<IntMap, Refusal>
     requires { Current limit (cells area.old) map × IsRow x }
     ensures { RegisterArm limit (cells area.old) (cells area.new) map x op_cast result }
 {
-    let v = state::read_register(map, area, x.p1);
-    if let Register::Bad(n) = v {
-        return Stored::Refused(n);
-    }
-    if is_absent(v) {
-        return Stored::Done(map);
+    let v = state::read_register(map, area, x.p1)?;
+    if v.is_none() {
+        return Ok(map);
     }
     let d = opcode::affinity_to_type(low_byte(x.p2));
     state::store_single(map, area, x.p1, d, map_to_nullable(v), limit)
 }
 
 // HaltIfNull: behind it a plain column in register P3 is not null; what else is there stays.
-pub fn halt_if_null(map: IntMap, area: &mut [u8], x: Row, limit: usize) -> Stored
+pub fn halt_if_null(map: IntMap, area: &mut [u8], x: Row, limit: usize) -> Result<IntMap, Refusal>
     requires { Current limit (cells area.old) map × IsRow x }
     ensures { RegisterArm limit (cells area.old) (cells area.new) map x op_halt_if_null result }
 {
-    match state::read_register(map, area, x.p3) {
-        Register::Bad(n) => Stored::Refused(n),
-        Register::Absent => Stored::Done(map),
-        Register::Single(kind, _) => {
+    match state::read_register(map, area, x.p3)? {
+        None => Ok(map),
+        Some(Register::Single(kind, _)) => {
             state::store_single(map, area, x.p3, datatype(kind), state::NEVER, limit)
         }
-        Register::Record(_) => Stored::Done(map),
-        Register::Int(_) => Stored::Done(map),
+        Some(Register::Record(_)) => Ok(map),
+        Some(Register::Int(_)) => Ok(map),
     }
 }

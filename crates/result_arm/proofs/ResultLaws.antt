@@ -1,7 +1,8 @@
 -- The width of a result row is judged first, then the range of its registers, as the definition's arm does. Assumes nothing.
-use mathlib.Core.Path.{◌≡◌, sym, ap, subst, ◌∙◌}
+use Rattle.refusal.specs.declared.Refusal.TheVariants.{TooWide}
+use mathlib.Core.Path.{◌≡◌, sym, ap, ◌∙◌}
 use mathlib.Core.Bool.{false}
-use mathlib.Core.Option.{none, some}
+use Rattle.std.specs.Prelude.{None, Some, Ok, Err}
 use mathlib.Core.List.{List, [], ◌∷◌}
 use Prim.Native.Nat.{ℕ, ◌-◌, ◌<◌, ◌≤◌}
 use native.Mathlib.Omega.{arith}
@@ -17,26 +18,23 @@ use Rattle.intmap.specs.Signed.{offset, int_of}
 use Rattle.intmap.proofs.SignedLaws.{int_turns}
 use Rattle.rows.specs.Judged.{Judged}
 use Rattle.rows.specs.declared.Row.{Row}
-use Rattle.record_arms.specs.Records.{JudgesRange}
-use Rattle.record_arms.specs.declared.Range.{Range}
-use Rattle.record_arms.specs.declared.Range.TheVariants as range
+use Rattle.record_arms.specs.Records.{JudgesRange, Range, columns_from}
 use Rattle.result_arm.specs.Results.{JudgesRow}
-use Rattle.result_arm.specs.declared.Columns.TheVariants as columns
 
 -- n is the width
 module _ (x : Row) (n : ℕ) (ne : n ≡ x.p2 - offset) where
   width : (l : Listed) → Judged l x → n ≡ turns l.p2
   width l j = ne ∙ sym (int_turns x.p2) ∙ ap turns j.p2
 
-  pub row_wide : 2000 < n → JudgesRow x (columns.Refused 12)
+  pub row_wide : 2000 < n → JudgesRow x (Err TooWide)
   unfolding result_row_arm
   row_wide h = record { says = λ row l j m. ap (λ b. result_if b row l m) (lt-leb (turns l.p2) 2000 (omega (arith, width l j))); narrow = tt }
 
-  module _ (h : n ≤ 2000) (r : Range) (g : JudgesRange x.p1 n r) where
+  module _ (h : n ≤ 2000) where
     -- the arm, with what it reads
     abbrev after : Tried (List ColumnType) → ℕ → MemoryState → Offer
     after t row m =
-        t >>= λ cs. done (record { branches = next m ∷ []; stays = none; result = some (record { row = row; columns = result_columns cs }); repeat = false })
+        t >>= λ cs. done (record { branches = next m ∷ []; stays = None; result = Some (record { row = row; columns = result_columns cs }); repeat = false })
 
     reads : (l : Listed) → Judged l x → (m : MemoryState) → read_columns (turns l.p2) l.p1 m ≡ read_columns n (int_of x.p1) m
     reads l j m = ap (λ k. read_columns k l.p1 m) (sym (width l j)) ∙ ap (λ z. read_columns n z m) (sym j.p1)
@@ -45,19 +43,15 @@ module _ (x : Row) (n : ℕ) (ne : n ≡ x.p2 - offset) where
     unfolding result_row_arm
     arm_is row l j m = ap (λ b. result_if b row l m) (le-leb (turns l.p2) 2000 (omega (arith, width l j)))
 
-    pub row_refused : (k : ℕ) → r ≡ range.Bad k → JudgesRow x (columns.Refused k)
-    row_refused k e =
-        let judged = subst (JudgesRange x.p1 n) e g in
-        record { says = λ row l j m. arm_is row l j m ∙ ap (λ t. after t row m) (reads l j m ∙ judged.says m); narrow = tt }
-
-    pub row_read : (first : ℕ) → r ≡ range.From first → JudgesRow x (columns.Registers first n)
-    row_read first e =
-        let judged = subst (JudgesRange x.p1 n) e g in
+    pub row_judged : (r : Range) → JudgesRange x.p1 n r → JudgesRow x r
+    row_judged (Err k) g = record { says = λ row l j m. arm_is row l j m ∙ ap (λ t. after t row m) (reads l j m ∙ g.says m); narrow = tt }
+    row_judged (Ok r) g =
+        let read = λ (l : Listed) (j : Judged l x) (m : MemoryState). reads l j m ∙ g.says m ∙ ap (λ k. done (columns_from k r.first m)) (sym g.many) in
         record {
           says = λ row l j m. record {
-            width = width l j;
-            read = reads l j m ∙ judged.says m;
-            answer = arm_is row l j m ∙ ap (λ t. after t row m) (reads l j m ∙ judged.says m);
+            width = g.many ∙ width l j;
+            read = read l j m;
+            answer = arm_is row l j m ∙ ap (λ t. after t row m) (read l j m);
           };
-          narrow = (judged.within, h);
+          narrow = (r.within, omega (arith, g.many, h));
         }

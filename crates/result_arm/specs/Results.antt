@@ -1,7 +1,8 @@
 -- What ResultRow is judged to: a refusal of the definition's arm, or the registers that are the row's columns in every state, and the arm's
 -- offer then. Assumes nothing.
-use Rattle.std.specs.Prelude.{◌≡◌, false, [], ◌∷◌, ℕ, ◌+◌, ◌≤◌}
-use Rattle.std.proofs.Math.Option.{none, some}
+use Rattle.refusal.specs.Numbers.{number_of}
+use Rattle.refusal.specs.declared.Refusal.{Refusal}
+use Rattle.std.specs.Prelude.{◌≡◌, false, [], ◌∷◌, ℕ, ◌+◌, ◌≤◌, None, Some, Ok, Err, Result}
 use Rattle.model.specs.Walk.{refused, done}
 use Rattle.model.specs.Row.{Row as Listed}
 use Rattle.model.specs.State.{MemoryState}
@@ -12,23 +13,26 @@ use Rattle.model.specs.ResultArm.{result_row_arm}
 use Rattle.rows.specs.Judged.{Judged}
 use Rattle.rows.specs.declared.Row.{Row}
 use Rattle.record_arms.specs.Records.{columns_from}
-use Rattle.result_arm.specs.declared.Columns.{Columns}
-use Rattle.result_arm.specs.declared.Columns.TheVariants as columns
+use Rattle.record_arms.specs.declared.registers.Registers.{Registers}
 
 -- the row's columns are the n registers from `first` on, and the next row is the branch
 pub record Offers (row : ℕ) (l : Listed) (m : MemoryState) (first n : ℕ) (o : Offer) : Type 0 where
   pub width : n ≡ turns l.p2
   pub read : read_columns (turns l.p2) l.p1 m ≡ done (columns_from n first m)
-  pub answer : o ≡ done (record { branches = next m ∷ []; stays = none; result = some (record { row = row; columns = result_columns (columns_from n first m) }); repeat = false })
+  pub answer : o ≡ done (record { branches = next m ∷ []; stays = None; result = Some (record { row = row; columns = result_columns (columns_from n first m) }); repeat = false })
+
+-- a result row, judged: why it is refused, or its registers
+abbrev pub Columns : Type 0
+Columns = Result Registers Refusal
 
 abbrev pub TellsRow : ℕ → Listed → MemoryState → Columns → Offer → Type 0
-TellsRow row l m (columns.Refused k) o = o ≡ refused k
-TellsRow row l m (columns.Registers first n) o = Offers row l m first n o
+TellsRow row l m (Err e) o = o ≡ refused (number_of e)
+TellsRow row l m (Ok r) o = Offers row l m r.first r.count o
 
 -- there are such registers, and no more than a row may have
 abbrev pub Narrow : Columns → Type 0
-Narrow (columns.Refused k) = Unit {0}
-Narrow (columns.Registers first n) = (first + n ≤ 65536) × (n ≤ 2000)
+Narrow (Err e) = Unit {0}
+Narrow (Ok r) = (r.first + r.count ≤ 65536) × (r.count ≤ 2000)
 
 pub record JudgesRow (x : Row) (r : Columns) : Type 0 where
   pub says : (row : ℕ) (l : Listed) → Judged l x → (m : MemoryState) → TellsRow row l m r (result_row_arm row l m)

@@ -1,7 +1,9 @@
 -- Rewind by the emptiness of the cursor's table, and by the cursor that was read. Assumes nothing.
+use Rattle.refusal.specs.Numbers.{number_of}
+use Rattle.refusal.specs.declared.Refusal.{Refusal}
 use mathlib.Core.Path.{◌≡◌, refl, sym, ap, subst, ◌∙◌}
 use mathlib.Core.Bool.{Bool, true, false, not}
-use mathlib.Core.Option.{Option, none, some}
+use Rattle.std.specs.Prelude.{Option, None, Some, Ok, Err}
 use mathlib.Core.List.{List, [], ◌∷◌}
 use Prim.Native.Nat.{ℕ, ◌+◌, ◌≤◌}
 use native.Mathlib.Omega.{arith}
@@ -21,112 +23,89 @@ use Rattle.area.specs.declared.Cell.{Cell}
 use Rattle.intmap.specs.Map.{HasRoom, CopiedMap}
 use Rattle.intmap.specs.Signed.{offset, int_of}
 use Rattle.intmap.specs.declared.IntMap.{IntMap}
-use Rattle.intmap.specs.declared.Stored.TheVariants as stored
-use Rattle.encoding.specs.Encode.{nullable_code}
 use Rattle.encoding.proofs.Updates.{table_kept}
 use Rattle.rows.specs.Judged.{Judged}
 use Rattle.rows.specs.declared.Row.{Row}
 use Rattle.state.specs.Leads.{Current}
-use Rattle.state.specs.Steps.{HoldsState, Offered, TellsStep, JumpArm}
+use Rattle.state.specs.Steps.{HoldsState, Offered, TellsStep, JumpArm, Step, offered}
 use Rattle.state.specs.declared.MemoryState.{MemoryState}
-use Rattle.state.specs.declared.Way.TheVariants as way
-use Rattle.state.specs.declared.Step.{Step}
-use Rattle.state.specs.declared.Step.TheVariants as step
 use Rattle.jump_arms.specs.Arms.{at, Puts, BothArm}
 use Rattle.jump_arms.proofs.StepLaws.{unchanged, zero_word, other_word, held_at, held_next, ends_here, goes_on_lem, branches_only, lies_here}
 use Rattle.jump_arms.proofs.BothLaws.{behind_room, state_room, both_arm}
-use Rattle.cursor_arms.specs.Cursors.{ReadsCursor}
+use Rattle.cursor_arms.specs.Cursors.{Reading, ReadsCursor}
 use Rattle.cursor_arms.specs.StandsFor.{TellsEmpty, CursorTableChanged}
-use Rattle.cursor_arms.specs.declared.CursorDataType.{CursorDataType}
 use Rattle.cursor_arms.specs.declared.CursorDataType.TheVariants as cursor
 use Rattle.rewind_arm.specs.Rewinds.{RewindsTable}
-
--- ---- an emptiness by its code
-
-not-empty : (e : Option Bool) → 1 ≡ nullable_code e → e ≡ some false
-not-empty none h = absurd (omega (arith, h))
-not-empty (some false) h = refl
-not-empty (some true) h = absurd (omega (arith, h))
-
-is-empty : (e : Option Bool) → 2 ≡ nullable_code e → e ≡ some true
-is-empty none h = absurd (omega (arith, h))
-is-empty (some false) h = absurd (omega (arith, h))
-is-empty (some true) h = refl
-
-not_known : (e : Option Bool) (n : ℕ) → n ≡ nullable_code e → (n ≡ 1 → ⊥) → (n ≡ 2 → ⊥) → e ≡ none
-not_known none n h f g = refl
-not_known (some false) n h f g = absurd (f h)
-not_known (some true) n h f g = absurd (g h)
 
 -- ---- what the definition offers, by the emptiness
 
 abbrev emptied : ℕ → Defined → Defined
-emptied row m = update_cursor_table (set_empty (some true)) (some (Normal row)) m
+emptied row m = update_cursor_table (set_empty (Some true)) (Some (Normal row)) m
 
-rewound : (l : Listed) (m : Defined) (row : ℕ) (e : Option Bool) → cursor_is_empty (Normal row) m ≡ e → rewind_cursor l m (some (Normal row)) ≡ offers (branch_if (not (is_false e)) (emptied row (go_to l.p2 m))) (stay_if (not (is_true e)) (next m))
+rewound : (l : Listed) (m : Defined) (row : ℕ) (e : Option Bool) → cursor_is_empty (Normal row) m ≡ e → rewind_cursor l m (Some (Normal row)) ≡ offers (branch_if (not (is_false e)) (emptied row (go_to l.p2 m))) (stay_if (not (is_true e)) (next m))
 unfolding rewind_cursor
 rewound l m row e h = ap (λ u. offers (branch_if (not (is_false u)) (emptied row (go_to l.p2 m))) (stay_if (not (is_true u)) (next m))) h
 
 -- a table that is empty already, or none, stays
-stays_empty : {limit : ℕ} {m : Defined} → Good limit m → (row : ℕ) → cursor_is_empty (Normal row) m ≡ some true → emptied row m ≡ m
+stays_empty : {limit : ℕ} {m : Defined} → Good limit m → (row : ℕ) → cursor_is_empty (Normal row) m ≡ Some true → emptied row m ≡ m
 unfolding update_cursor_table cursor_is_empty
-stays_empty {m = m} good row h = table_kept good row (set_empty (some true)) (go (get row m.t) h)
+stays_empty {m = m} good row h = table_kept good row (set_empty (Some true)) (go (get row m.t) h)
   where
-    go : (o : Option TableDataType) → table_is_empty o ≡ some true → OnSome (λ t. set_empty (some true) t ≡ t) o
-    go none e = tt
-    go (some t) e = ap (λ b. set_empty b t) (sym e)
+    go : (o : Option TableDataType) → table_is_empty o ≡ Some true → OnSome (λ t. set_empty (Some true) t ≡ t) o
+    go None e = tt
+    go (Some t) e = ap (λ b. set_empty b t) (sym e)
 
-empty-there : (m : Defined) (i : ℤ) (row : ℕ) → cursor_is_empty (Normal row) m ≡ some true → cursor_is_empty (Normal row) (go_to i m) ≡ some true
+empty-there : (m : Defined) (i : ℤ) (row : ℕ) → cursor_is_empty (Normal row) m ≡ Some true → cursor_is_empty (Normal row) (go_to i m) ≡ Some true
 unfolding cursor_is_empty
 empty-there m i row e = e
 
 -- ---- on the table of a row
 
-module _ (limit : ℕ) (cs : List Cell) (s : MemoryState) (x : Row) (row : ℕ) (current : Current limit cs s.map) (within : row ≤ 65535) (n : ℕ) (tells : TellsEmpty cs s.map (cursor.Normal row) n) where
-  code : (bound : ℕ) (m : Defined) → HoldsState limit bound cs s m → n ≡ nullable_code (cursor_is_empty (Normal row) m)
-  code bound m h = tells.says limit bound m h.map (some (Normal row)) (record { answer = refl; index = within })
+module _ (limit : ℕ) (cs : List Cell) (s : MemoryState) (x : Row) (row : ℕ) (current : Current limit cs s.map) (within : row ≤ 65535) (e : Option Bool) (tells : TellsEmpty cs s.map (cursor.Normal row) e) where
+  emptiness : (bound : ℕ) (m : Defined) → HoldsState limit bound cs s m → e ≡ cursor_is_empty (Normal row) m
+  emptiness bound m h = tells.says limit bound m h.map (Some (Normal row)) (record { answer = refl; index = within })
 
-  pub table_full : n ≡ 1 → RewindsTable limit cs cs s x row (step.Ways way.Nowhere (way.To (at (s.row + 1) s.map)))
-  table_full e =
+  pub table_full : e ≡ Some false → RewindsTable limit cs cs s x row (offered None (Some (at (s.row + 1) s.map)))
+  table_full is =
       record {
         says = λ l j bound m le h.
-            subst (Offered limit bound cs way.Nowhere (way.To (at (s.row + 1) s.map))) (sym (rewound l m row (some false) (not-empty _ (sym e ∙ code bound m h))))
+            subst (Offered limit bound cs None (Some (at (s.row + 1) s.map))) (sym (rewound l m row (Some false) (sym (emptiness bound m h) ∙ is)))
             (goes_on_lem (held_next s.row h.row h.map));
         leaves = (tt, (refl, current.room));
         frame = unchanged cs _ _;
       }
 
-  pub table_empty : n ≡ 2 → RewindsTable limit cs cs s x row (step.Ways (way.To (at x.p2 s.map)) way.Nowhere)
-  table_empty e =
+  pub table_empty : e ≡ Some true → RewindsTable limit cs cs s x row (offered (Some (at x.p2 s.map)) None)
+  table_empty is =
       record {
         says = λ l j bound m le h.
-            (let empty : cursor_is_empty (Normal row) m ≡ some true = is-empty _ (sym e ∙ code bound m h) in
+            (let empty : cursor_is_empty (Normal row) m ≡ Some true = sym (emptiness bound m h) ∙ is in
             let branch = held_at x.p2 l.p2 j.p2 h.map in
-            subst (Offered limit bound cs (way.To (at x.p2 s.map)) way.Nowhere)
-            (ap (λ u. offers (u ∷ []) none) (sym (stays_empty branch.map.good row (empty-there m l.p2 row empty))) ∙ sym (rewound l m row (some true) empty))
+            subst (Offered limit bound cs (Some (at x.p2 s.map)) None)
+            (ap (λ u. offers (u ∷ []) None) (sym (stays_empty branch.map.good row (empty-there m l.p2 row empty))) ∙ sym (rewound l m row (Some true) empty))
             (branches_only branch));
         leaves = (lies_here x.p2 current, tt);
         frame = unchanged cs _ _;
       }
 
   -- the branch behind the map
-  module _ (f : n ≡ 1 → ⊥) (g : n ≡ 2 → ⊥) (there two : List Cell) (behind : IntMap) (copied : CopiedMap cs there s.map (s.map.base + limit) behind) (changed : CursorTableChanged (set_empty (some true)) there two behind (cursor.Normal row)) where
+  module _ (is : e ≡ None) (there two : List Cell) (behind : IntMap) (copied : CopiedMap cs there s.map (s.map.base + limit) behind) (changed : CursorTableChanged (set_empty (Some true)) there two behind (cursor.Normal row)) where
     room : HasRoom there limit behind
     room = behind_room limit cs there s.map current behind copied
 
-    put : Puts limit there two behind (stored.Done behind) (λ m. done (emptied row m))
+    put : Puts limit there two behind (Ok behind) (λ m. done (emptied row m))
     put =
         record {
           leads =
               record {
-                says = λ bound m le h. record { state = emptied row m; answer = refl; holds = changed.holds limit bound m h (some (Normal row)) (record { answer = refl; index = within }) };
+                says = λ bound m le h. record { state = emptied row m; answer = refl; holds = changed.holds limit bound m h (Some (Normal row)) (record { answer = refl; index = within }) };
                 leaves = record { base = refl; room = changed.room limit room };
                 frame = record { long = changed.frame.long; below = changed.frame.below; above = λ j le. changed.frame.above j (omega (arith, room.most)) };
               };
           frame = record { long = changed.frame.long; below = changed.frame.below; above = λ j le. changed.frame.above j (omega (arith, room.most)) };
         }
 
-    kept_here : Puts limit two two s.map (stored.Done s.map) (λ m. done m)
+    kept_here : Puts limit two two s.map (Ok s.map) (λ m. done m)
     kept_here =
         record {
           leads =
@@ -138,17 +117,17 @@ module _ (limit : ℕ) (cs : List Cell) (s : MemoryState) (x : Row) (row : ℕ) 
           frame = unchanged two _ _;
         }
 
-    both : BothArm limit cs two s x (λ m. done (emptied row m)) (λ m. done m) (step.Ways (way.To (at x.p2 behind)) (way.To (at (s.row + 1) s.map)))
+    both : BothArm limit cs two s x (λ m. done (emptied row m)) (λ m. done m) (offered (Some (at x.p2 behind)) (Some (at (s.row + 1) s.map)))
     unfolding update_cursor_table update_table
     both =
-        both_arm limit cs there s current behind copied x two (λ m. done (emptied row m)) (λ m. done m) (λ m. value refl) (λ m. value refl) behind (stored.Done behind) put refl two
-        (stored.Done s.map) kept_here
+        both_arm limit cs there s current behind copied x two (λ m. done (emptied row m)) (λ m. done m) (λ m. value refl) (λ m. value refl) behind (Ok behind) put refl two
+        (Ok s.map) kept_here
 
-    pub table_unknown : RewindsTable limit cs two s x row (step.Ways (way.To (at x.p2 behind)) (way.To (at (s.row + 1) s.map)))
+    pub table_unknown : RewindsTable limit cs two s x row (offered (Some (at x.p2 behind)) (Some (at (s.row + 1) s.map)))
     table_unknown =
         record {
           says = λ l j bound m le h.
-              subst (Offered limit bound two (way.To (at x.p2 behind)) (way.To (at (s.row + 1) s.map))) (sym (rewound l m row none (not_known _ n (code bound m h) f g)))
+              subst (Offered limit bound two (Some (at x.p2 behind)) (Some (at (s.row + 1) s.map))) (sym (rewound l m row None (sym (emptiness bound m h) ∙ is)))
               (both.says l j bound m le h);
           leaves = both.leaves;
           frame = both.frame;
@@ -157,61 +136,61 @@ module _ (limit : ℕ) (cs : List Cell) (s : MemoryState) (x : Row) (row : ℕ) 
 -- ---- the arm
 
 module _ (limit : ℕ) (cs : List Cell) (s : MemoryState) (x : Row) (current : Current limit cs s.map) where
-  pub rewind_on : x.p2 ≡ offset → JumpArm limit cs cs s x op_rewind (step.Ways way.Nowhere (way.To (at (s.row + 1) s.map)))
+  pub rewind_on : x.p2 ≡ offset → JumpArm limit cs cs s x op_rewind (offered None (Some (at (s.row + 1) s.map)))
   unfolding jump_arm
   rewind_on z =
       record {
         says = λ rows l j bound m le h.
-            subst (λ b. Offered limit bound cs way.Nowhere (way.To (at (s.row + 1) s.map)) (rewind_if b l m)) (sym (zero_word x.p2 l.p2 j.p2 z))
+            subst (λ b. Offered limit bound cs None (Some (at (s.row + 1) s.map)) (rewind_if b l m)) (sym (zero_word x.p2 l.p2 j.p2 z))
             (goes_on_lem (held_next s.row h.row h.map));
         leaves = (tt, (refl, current.room));
         frame = unchanged cs _ _;
       }
 
-  module _ (z : x.p2 ≡ offset → ⊥) (p : CursorDataType) (reads : ReadsCursor cs s.map x.p1 p) where
+  module _ (z : x.p2 ≡ offset → ⊥) (p : Reading) (reads : ReadsCursor cs s.map x.p1 p) where
     -- the arm, by what was read
     by_read : (rows : List Listed) (l : Listed) → Judged l x → (m : Defined) (o : Tried (Option Cursor)) → read_cursor (int_of x.p1) m ≡ o → jump_arm limit rows l m op_rewind ≡ (o >>= rewind_cursor l m)
     unfolding jump_arm
     by_read rows l j m o e =
         ap (λ b. rewind_if b l m) (other_word x.p2 l.p2 j.p2 z) ∙ ap (λ u. u >>= rewind_cursor l m) (ap (λ i. read_cursor i m) (sym j.p1) ∙ e)
 
-    as_read : (q : CursorDataType) → p ≡ q → ReadsCursor cs s.map x.p1 q
+    as_read : (q : Reading) → p ≡ q → ReadsCursor cs s.map x.p1 q
     as_read q e = subst (ReadsCursor cs s.map x.p1) e reads
 
-    pub rewind_bad : (n : ℕ) → p ≡ cursor.Bad n → JumpArm limit cs cs s x op_rewind (step.Refused n)
+    pub rewind_bad : (n : Refusal) → p ≡ Err n → JumpArm limit cs cs s x op_rewind (Err n)
     rewind_bad n e =
         record {
-          says = λ rows l j bound m le h. by_read rows l j m (refused n) ((as_read (cursor.Bad n) e).says limit bound m h.map);
+          says = λ rows l j bound m le h. by_read rows l j m (refused (number_of n)) ((as_read (Err n) e).says limit bound m h.map);
           leaves = tt;
           frame = unchanged cs _ _;
         }
 
-    pub rewind_absent : p ≡ cursor.Absent → JumpArm limit cs cs s x op_rewind (step.Ways way.Nowhere way.Nowhere)
+    pub rewind_absent : p ≡ (Ok None) → JumpArm limit cs cs s x op_rewind (offered None None)
     unfolding rewind_cursor
     rewind_absent e =
         record {
           says = λ rows l j bound m le h.
-              subst (Offered limit bound cs way.Nowhere way.Nowhere) (sym (by_read rows l j m (done none) ((as_read cursor.Absent e).says limit bound m h.map))) ends_here;
+              subst (Offered limit bound cs None None) (sym (by_read rows l j m (done None) ((as_read (Ok None) e).says limit bound m h.map))) ends_here;
           leaves = (tt, tt);
           frame = unchanged cs _ _;
         }
 
-    pub rewind_pseudo : (w : ℕ) → p ≡ cursor.Pseudo w → JumpArm limit cs cs s x op_rewind (step.Ways way.Nowhere (way.To (at (s.row + 1) s.map)))
+    pub rewind_pseudo : (w : ℕ) → p ≡ Ok (Some (cursor.Pseudo w)) → JumpArm limit cs cs s x op_rewind (offered None (Some (at (s.row + 1) s.map)))
     unfolding rewind_cursor cursor_is_empty
     rewind_pseudo w e =
         record {
           says = λ rows l j bound m le h.
-              subst (Offered limit bound cs way.Nowhere (way.To (at (s.row + 1) s.map))) (sym (by_read rows l j m (done (some (Pseudo (int_of w)))) ((as_read (cursor.Pseudo w) e).says limit bound m h.map).answer))
+              subst (Offered limit bound cs None (Some (at (s.row + 1) s.map))) (sym (by_read rows l j m (done (Some (Pseudo (int_of w)))) ((as_read (Ok (Some (cursor.Pseudo w))) e).says limit bound m h.map).answer))
               (goes_on_lem (held_next s.row h.row h.map));
           leaves = (tt, (refl, current.room));
           frame = unchanged cs _ _;
         }
 
-    pub rewind_normal : (row : ℕ) → p ≡ cursor.Normal row → (ds : List Cell) (r : Step) → RewindsTable limit cs ds s x row r → JumpArm limit cs ds s x op_rewind r
+    pub rewind_normal : (row : ℕ) → p ≡ Ok (Some (cursor.Normal row)) → (ds : List Cell) (r : Step) → RewindsTable limit cs ds s x row r → JumpArm limit cs ds s x op_rewind r
     rewind_normal row e ds r arm =
         record {
           says = λ rows l j bound m le h.
-              subst (TellsStep limit bound ds r) (sym (by_read rows l j m (done (some (Normal row))) ((as_read (cursor.Normal row) e).says limit bound m h.map).answer))
+              subst (TellsStep limit bound ds r) (sym (by_read rows l j m (done (Some (Normal row))) ((as_read (Ok (Some (cursor.Normal row))) e).says limit bound m h.map).answer))
               (arm.says l j bound m le h);
           leaves = arm.leaves;
           frame = arm.frame;

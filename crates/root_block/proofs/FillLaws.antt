@@ -1,11 +1,12 @@
 -- The first pass: the records read so far stand in the first cells, and no bucket has any. Assumes nothing.
 use mathlib.Core.Path.{◌≡◌, refl, sym, ap, subst, ◌∙◌}
-use mathlib.Core.Option.{Option, none, some, none-ne-some, some-injective}
+use Rattle.std.specs.Prelude.{Option, None, Some, option_map}
+use Rattle.std.proofs.lemmas.Option.{none-some, same_Some}
 use mathlib.Core.List.{List, [], ◌∷◌, ◌++◌}
-use Prim.Native.Nat.{ℕ, ◌+◌, ◌-◌, ◌<◌, ◌≤◌}
+use Prim.Native.Nat.{ℕ, ◌+◌, ◌-◌, ◌<◌}
 use native.Mathlib.Omega.{arith}
 use native.Mathlib.Decide.{ℕ_discrete}
-use lib.ListN.{length, get_or, set, drop, length-append}
+use lib.ListN.{length, get_or, set, length-append}
 use lib.Seq.{get_or-set_same, get_or-set_other}
 use Rattle.model.specs.Catalogue.{CatalogueRecord}
 use Rattle.model.specs.CatalogueText.{take_record, read_catalogue}
@@ -14,11 +15,11 @@ use Rattle.model.specs.Fields.{items_up_to}
 use Rattle.area.specs.Cells.{blank, cells, Inside, CellsNow}
 use Rattle.area.specs.declared.Cell.{Cell}
 use Rattle.area.proofs.CellLaws.{cells-kept, cleared_cell}
+use Rattle.text.proofs.ReadLaws.{read_shorter}
 use Rattle.text.proofs.ItemLaws.{ItemsRead, items_start, items_next, items_end, items_bad}
-use Rattle.catalogue.specs.Records.{record_in, record_at, RecordAt}
+use Rattle.text.specs.Reads.{Reads}
+use Rattle.catalogue.specs.Records.{record_of}
 use Rattle.catalogue.specs.declared.Record.{Record}
-use Rattle.catalogue.specs.declared.RecordRead.{RecordRead}
-use Rattle.catalogue.specs.declared.RecordRead.TheVariants.{Is, Bad}
 use Rattle.root_block.specs.Blocks.{first_of, IsBlock}
 use Rattle.root_block.specs.Build.{Indexable, Unlinked, StandFrom, Stand}
 
@@ -39,15 +40,15 @@ stand_more cs ds at (x ∷ before) r same is s =
       stand_more cs ds (at + 1) before r (λ j l. same j (omega arith)) (subst (λ j. IsBlock (get_or ds j blank) r) z is) s.1,
     )
 
--- the records before `at` are read: n of them, in the first cells
-pub record Filling (t xs ys : List ℕ) (at n : ℕ) : Type 0 where
+-- of the text t, n records are read, which stand in the first cells, and `rest` is left
+pub record Filling (t rest xs ys : List ℕ) (n : ℕ) : Type 0 where
   pub before : List CatalogueRecord
-  pub read : ItemsRead (λ _. take_record) t at n before
+  pub read : ItemsRead (λ _. take_record) t rest n before
   pub stand : StandFrom (cells ys) 0 before
   pub none : (b : ℕ) → first_of (get_or (cells ys) b blank) ≡ 0
   pub bytes : length ys ≡ length xs
 
-pub filling_first : (t xs : List ℕ) → Indexable t xs → Filling t xs xs 0 0
+pub filling_first : (t xs : List ℕ) → Indexable t xs → Filling t t xs xs 0
 filling_first t xs h =
     record {
       before = [];
@@ -58,60 +59,70 @@ filling_first t xs h =
     }
 
 -- the text's records begin with those that are read
-begins : (t : List ℕ) (at k : ℕ) (first records : List CatalogueRecord) → ItemsRead (λ _. take_record) t at k first → read_catalogue t ≡ some records → (more : List CatalogueRecord) × (records ≡ first ++ more)
+begins : (t rest : List ℕ) (k : ℕ) (first records : List CatalogueRecord) → ItemsRead (λ _. take_record) t rest k first → read_catalogue t ≡ Some records → (more : List CatalogueRecord) × (records ≡ first ++ more)
 unfolding read_catalogue
-begins t at k first records h e = go (items_up_to (λ _. take_record) (length t - k) k (drop at t)) (h.all ∙ e)
+begins t rest k first records h e = go (items_up_to (λ _. take_record) (length t - k) k rest) (h.all ∙ e)
   where
-    go : (o : Option (List CatalogueRecord)) → (o then λ more. some (first ++ more)) ≡ some records → (more : List CatalogueRecord) × (records ≡ first ++ more)
-    go none e = absurd (none-ne-some records e)
-    go (some more) e = (more, sym (some-injective (first ++ more) records e))
+    go : (o : Option (List CatalogueRecord)) → (o then λ more. Some (first ++ more)) ≡ Some records → (more : List CatalogueRecord) × (records ≡ first ++ more)
+    go None e = absurd (none-some records e)
+    go (Some more) e = (more, sym (same_Some (first ++ more) records e))
 
-module _ {t xs ys : List ℕ} {at n : ℕ} (f : Filling t xs ys at n) where
-  pub filling_end : length t ≤ at → Stand t xs ys n
+filling_end : {t rest xs ys : List ℕ} {n : ℕ} → Filling t rest xs ys n → length rest ≡ 0 → Stand t xs ys n
+unfolding read_catalogue
+filling_end {ys = ys} f l =
+    record {
+      says = λ records e.
+          (let q : records ≡ f.before = same_Some records f.before (sym e ∙ items_end (λ _. take_record) f.read l) in
+          (subst (StandFrom (cells ys) 0) (sym q) f.stand, ap length q ∙ f.read.count));
+      none = f.none;
+      bytes = f.bytes;
+    }
+
+module _ {t rest xs ys : List ℕ} {n : ℕ} (f : Filling t rest xs ys n) {last : List ℕ} {o : Option Record} (h : Reads take_record rest last (option_map record_of o)) where
+  filling_bad : o ≡ None → (length rest ≡ 0 → ⊥) → Stand t xs ys n
   unfolding read_catalogue
-  filling_end l =
+  filling_bad e some =
       record {
-        says = λ records e.
-            (let q : records ≡ f.before = some-injective records f.before (sym e ∙ items_end (λ _. take_record) f.read l) in
-            (subst (StandFrom (cells ys) 0) (sym q) f.stand, ap length q ∙ f.read.count));
+        says = λ records read. absurd (none-some records (sym (items_bad (λ _. take_record) f.read some h (ap (option_map record_of) e)) ∙ read));
         none = f.none;
         bytes = f.bytes;
       }
 
-  module _ (l : at < length t) (y : RecordRead) (h : RecordAt t at y) where
-    pub filling_bad : y ≡ Bad → Stand t xs ys n
-    unfolding read_catalogue
-    filling_bad e =
+  -- where no record is read, the text has ended, since it reads
+  pub filling_over : o ≡ None → Stand t xs ys n
+  filling_over e = go (ℕ_discrete (length rest) 0)
+    where
+      go : Dec (length rest ≡ 0) → Stand t xs ys n
+      go (yes l) = filling_end f l
+      go (no some) = filling_bad e some
+
+  module _ {r : Record} (e : o ≡ Some r) where
+    some_left : length rest ≡ 0 → ⊥
+    some_left l = omega (arith, l, read_shorter h (ap (option_map record_of) e))
+
+    next : ItemsRead (λ _. take_record) t last (n + 1) (f.before ++ (record_of r ∷ []))
+    next = items_next (λ _. take_record) f.read some_left h (ap (option_map record_of) e)
+
+    -- there is a cell for it
+    pub filling_inside : Indexable t xs → Inside ys n 1
+    filling_inside i =
+        let long : length (cells ys) ≡ length (cells xs) = cells-kept xs ys f.bytes in
+        let first = f.before ++ (record_of r ∷ []) in
+        let b = begins t last (n + 1) first i.records next i.reads in
+        record { within = omega (arith, i.few, ap length b.1, length-append first b.0, next.count); small = omega (arith, i.small) }
+
+    pub filling_next : Indexable t xs → (zs : List ℕ) (c : Cell) → Unlinked c (record_of r) → CellsNow ys zs (set (cells ys) n c) → Filling t last xs zs (n + 1)
+    filling_next i zs c u s =
+        let lt : n < length (cells ys) = omega (arith, (filling_inside i).within) in
+        let k : length f.before ≡ n = f.read.count in
         record {
-          says = λ records read. absurd (none-ne-some records (sym (items_bad (λ _. take_record) f.read l h.reads (ap (record_at t) e)) ∙ read));
-          none = f.none;
-          bytes = f.bytes;
+          before = f.before ++ (record_of r ∷ []);
+          read = next;
+          stand =
+              stand_more (cells ys) (cells zs) 0 f.before (record_of r)
+              (λ j m. ap (λ l. get_or l j blank) s.cells ∙ get_or-set_other (cells ys) n j c blank (λ q. omega arith))
+              (subst (λ d. IsBlock d (record_of r)) (sym (ap (λ l. get_or l (0 + length f.before) blank) s.cells ∙ ap (λ j. get_or (set (cells ys) n c) j blank) (omega arith) ∙ get_or-set_same (cells ys) n c blank lt)) u.is)
+              f.stand;
+          none = λ b. ap (λ l. first_of (get_or l b blank)) s.cells ∙ at_set (λ d. first_of d ≡ 0) (cells ys) n c b lt (λ q. u.first) (λ q. f.none b);
+          bytes = s.bytes ∙ f.bytes;
         }
-
-    module _ (r : Record) (e : y ≡ Is r) where
-      next : ItemsRead (λ _. take_record) t r.next (n + 1) (f.before ++ (record_in t r ∷ []))
-      next = items_next (λ _. take_record) f.read l h.reads (ap (record_at t) e)
-
-      -- there is a cell for it
-      pub filling_inside : Indexable t xs → Inside ys n 1
-      filling_inside i =
-          let long : length (cells ys) ≡ length (cells xs) = cells-kept xs ys f.bytes in
-          let first = f.before ++ (record_in t r ∷ []) in
-          let b = begins t r.next (n + 1) first i.records next i.reads in
-          record { within = omega (arith, i.few, ap length b.1, length-append first b.0, next.count); small = omega (arith, i.small) }
-
-      pub filling_next : Indexable t xs → (zs : List ℕ) (c : Cell) → Unlinked c (record_in t r) → CellsNow ys zs (set (cells ys) n c) → Filling t xs zs r.next (n + 1)
-      filling_next i zs c u s =
-          let lt : n < length (cells ys) = omega (arith, (filling_inside i).within) in
-          let k : length f.before ≡ n = f.read.count in
-          record {
-            before = f.before ++ (record_in t r ∷ []);
-            read = next;
-            stand =
-                stand_more (cells ys) (cells zs) 0 f.before (record_in t r)
-                (λ j m. ap (λ l. get_or l j blank) s.cells ∙ get_or-set_other (cells ys) n j c blank (λ q. omega arith))
-                (subst (λ d. IsBlock d (record_in t r)) (sym (ap (λ l. get_or l (0 + length f.before) blank) s.cells ∙ ap (λ j. get_or (set (cells ys) n c) j blank) (omega arith) ∙ get_or-set_same (cells ys) n c blank lt)) u.is)
-                f.stand;
-            none = λ b. ap (λ l. first_of (get_or l b blank)) s.cells ∙ at_set (λ d. first_of d ≡ 0) (cells ys) n c b lt (λ q. u.first) (λ q. f.none b);
-            bytes = s.bytes ∙ f.bytes;
-          }

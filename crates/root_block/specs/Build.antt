@@ -1,21 +1,20 @@
 -- How the blocks are made of the catalogue's text: what `root_block_columns` asks, what it leaves, and its two passes. The first writes the
 -- records. The second goes from the last record to the first and links each before those of its bucket. Assumes nothing.
-use Rattle.std.specs.Prelude.{◌≡◌, List, [], ◌∷◌, ℕ, zero, suc, ◌+◌, ◌*◌, ◌%◌, ◌<◌, ◌≤◌, length, get_or, set, replicate}
-use Rattle.std.proofs.Math.Option.{some}
+use Rattle.std.specs.Prelude.{◌≡◌, List, [], ◌∷◌, ℕ, zero, suc, ◌+◌, ◌*◌, ◌%◌, ◌<◌, ◌≤◌, length, get_or, set, replicate, Some}
 use Rattle.model.specs.Catalogue.{CatalogueRecord, record_column}
 use Rattle.model.specs.CatalogueText.{read_catalogue}
 use Rattle.area.specs.Cells.{cell, blank, cells}
 use Rattle.area.specs.declared.Cell.{Cell}
 use Rattle.intmap.specs.Signed.{offset}
 use Rattle.encoding.specs.Encode.{run_column}
-use Rattle.catalogue.specs.Records.{record_in}
+use Rattle.catalogue.specs.Records.{record_of}
 use Rattle.catalogue.specs.declared.Record.{Record}
 use Rattle.root_block.specs.Blocks.{page_of, first_of, IsBlock, HasBlocks}
 
 -- the text has records, and bytes that are all 0 have a cell for each
 pub record Indexable (t bs : List ℕ) : Type 0 where
   pub records : List CatalogueRecord
-  pub reads : read_catalogue t ≡ some records
+  pub reads : read_catalogue t ≡ Some records
   pub size : ℕ
   pub zeros : bs ≡ replicate size 0
   pub few : length records ≤ length (cells bs)
@@ -24,14 +23,14 @@ pub record Indexable (t bs : List ℕ) : Type 0 where
 
 -- the bytes then hold the text's records
 pub record Indexed (t entry exit : List ℕ) : Type 0 where
-  pub says : (records : List CatalogueRecord) → read_catalogue t ≡ some records → HasBlocks exit records
+  pub says : (records : List CatalogueRecord) → read_catalogue t ≡ Some records → HasBlocks exit records
   pub bytes : length exit ≡ length entry
 
 -- ---- the records
 
 -- a cell is the run of a record's column
-abbrev pub IsColumn : List ℕ → Record → Cell → Type 0
-IsColumn t r c = c ∷ [] ≡ run_column r.col (record_column (record_in t r))
+abbrev pub IsColumn : Record → Cell → Type 0
+IsColumn r c = c ∷ [] ≡ run_column r.col (record_column (record_of r))
 
 -- the cell of a record, with no link to a first
 pub record Unlinked (c : Cell) (r : CatalogueRecord) : Type 0 where
@@ -45,7 +44,7 @@ StandFrom cs at (r ∷ rs) = IsBlock (get_or cs at blank) r × StandFrom cs (at 
 
 -- the text's n records stand in the first cells, and no bucket has a first
 pub record Stand (t entry exit : List ℕ) (n : ℕ) : Type 0 where
-  pub says : (records : List CatalogueRecord) → read_catalogue t ≡ some records → StandFrom (cells exit) 0 records × (length records ≡ n)
+  pub says : (records : List CatalogueRecord) → read_catalogue t ≡ Some records → StandFrom (cells exit) 0 records × (length records ≡ n)
   pub none : (b : ℕ) → first_of (get_or (cells exit) b blank) ≡ 0
   pub bytes : length exit ≡ length entry
 

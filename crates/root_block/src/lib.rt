@@ -2,16 +2,16 @@
 // database and page; here the records become cells of a buffer that the caller lends, linked by their pages.
 #![tactic(auto)]
 
-ghost use Rattle.std.specs.Prelude.{◌≡◌, not, ◌+◌, ◌%◌, ◌<◌, ◌≤◌, length, get_or};
-ghost use Rattle.std.proofs.Math.Option.{some};
+ghost use Rattle.std.specs.Prelude.{◌≡◌, not, ◌%◌, ◌<◌, ◌≤◌, length, get_or, Some};
 ghost use Rattle.area.specs.Cells.{blank, cells, Inside, CellsNow};
 ghost use Rattle.encoding.specs.Encode.{nullable_code};
-ghost use Rattle.catalogue.specs.Records.{record_in};
+ghost use Rattle.catalogue.specs.Records.{record_of};
 ghost use Rattle.root_block.specs.Blocks.{first_of};
 ghost use Rattle.root_block.specs.Build.{Indexable, Indexed, IsColumn, Unlinked, Stand, linked, linked_all};
 
 use area::Cell;
-use catalogue::{Record, RecordRead};
+use catalogue::Record;
+use text::Reader;
 use type_info::DataType;
 
 // A payload is a page, and PAGES times its database, and LINK times the link to the bucket's next record.
@@ -25,7 +25,7 @@ pub const COLUMN: u64 = 1099511627776;
 
 // The code of `nullable` for a column that is declared never null, or is not.
 fn nullable(notnull: bool) -> u64
-    ensures { result ≡ nullable_code (some (not notnull)) }
+    ensures { result ≡ nullable_code (Some (not notnull)) }
 {
     if notnull {
         return state::NEVER;
@@ -34,22 +34,20 @@ fn nullable(notnull: bool) -> u64
 }
 
 // The cell of a record's column, under its number.
-fn column_of(catalogue: &[u8], r: Record) -> Cell
-    requires { (r.from + r.size ≤ length catalogue.now) × (r.col ≤ 65535) }
-    ensures { IsColumn catalogue.now r result }
+fn column_of(r: Record) -> Cell
+    requires { r.col ≤ 65535 }
+    ensures { IsColumn r.entry result }
 {
-    let from = r.from;
-    let to = from + r.size;
-    let d = DataType::from_str(&catalogue[from..to]);
+    let d = DataType::from_str(r.declared);
     intmap::with_key(state::single(d, nullable(r.notnull)), r.col)
 }
 
 // The cell of a record, with no links.
-fn block_of(catalogue: &[u8], r: Record) -> Cell
-    requires { (r.from + r.size ≤ length catalogue.now) × (r.db ≤ 1) × (r.page ≤ 2147483647) × (r.col ≤ 65535) }
-    ensures { Unlinked result (record_in catalogue.now r) }
+fn block_of(r: Record) -> Cell
+    requires { (r.db ≤ 1) × (r.page ≤ 2147483647) × (r.col ≤ 65535) }
+    ensures { Unlinked result (record_of r.entry) }
 {
-    let c = column_of(catalogue, r);
+    let c = column_of(r);
     Cell {
         head: c.head,
         payload: r.page + PAGES * r.db,
@@ -61,14 +59,10 @@ fn read_records(catalogue: &[u8], blocks: &mut [u8]) -> usize
     requires { Indexable catalogue.now blocks.old }
     ensures { Stand catalogue.now blocks.old blocks.new result }
 {
-    let mut at: usize = 0;
+    let mut reader = Reader { rest: catalogue };
     let mut n: usize = 0;
-    while at < catalogue.len() {
-        let RecordRead::Is(r) = catalogue::read_record(catalogue, at) else {
-            return n;
-        };
-        area::put_cell(blocks, n, block_of(catalogue, r));
-        at = r.next;
+    while let Some(r) = catalogue::read_record(&mut reader) {
+        area::put_cell(blocks, n, block_of(r));
         n += 1;
     }
     n

@@ -1,9 +1,7 @@
 -- When a judged row says what a row of the listing says to the arms of `explain`: its operation by the arm's number, its operands, and of its P4
 -- whether it is UTF-8, which function's value and which aggregate it names. 01, "Walk, refusals in order":
 -- "10 P4 not UTF-8 at a handled Function, AggStep, AggValue or AggFinal"; no other arm reads it. Assumes nothing.
-use Rattle.std.specs.Prelude.{◌≡◌, true, false, List, ℕ, ◌+◌, ◌≤◌, eqb, length, get_or}
-use Rattle.std.proofs.Math.Option.{some}
-use Rattle.std.proofs.Math.ListN.{get_elem?}
+use Rattle.std.specs.Prelude.{◌≡◌, true, false, List, ℕ, ◌+◌, ◌≤◌, eqb, length, get_or, Some, slice_get}
 use Rattle.type_info.specs.Utf8.{is_utf8}
 use Rattle.model.specs.Row.{Row as Listed}
 use Rattle.model.specs.Operation.{operation_of}
@@ -40,7 +38,7 @@ pub record IsRow (r : Row) : Type 0 where
 
 -- the cells from `from` on have the listing's rows
 abbrev pub HaveRows : List Cell → ℕ → List Listed → Type 0
-HaveRows cs from rows = (i : ℕ) (x : Listed) → get_elem? rows i ≡ some x → Judged x (row_in (get_or cs (from + i) blank))
+HaveRows cs from rows = (i : ℕ) (x : Listed) → slice_get rows i ≡ Some x → Judged x (row_in (get_or cs (from + i) blank))
 
 -- the n cells from `from` on are there, and have the rows of some listing
 pub record SomeRows (cs : List Cell) (from n : ℕ) : Type 0 where

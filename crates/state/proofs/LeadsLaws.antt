@@ -1,5 +1,8 @@
 -- Accesses one after the other lead to the definition's, one after the other: what is still to come from the state now is what the whole gives,
 -- which is the invariant of a loop. Assumes nothing.
+use Rattle.refusal.specs.declared.Refusal.{Refusal}
+use Rattle.std.specs.Prelude.{Ok, Err}
+use Rattle.intmap.specs.Store.{Stored}
 use mathlib.Core.Path.{◌≡◌, refl, sym, ap, subst, ◌∙◌}
 use mathlib.Core.List.{List}
 use Prim.Native.Nat.{ℕ, ◌+◌, ◌≤◌}
@@ -10,8 +13,6 @@ use Rattle.model.specs.Access.{◌>>=◌}
 use Rattle.area.specs.declared.Cell.{Cell}
 use Rattle.intmap.specs.Map.{IsMap, Frame}
 use Rattle.intmap.specs.declared.IntMap.{IntMap}
-use Rattle.intmap.specs.declared.Stored.{Stored}
-use Rattle.intmap.specs.declared.Stored.TheVariants as stored
 use Rattle.intmap.proofs.StoreLaws.{room_map, frame_same}
 use Rattle.state.specs.Leads.{Held, Current, HoldsMap, Tells, Leaves, operands, Leads}
 
@@ -27,7 +28,7 @@ frame_then cs ds es base n f g =
 -- ---- what is held then
 
 -- the state that an access leaves is held
-pub led_current : {limit : ℕ} {cs ds : List Cell} {a : IntMap} {f : MemoryState → Tried MemoryState} → Current limit cs a → (b : IntMap) → Leads limit cs ds a (stored.Done b) f → Current limit ds b
+pub led_current : {limit : ℕ} {cs ds : List Cell} {a : IntMap} {f : MemoryState → Tried MemoryState} → Current limit cs a → (b : IntMap) → Leads limit cs ds a (Ok b) f → Current limit ds b
 led_current {limit} {cs} {ds} {a} current b led =
     let next = led.says current.bound current.state current.large current.holds in
     record {
@@ -68,8 +69,8 @@ module _ {limit : ℕ} {cs ds : List Cell} {a b : IntMap} {whole rest : MemorySt
   framed es f = frame_then cs ds es a.base (limit + limit) r.frame (subst (λ p. Frame ds es p (limit + limit)) r.base f)
 
   stays : (es : List Cell) (s : Stored) → Leaves limit es b s → Leaves limit es a s
-  stays es (stored.Refused n) l = tt
-  stays es (stored.Done c) l = record { base = l.base ∙ r.base; room = l.room }
+  stays es (Err n) l = tt
+  stays es (Ok c) l = record { base = l.base ∙ r.base; room = l.room }
 
   -- all that is still to come is done at once
   pub reached_last : (es : List Cell) (s : Stored) → Leads limit ds es b s rest → Leads limit cs es a s whole
@@ -82,7 +83,7 @@ module _ {limit : ℕ} {cs ds : List Cell} {a b : IntMap} {whole rest : MemorySt
 
   -- f is done, and g is still to come
   module _ (es : List Cell) (f g : MemoryState → Tried MemoryState) (opens : (m : MemoryState) → rest m ≡ f m >>= g) where
-    pub reached_next : (s : Stored) → Leads limit ds es b s f → (c : IntMap) → s ≡ stored.Done c → Reached limit cs es a c whole g
+    pub reached_next : (s : Stored) → Leads limit ds es b s f → (c : IntMap) → s ≡ Ok c → Reached limit cs es a c whole g
     reached_next s led c e =
         let l = subst (λ z. Leads limit ds es b z f) e led in
         record {
@@ -96,7 +97,7 @@ module _ {limit : ℕ} {cs ds : List Cell} {a b : IntMap} {whole rest : MemorySt
         }
 
     -- f refused
-    pub reached_stop : (s : Stored) → Leads limit ds es b s f → (n : ℕ) → s ≡ stored.Refused n → Leads limit cs es a (stored.Refused n) whole
+    pub reached_stop : (s : Stored) → Leads limit ds es b s f → (n : Refusal) → s ≡ Err n → Leads limit cs es a (Err n) whole
     reached_stop s led n e =
         let l = subst (λ z. Leads limit ds es b z f) e led in
         record {
@@ -117,7 +118,7 @@ module _ {limit : ℕ} {cs ds : List Cell} {a b : IntMap} {whole rest : MemorySt
       }
 
   -- nothing is still to come
-  pub reached_end : ((m : MemoryState) → rest m ≡ done m) → Leads limit cs ds a (stored.Done b) whole
+  pub reached_end : ((m : MemoryState) → rest m ≡ done m) → Leads limit cs ds a (Ok b) whole
   reached_end ends =
       record {
         says = λ bound m le h. (let w = r.says bound m le h in record { state = w.state; answer = w.same ∙ ends w.state; holds = w.holds });
@@ -126,7 +127,7 @@ module _ {limit : ℕ} {cs ds : List Cell} {a b : IntMap} {whole rest : MemorySt
       }
 
 -- the map that an access leaves
-pub led_map : {limit : ℕ} {cs ds : List Cell} {a : IntMap} {f : MemoryState → Tried MemoryState} (s : Stored) → Leads limit cs ds a s f → (b : IntMap) → s ≡ stored.Done b → IsMap ds b
+pub led_map : {limit : ℕ} {cs ds : List Cell} {a : IntMap} {f : MemoryState → Tried MemoryState} (s : Stored) → Leads limit cs ds a s f → (b : IntMap) → s ≡ Ok b → IsMap ds b
 led_map {limit} {ds = ds} {a} s led b e = room_map (subst (Leaves limit ds a) e led.leaves).room
 
 -- ---- two accesses, one after the other
@@ -135,8 +136,8 @@ module _ (limit : ℕ) (cs ds : List Cell) (a : IntMap) (f g : MemoryState → T
   here : Reached limit cs cs a a (λ m. f m >>= g) (λ m. f m >>= g)
   here = reached_first limit cs a (λ m. f m >>= g) current
 
-  pub leads_then : (es : List Cell) (b : IntMap) (r : Stored) → Leads limit cs ds a (stored.Done b) f → Leads limit ds es b r g → Leads limit cs es a r (λ m. f m >>= g)
-  leads_then es b r first second = reached_last (reached_next here ds f g (λ m. refl) (stored.Done b) first b refl) es r second
+  pub leads_then : (es : List Cell) (b : IntMap) (r : Stored) → Leads limit cs ds a (Ok b) f → Leads limit ds es b r g → Leads limit cs es a r (λ m. f m >>= g)
+  leads_then es b r first second = reached_last (reached_next here ds f g (λ m. refl) (Ok b) first b refl) es r second
 
-  pub leads_stop : (n : ℕ) → Leads limit cs ds a (stored.Refused n) f → Leads limit cs ds a (stored.Refused n) (λ m. f m >>= g)
-  leads_stop n first = reached_stop here ds f g (λ m. refl) (stored.Refused n) first n refl
+  pub leads_stop : (n : Refusal) → Leads limit cs ds a (Err n) f → Leads limit cs ds a (Err n) (λ m. f m >>= g)
+  leads_stop n first = reached_stop here ds f g (λ m. refl) (Err n) first n refl

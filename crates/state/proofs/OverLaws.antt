@@ -1,4 +1,6 @@
 -- A record put over another where that stands is what an insertion leaves, and a store. Assumes nothing.
+use Rattle.refusal.specs.declared.Refusal.{Refusal}
+use Rattle.std.specs.Prelude.{Ok, Err, Some, Option}
 use mathlib.Core.Path.{◌≡◌, refl, sym, ap, subst, ◌∙◌}
 use mathlib.Core.Bool.{Bool, true, false, true≢false}
 use mathlib.Core.List.{List, ◌∷◌}
@@ -12,19 +14,13 @@ use Rattle.area.specs.declared.Cell.{Cell}
 use Rattle.intmap.specs.Change.{rekey}
 use Rattle.intmap.specs.Entries.{span}
 use Rattle.intmap.specs.Find.{seek}
-use Rattle.intmap.specs.Get.{index_of, Judges}
+use Rattle.intmap.specs.Get.{index_of, Judges, Index}
 use Rattle.intmap.specs.Map.{levels, IsMap}
 use Rattle.intmap.specs.Over.{Coverable, CopiesOver, Overlaid}
 use Rattle.intmap.specs.Pack.{tag_of, key_of, class_key}
 use Rattle.intmap.specs.Runs.{size, IsColumn}
 use Rattle.intmap.specs.Signed.{int_of}
-use Rattle.intmap.specs.declared.Index.{Index}
-use Rattle.intmap.specs.declared.Index.TheVariants as index_is
 use Rattle.intmap.specs.declared.IntMap.{IntMap}
-use Rattle.intmap.specs.declared.Insertion.TheVariants as insertion
-use Rattle.intmap.specs.declared.Slot.{Slot}
-use Rattle.intmap.specs.declared.Slot.TheVariants as slot
-use Rattle.intmap.specs.declared.Stored.TheVariants as stored
 use Rattle.intmap.proofs.ChangeLaws.{key-rekey}
 use Rattle.intmap.proofs.EntryLaws.{opened}
 use Rattle.intmap.proofs.FindLaws.{seek_key}
@@ -37,7 +33,7 @@ use Rattle.state.specs.Own.{entry_slot}
 use Rattle.state.specs.Over.{IsHead, headed, OverEntry, OverRegister}
 use Rattle.state.proofs.OwnLaws.{case, entry_led}
 
-pub entry-not : {cs : List Cell} {a : IntMap} {at : ℕ} {c : Cell} {class k : ℕ} {s : Slot} → s ≡ entry_slot cs a class k → (case s ≡ 2 → ⊥) → OverEntry cs cs a at c class k false
+pub entry-not : {cs : List Cell} {a : IntMap} {at : ℕ} {c : Cell} {class k : ℕ} {s : Option ℕ} → s ≡ entry_slot cs a class k → (case s ≡ 2 → ⊥) → OverEntry cs cs a at c class k false
 entry-not is other = record { flat = λ e. absurd (true≢false (sym e)); yes = λ e. absurd (true≢false (sym e)); none = λ _ p e k. other (ap case (is ∙ e)); no = λ _. refl }
 
 pub register_not : {cs : List Cell} {a : IntMap} {at : ℕ} {c : Cell} {i : ℕ} → (tag_of c ≡ 2 → ⊥) → OverRegister cs cs a at c i false
@@ -48,7 +44,7 @@ abbrev judged : Tried ℕ → ℕ
 judged (refused n) = 0
 judged (done k) = suc k
 
-pub register_bad : {cs : List Cell} {a : IntMap} {at : ℕ} {c : Cell} {i n : ℕ} {x : Index} → Judges i x → x ≡ index_is.Bad n → OverRegister cs cs a at c i false
+pub register_bad : {cs : List Cell} {a : IntMap} {at : ℕ} {c : Cell} {i : ℕ} {n : Refusal} {x : Index} → Judges i x → x ≡ Err n → OverRegister cs cs a at c i false
 register_bad {x = x} judges xe =
     record {
       flat = λ e. absurd (true≢false (sym e));
@@ -58,7 +54,7 @@ register_bad {x = x} judges xe =
     }
 
 -- the entry that was found
-module _ (cs : List Cell) (a : IntMap) (class k p : ℕ) (s : Slot) (is : s ≡ entry_slot cs a class k) (e : s ≡ slot.At p) where
+module _ (cs : List Cell) (a : IntMap) (class k p : ℕ) (s : Option ℕ) (is : s ≡ entry_slot cs a class k) (e : s ≡ Some p) where
   led : ((seek cs levels (class_key class k) a.len a.base).present ≡ true) × ((seek cs levels (class_key class k) a.len a.base).at ≡ p)
   led = entry_led cs a class k p (sym is ∙ e)
 
@@ -79,16 +75,16 @@ module _ (cs : List Cell) (a : IntMap) (class k p : ℕ) (s : Slot) (is : s ≡ 
         no = copies.no;
       }
     where
-      same_place : {u v : ℕ} → slot.At u ≡ slot.At v → u ≡ v
+      same_place : {u v : ℕ} → Some u ≡ Some v → u ≡ v
       same_place {u} {v} f = cc
 
-pub register_over : {cs ds : List Cell} {a : IntMap} {at : ℕ} {c : Cell} {i k : ℕ} {x : Index} {r : Bool} → Judges i x → x ≡ index_is.At k → OverEntry cs ds a at c 0 k r → OverRegister cs ds a at c i r
+pub register_over : {cs ds : List Cell} {a : IntMap} {at : ℕ} {c : Cell} {i k : ℕ} {x : Index} {r : Bool} → Judges i x → x ≡ Ok k → OverEntry cs ds a at c 0 k r → OverRegister cs ds a at c i r
 register_over {cs} {ds} {a} {at} {c} {i} {k} {x} judges xe over =
     record {
       flat = over.flat;
       yes = λ e limit depth has low.
-          store_tried cs ds limit a 0 i depth (headed cs at c) x judges.answer k xe (class_key 0 k) (rekey (class_key 0 k) (headed cs at c)) (insertion.Done a) (stored.Done a) low refl refl (over.yes e limit has) refl;
-      none = λ e j p d slot_at able. over.none e p (subst (λ z. entry_slot cs a 0 z ≡ slot.At p) (same_index j d) slot_at) able;
+          store_tried cs ds limit a 0 i depth (headed cs at c) x judges.answer k xe (class_key 0 k) (rekey (class_key 0 k) (headed cs at c)) (Ok a) low refl refl (over.yes e limit has);
+      none = λ e j p d slot_at able. over.none e p (subst (λ z. entry_slot cs a 0 z ≡ Some p) (same_index j d) slot_at) able;
       no = over.no;
     }
   where

@@ -1,5 +1,8 @@
 -- A cell with an entry's key, in cells that hold a state, is the entry: what is read there is what `get` reads, and a store over it is the store of
 -- its class and index. Assumes nothing.
+use Rattle.std.proofs.lemmas.Option.{none-some, same_Some}
+use Rattle.refusal.specs.declared.Refusal.{Refusal}
+use Rattle.std.specs.Prelude.{Ok, Err, Some, None, Option, Result}
 use mathlib.Core.Path.{◌≡◌, refl, sym, ap, ap₂, subst, ◌∙◌}
 use mathlib.Core.Logic.{◌⊎◌, inl, inr}
 use mathlib.Core.Bool.{Bool, true, false, ◌&&◌, true≢false}
@@ -17,20 +20,13 @@ use Rattle.area.specs.Cells.{blank}
 use Rattle.area.specs.declared.Cell.{Cell}
 use Rattle.intmap.specs.Find.{place, seek}
 use Rattle.intmap.specs.Runs.{size, sizes}
-use Rattle.intmap.specs.Get.{index_of, Judges, Gets}
+use Rattle.intmap.specs.Get.{index_of, Judges, Gets, Index}
 use Rattle.intmap.specs.Map.{levels, IsMap, HasRoom, Frame}
 use Rattle.intmap.specs.Pack.{tag_of, key_of, with_key, class_key}
 use Rattle.intmap.specs.Pick.{pick}
-use Rattle.intmap.specs.Store.{NewAt, Stores}
+use Rattle.intmap.specs.Store.{NewAt, Stores, Stored}
 use Rattle.intmap.specs.declared.Found.{Found}
-use Rattle.intmap.specs.declared.Index.{Index}
-use Rattle.intmap.specs.declared.Index.TheVariants as index_is
-use Rattle.intmap.specs.declared.Insertion.TheVariants as insertion
 use Rattle.intmap.specs.declared.IntMap.{IntMap}
-use Rattle.intmap.specs.declared.Slot.{Slot}
-use Rattle.intmap.specs.declared.Slot.TheVariants as slot
-use Rattle.intmap.specs.declared.Stored.{Stored}
-use Rattle.intmap.specs.declared.Stored.TheVariants as stored
 use Rattle.intmap.proofs.FindLaws.{found_within, found-whole, found-key, seek_last, seek_stop, seek_beyond, seek_mono}
 use Rattle.intmap.proofs.RunLaws.{size-pos, size_record}
 use Rattle.intmap.proofs.GetLaws.{get_absent, get_at}
@@ -39,7 +35,7 @@ use Rattle.intmap.proofs.Overwritten.{alike, alike_room, overwritten}
 use Rattle.intmap.proofs.PackLaws.{keyed_tag, keyed_key}
 use Rattle.encoding.proofs.Places.{sizes-many, held_place}
 use Rattle.state.specs.Leads.{HoldsMap, Leaves, Held, Leads}
-use Rattle.state.specs.Own.{found_slot, entry_slot, is_at, is_flat, HeldAmong, Guesses, FlatSize, Reaches, EntryBelow, Belongs, Locates, HasKey, Own, PutsPlain, OverwritesOwn, StoresCell, WritesNear, LeadsNear, GetsNear, EntryNear, Overwrites}
+use Rattle.state.specs.Own.{found_slot, entry_slot, is_at, is_flat, HeldAmong, KeyAt, Guesses, FlatSize, Reaches, EntryBelow, Belongs, Locates, HasKey, Own, PutsPlain, OverwritesOwn, StoresCell, WritesNear, LeadsNear, GetsNear, EntryNear, Overwrites}
 use Rattle.state.proofs.StoreLeads.{wider}
 
 -- what the tests of a cell tell
@@ -61,19 +57,24 @@ module _ (cs : List Cell) (end key p : ℕ) where
       go false l t = absurd (true≢false (sym t))
 
   -- a place that passed them is a guess
-  pub guessed : (base : ℕ) → base ≤ p → is_at cs end key p ≡ true → Guesses cs base end key p
-  guessed base low e = record { low = low; high = omega (arith, (told_key e).0); is = λ lt. (told_key e).1 }
+  pub key_told : (base : ℕ) → base ≤ p → is_at cs end key p ≡ true → KeyAt cs base end key p
+  key_told base low e = record { low = low; inside = (told_key e).0; is = (told_key e).1 }
+
+pub guess_at : {cs : List Cell} {base end key p : ℕ} → KeyAt cs base end key p → Guesses cs base end key (Some p)
+guess_at {cs} {base} {end} {key} {p} k = record { is = λ q e. subst (KeyAt cs base end key) (same_Some p q e) k }
+
+pub guess_none : {cs : List Cell} {base end key : ℕ} → Guesses cs base end key None
+guess_none = record { is = λ q e. absurd (none-some q e) }
+
+pub guessed : (cs : List Cell) (end key p base : ℕ) → base ≤ p → is_at cs end key p ≡ true → Guesses cs base end key (Some p)
+guessed cs end key p base low e = guess_at (key_told cs end key p base low e)
 
 pub has_key : (cs : List Cell) (a : IntMap) (key p : ℕ) → a.base ≤ p → is_at cs (a.base + a.used) key p ≡ true → HasKey cs a key p
 has_key cs a key p low e = record { low = low; inside = (told_key cs (a.base + a.used) key p e).0; is = (told_key cs (a.base + a.used) key p e).1 }
 
 -- so is one whose cell was read
-pub guessed_here : {cs : List Cell} {base end key p : ℕ} → base ≤ p → p < end → (c : Cell) → c ≡ get_or cs p blank → (k : ℕ) → k ≡ key_of c → k ≡ key → Guesses cs base end key p
-guessed_here low lt c ce k ke is = record { low = low; high = omega (arith, lt); is = λ _. ap key_of (sym ce) ∙ sym ke ∙ is }
-
--- the end is always one
-pub guessed_end : (cs : List Cell) (base end key : ℕ) → base ≤ end → Guesses cs base end key end
-guessed_end cs base end key le = record { low = le; high = omega arith; is = λ lt. absurd (omega (arith, lt)) }
+pub guessed_here : {cs : List Cell} {base end key p : ℕ} → base ≤ p → p < end → (c : Cell) → c ≡ get_or cs p blank → (k : ℕ) → k ≡ key_of c → k ≡ key → Guesses cs base end key (Some p)
+guessed_here low lt c ce k ke is = guess_at (record { low = low; inside = lt; is = ap key_of (sym ce) ∙ sym ke ∙ is })
 
 pub held-among : {cs : List Cell} {a : IntMap} → Held cs a → HeldAmong cs a.base (a.base + a.used)
 held-among {a = a} held = record { map = a; held = held; first = refl; ordered = omega arith; last = omega arith }
@@ -232,22 +233,26 @@ module _ {cs : List Cell} {a : IntMap} (held : Held cs a) {key p : ℕ} (big : 6
       ap (λ z. place z 0 false) last ∙ sym (seek_last cs levels key a.len a.base (belongs_at ∙ e ∙ last))
 
 -- where a key was located
-pub guess_locates : {cs : List Cell} {base end key p : ℕ} → Guesses cs base end key p → p < end → Locates cs base end key p
-guess_locates g lt = record { low = g.low; is = g.is; new = λ le. absurd (omega (arith, lt, le)) }
+pub guess_locates : {cs : List Cell} {base end key p : ℕ} {r : Option ℕ} → Guesses cs base end key r → r ≡ Some p → Locates cs base end key (Ok p)
+guess_locates {cs} {base} {end} {key} {p} g e = record { is = λ q f. subst (KeyAt cs base end key) (same_place f) (g.is p e); new = λ q f. absurd (cc f) }
+  where
+    same_place : {q : ℕ} → ◌≡◌ {A = Result ℕ ℕ} (Ok p) (Ok q) → p ≡ q
+    same_place f = cc
 
-pub located_here : {cs : List Cell} {base end key p : ℕ} → base ≤ p → is_at cs end key p ≡ true → Locates cs base end key p
-located_here {cs} {base} {end} {key} {p} low e = record { low = low; is = λ lt. (told_key cs end key p e).1; new = λ le. absurd (omega (arith, (told_key cs end key p e).0, le)) }
+pub located_here : {cs : List Cell} {base end key p : ℕ} → base ≤ p → is_at cs end key p ≡ true → Locates cs base end key (Ok p)
+located_here {cs} {base} {end} {key} {p} low e = guess_locates (guess_at (key_told cs end key p base low e)) refl
 
-pub located_new : {cs : List Cell} {base end key p : ℕ} → base ≤ end → Belongs cs base end key p → is_at cs end key p ≡ false → Locates cs base end key (end + p)
-located_new {cs} {base} {end} {key} {p} ordered b absent =
-    let same : end + p - end ≡ p = omega arith in
-    record { low = omega (arith, ordered); is = λ lt. absurd (omega (arith, lt)); new = λ le. rw same (b, absent) }
+pub located_new : {cs : List Cell} {base end key p : ℕ} → Belongs cs base end key p → is_at cs end key p ≡ false → Locates cs base end key (Err p)
+located_new {cs} {base} {end} {key} {p} b absent = record { is = λ q f. absurd (cc f); new = λ q f. subst (λ z. Belongs cs base end key z × (is_at cs end key z ≡ false)) (same_place f) (b, absent) }
+  where
+    same_place : {q : ℕ} → ◌≡◌ {A = Result ℕ ℕ} (Err p) (Err q) → p ≡ q
+    same_place f = cc
 
-pub located_key : {cs : List Cell} {a : IntMap} {key p : ℕ} → Locates cs a.base (a.base + a.used) key p → p < a.base + a.used → HasKey cs a key p
-located_key l lt = record { low = l.low; inside = lt; is = l.is lt }
+pub located_key : {cs : List Cell} {a : IntMap} {key p : ℕ} {r : Result ℕ ℕ} → Locates cs a.base (a.base + a.used) key r → r ≡ Ok p → HasKey cs a key p
+located_key {p = p} l e = let k = l.is p e in record { low = k.low; inside = k.inside; is = k.is }
 
-pub located_nowhere : {cs : List Cell} {a : IntMap} {key p : ℕ} → Held cs a → 65536 ≤ key → Locates cs a.base (a.base + a.used) key p → a.base + a.used ≤ p → NewAt cs a key (p - (a.base + a.used))
-located_nowhere held big l le = belongs_new held big (l.new le).0 (l.new le).1
+pub located_nowhere : {cs : List Cell} {a : IntMap} {key p : ℕ} {r : Result ℕ ℕ} → Held cs a → 65536 ≤ key → Locates cs a.base (a.base + a.used) key r → r ≡ Err p → NewAt cs a key p
+located_nowhere {p = p} held big l e = belongs_new held big (l.new p e).0 (l.new p e).1
 
 module _ (cs : List Cell) (a : IntMap) (at n : ℕ) where
   pub flat_not : a.base + a.used ≤ at + n → false ≡ is_flat cs a at n
@@ -282,46 +287,45 @@ module _ (cs : List Cell) (a : IntMap) (class k key : ℕ) (ke : key ≡ class_k
     same_found : w ≡ seek cs levels (class_key class k) a.len a.base
     same_found = found ∙ ap (λ n. seek cs levels n a.len a.base) ke
 
-    pub entry_there : w.present ≡ true → slot.At w.at ≡ entry_slot cs a class k
+    pub entry_there : w.present ≡ true → Some w.at ≡ entry_slot cs a class k
     unfolding entry_slot
-    entry_there e = ap (λ b. pick b (slot.At w.at) slot.Absent) (sym e) ∙ ap found_slot same_found
+    entry_there e = ap (λ b. pick b (Some w.at) None) (sym e) ∙ ap found_slot same_found
 
-    pub entry_none : w.present ≡ false → slot.Absent ≡ entry_slot cs a class k
+    pub entry_none : w.present ≡ false → None ≡ entry_slot cs a class k
     unfolding entry_slot
-    entry_none e = ap (λ b. pick b (slot.At w.at) slot.Absent) (sym e) ∙ ap found_slot same_found
+    entry_none e = ap (λ b. pick b (Some w.at) None) (sym e) ∙ ap found_slot same_found
 
   -- and one that was found at once
-  pub entry_hinted : Held cs a → (p : ℕ) → HasKey cs a key p → slot.At p ≡ entry_slot cs a class k
+  pub entry_hinted : Held cs a → (p : ℕ) → HasKey cs a key p → Some p ≡ entry_slot cs a class k
   entry_hinted held p has =
       let w = held_place held.holds p has.low has.inside (omega (arith, has.is, ke)) in
       let same = ap (λ n. seek cs levels n a.len a.base) has.is in
-      ap slot.At (sym w.0 ∙ ap (λ f. f.at) same) ∙ entry_there (seek cs levels key a.len a.base) refl (sym (ap (λ f. f.present) same) ∙ w.1)
+      ap Some (sym w.0 ∙ ap (λ f. f.at) same) ∙ entry_there (seek cs levels key a.len a.base) refl (sym (ap (λ f. f.present) same) ∙ w.1)
 
 -- which of a slot's cases it is, as a number
-abbrev pub case : Slot → ℕ
-case (slot.Bad n) = 0
-case slot.Absent = 1
-case (slot.At p) = 2
+abbrev pub case : Option ℕ → ℕ
+case None = 1
+case (Some p) = 2
 
 -- what an entry that is there says of the search
-pub entry_led : (cs : List Cell) (a : IntMap) (class k p : ℕ) → entry_slot cs a class k ≡ slot.At p → ((seek cs levels (class_key class k) a.len a.base).present ≡ true) × ((seek cs levels (class_key class k) a.len a.base).at ≡ p)
+pub entry_led : (cs : List Cell) (a : IntMap) (class k p : ℕ) → entry_slot cs a class k ≡ Some p → ((seek cs levels (class_key class k) a.len a.base).present ≡ true) × ((seek cs levels (class_key class k) a.len a.base).at ≡ p)
 unfolding entry_slot
 entry_led cs a class k p e = go (seek cs levels (class_key class k) a.len a.base).present refl e
   where
-    go : (b : Bool) → (seek cs levels (class_key class k) a.len a.base).present ≡ b → pick b (slot.At (seek cs levels (class_key class k) a.len a.base).at) slot.Absent ≡ slot.At p → ((seek cs levels (class_key class k) a.len a.base).present ≡ true) × ((seek cs levels (class_key class k) a.len a.base).at ≡ p)
+    go : (b : Bool) → (seek cs levels (class_key class k) a.len a.base).present ≡ b → pick b (Some (seek cs levels (class_key class k) a.len a.base).at) None ≡ Some p → ((seek cs levels (class_key class k) a.len a.base).present ≡ true) × ((seek cs levels (class_key class k) a.len a.base).at ≡ p)
     go true h s = (h, cc)
     go false h s = absurd (omega (arith, ap case s))
 
 -- by its index
-pub entry_gets : (cs : List Cell) (a : IntMap) (class i k : ℕ) (x : Index) → Judges i x → IsMap cs a → x ≡ index_is.At k → (r : Slot) → r ≡ entry_slot cs a class k → Gets cs a class i r
+pub entry_gets : (cs : List Cell) (a : IntMap) (class i k : ℕ) (x : Index) → Judges i x → IsMap cs a → x ≡ Ok k → (r : Option ℕ) → r ≡ entry_slot cs a class k → Gets cs a class i (Ok r)
 unfolding entry_slot
-entry_gets cs a class i k x judges is xe r re = subst (Gets cs a class i) (sym re) (go (seek cs levels (class_key class k) a.len a.base) refl)
+entry_gets cs a class i k x judges is xe r re = subst (λ o. Gets cs a class i (Ok o)) (sym re) (go (seek cs levels (class_key class k) a.len a.base) refl)
   where
-    by : (w : Found) → w ≡ seek cs levels (class_key class k) a.len a.base → (b : Bool) → w.present ≡ b → Gets cs a class i (pick b (slot.At w.at) slot.Absent)
+    by : (w : Found) → w ≡ seek cs levels (class_key class k) a.len a.base → (b : Bool) → w.present ≡ b → Gets cs a class i (Ok (pick b (Some w.at) None))
     by w e true p = get_at cs a class i x judges.answer is k xe w e p
     by w e false p = get_absent cs a class i x judges.answer is k xe w e p
 
-    go : (w : Found) → w ≡ seek cs levels (class_key class k) a.len a.base → Gets cs a class i (found_slot w)
+    go : (w : Found) → w ≡ seek cs levels (class_key class k) a.len a.base → Gets cs a class i (Ok (found_slot w))
     go w e = by w e w.present refl
 
 module _ {cs : List Cell} {a : IntMap} {class i p : ℕ} (own : Own cs a class i p) where
@@ -351,12 +355,12 @@ module _ {cs : List Cell} {a : IntMap} {class i p : ℕ} (own : Own cs a class i
           above = λ j le. ap (λ l. get_or l j blank) e ∙ get_or-set_other cs p j x blank (omega (arith, own.has.inside, has.most));
         }
 
-    pub own_stored : StoresCell limit cs ds a class i c (stored.Done a)
+    pub own_stored : StoresCell limit cs ds a class i c (Ok a)
     own_stored =
         record {
           says = λ bound m h.
-              store_tried cs ds limit a class i 0 (c ∷ []) (index_is.At own.place) (sym own.judged) own.place refl key (x ∷ []) (insertion.Done a) (stored.Done a) (omega arith) refl (ap (λ y. y ∷ []) xe)
-              (overwritten cs ds limit a key p x has own.plain new same_key (found h).0 (found h).1 e) refl;
+              store_tried cs ds limit a class i 0 (c ∷ []) (Ok own.place) (sym own.judged) own.place refl key (x ∷ []) (Ok a) (omega arith) refl (ap (λ y. y ∷ []) xe)
+              (overwritten cs ds limit a key p x has own.plain new same_key (found h).0 (found h).1 e);
           leaves = record { base = refl; room = alike_room (alike cs ds p x e (omega (arith, own.has.inside, has.most, has.room)) own.plain new (same_key ∙ sym own.has.is)) has };
           frame = frame;
         }
@@ -379,7 +383,7 @@ module _ {cs : List Cell} {p key : ℕ} {c : Cell} (d : Cell) (de : d ≡ get_or
   puts_it plain x xe e = record { yes = λ _. (λ is. plain (te ∙ ap tag_of de ∙ is), e ∙ ap (set cs p) xe); no = λ e. absurd (true≢false e) }
 
 -- why a cell is not an index's own
-pub bad_own : {cs : List Cell} {a : IntMap} {class i : ℕ} {x : Index} → Judges i x → (n : ℕ) → x ≡ index_is.Bad n → (p : ℕ) → Own cs a class i p → ⊥
+pub bad_own : {cs : List Cell} {a : IntMap} {class i : ℕ} {x : Index} → Judges i x → (n : Refusal) → x ≡ Err n → (p : ℕ) → Own cs a class i p → ⊥
 bad_own judges n e p own = subst Answers (sym own.judged ∙ sym judges.answer ∙ ap index_of e) tt
 
 pub overwrites_bad : {cs : List Cell} {a : IntMap} {p i : ℕ} (c : Cell) → (Own cs a 0 i p → ⊥) → Overwrites cs cs a p i c false
@@ -388,7 +392,7 @@ overwrites_bad c none = record { own = λ own. absurd (none own); inside = λ e.
 pub overwrites_none : {cs : List Cell} {a : IntMap} {class i : ℕ} (c : Cell) → ((p : ℕ) → Own cs a class i p → ⊥) → OverwritesOwn cs cs a class i c false
 overwrites_none c none = record { yes = λ e. absurd (true≢false (sym e)); none = λ e. none; no = λ e. refl }
 
-pub other_own : {cs : List Cell} {a : IntMap} {class i k key p : ℕ} {x : Index} {r : Bool} → Judges i x → x ≡ index_is.At k → key ≡ class_key class k → r ≡ is_at cs (a.base + a.used) key p → r ≡ false → Own cs a class i p → ⊥
+pub other_own : {cs : List Cell} {a : IntMap} {class i k key p : ℕ} {x : Index} {r : Bool} → Judges i x → x ≡ Ok k → key ≡ class_key class k → r ≡ is_at cs (a.base + a.used) key p → r ≡ false → Own cs a class i p → ⊥
 unfolding is_at
 other_own {cs} {a} {class} {i} {k} {key} {p} judges e ke re rf own =
     let place_is : own.place ≡ k = ap (answer k) (sym own.judged ∙ sym judges.answer ∙ ap index_of e) in
@@ -396,7 +400,7 @@ other_own {cs} {a} {class} {i} {k} {key} {p} judges e ke re rf own =
     true≢false (sym (ap₂ (λ s t. s && t) (lt-ltb p (a.base + a.used) own.has.inside) (eq-eqb (key_of (get_or cs p blank)) key key_is)) ∙ sym re ∙ rf)
 
 -- a good index
-module _ {cs : List Cell} {a : IntMap} {class i k key : ℕ} {x : Index} (judges : Judges i x) (xe : x ≡ index_is.At k) (ke : key ≡ class_key class k) where
+module _ {cs : List Cell} {a : IntMap} {class i k key : ℕ} {x : Index} (judges : Judges i x) (xe : x ≡ Ok k) (ke : key ≡ class_key class k) where
   its_key : {q : ℕ} → (own : Own cs a class i q) → class_key class own.place ≡ key
   its_key own = ap (class_key class) (ap (answer k) (sym own.judged ∙ sym judges.answer ∙ ap index_of xe)) ∙ sym ke
 
@@ -412,7 +416,7 @@ module _ {cs : List Cell} {a : IntMap} {class i k key : ℕ} {x : Index} (judges
     not_own : r ≡ false → Own cs a class i p → ⊥
     not_own e own = own.plain (o.no e).0
 
-    pub put_stored : r ≡ true → (limit : ℕ) → HasRoom cs limit a → StoresCell limit cs ds a class i c (stored.Done a)
+    pub put_stored : r ≡ true → (limit : ℕ) → HasRoom cs limit a → StoresCell limit cs ds a class i c (Ok a)
     put_stored e limit room =
         let own = its_own e in
         own_stored own limit c (with_key key c) room plain (ap (λ n. with_key n c) (sym (its_key own))) ds (o.yes e).1
@@ -433,7 +437,7 @@ module _ {cs : List Cell} {a : IntMap} {class i k key : ℕ} {x : Index} (judges
         go false e own = absurd (not_own e own)
 
 -- of a register
-pub overwrites_at : {cs ds : List Cell} {a : IntMap} {i k key p : ℕ} {x : Index} {c : Cell} {r : Bool} → Judges i x → x ≡ index_is.At k → key ≡ class_key 0 k → HasKey cs a key p → (tag_of c ≡ 2 → ⊥) → PutsPlain cs ds p key c r → Overwrites cs ds a p i c r
+pub overwrites_at : {cs ds : List Cell} {a : IntMap} {i k key p : ℕ} {x : Index} {c : Cell} {r : Bool} → Judges i x → x ≡ Ok k → key ≡ class_key 0 k → HasKey cs a key p → (tag_of c ≡ 2 → ⊥) → PutsPlain cs ds p key c r → Overwrites cs ds a p i c r
 overwrites_at judges xe ke has plain o =
     let it = its_overwritten judges xe ke has plain o in
     record { own = it.1; inside = it.0; yes = put_stored judges xe ke has plain o; no = λ e. (o.no e).1 }
@@ -441,41 +445,43 @@ overwrites_at judges xe ke has plain o =
 pub near_not : {cs : List Cell} {base end i : ℕ} {c : Cell} → WritesNear cs cs base end i c false
 near_not = record { yes = λ e. absurd (true≢false (sym e)); no = λ _. refl }
 
-pub near_written : {cs ds : List Cell} {base end i k key p : ℕ} {x : Index} {c : Cell} {r : Bool} → Judges i x → x ≡ index_is.At k → key ≡ class_key 0 k → Guesses cs base end key p → p < end → (tag_of c ≡ 2 → ⊥) → PutsPlain cs ds p key c r → WritesNear cs ds base end i c r
-near_written judges xe ke g lt plain o =
+pub near_written : {cs ds : List Cell} {base end i k key p : ℕ} {x : Index} {c : Cell} {r : Bool} → Judges i x → x ≡ Ok k → key ≡ class_key 0 k → {g : Option ℕ} → Guesses cs base end key g → g ≡ Some p → (tag_of c ≡ 2 → ⊥) → PutsPlain cs ds p key c r → WritesNear cs ds base end i c r
+near_written {p = p} judges xe ke guess e plain o =
+    let k = guess.is p e in
     record {
-      yes = λ e a first last limit room. put_stored judges xe ke (record { low = omega (arith, first, g.low); inside = omega (arith, last, lt); is = g.is lt }) plain o e limit room;
-      no = λ e. (o.no e).1;
+      yes = λ f a first last limit room. put_stored judges xe ke (record { low = omega (arith, first, k.low); inside = omega (arith, last, k.inside); is = k.is }) plain o f limit room;
+      no = λ f. (o.no f).1;
     }
 
 -- register i's entry is where its key was guessed
-pub gets_near : {cs : List Cell} {base end i k key p : ℕ} {x : Index} → Judges i x → x ≡ index_is.At k → key ≡ class_key 0 k → Guesses cs base end key p → GetsNear cs base end i p
-gets_near {cs} {i = i} {k} {key} {p} {x} judges xe ke g =
+pub gets_near : {cs : List Cell} {base end i k key : ℕ} {x : Index} {r : Option ℕ} → Judges i x → x ≡ Ok k → key ≡ class_key 0 k → Guesses cs base end key r → GetsNear cs base end i r
+gets_near {cs} {i = i} {k} {key} {x} judges xe ke g =
     record {
-      high = g.high;
-      is = λ lt a first last held.
-          entry_gets cs a 0 i k x judges held.map xe (slot.At p)
-          (entry_hinted cs a 0 k key ke held p (record { low = omega (arith, first, g.low); inside = omega (arith, last, lt); is = g.is lt }));
+      inside = λ p e. (g.is p e).inside;
+      is = λ p e a first last held.
+          (let at = g.is p e in
+          entry_gets cs a 0 i k x judges held.map xe (Some p)
+          (entry_hinted cs a 0 k key ke held p (record { low = omega (arith, first, at.low); inside = omega (arith, last, at.inside); is = at.is })));
     }
 
-pub entry_near : {cs : List Cell} {base end class k key p : ℕ} → key ≡ class_key class k → Guesses cs base end key p → EntryNear cs base end class k p
-entry_near {cs} {class = class} {k} {key} {p} ke g =
+pub entry_near : {cs : List Cell} {base end class k key : ℕ} {r : Option ℕ} → key ≡ class_key class k → Guesses cs base end key r → EntryNear cs base end class k r
+entry_near {cs} {class = class} {k} {key} ke g =
     record {
-      low = g.low;
-      high = g.high;
-      is = λ lt a first last held. entry_hinted cs a class k key ke held p (record { low = omega (arith, first, g.low); inside = omega (arith, last, lt); is = g.is lt });
+      low = λ p e. (g.is p e).low;
+      inside = λ p e. (g.is p e).inside;
+      is = λ p e a first last held. (let at = g.is p e in entry_hinted cs a class k key ke held p (record { low = omega (arith, first, at.low); inside = omega (arith, last, at.inside); is = at.is }));
     }
 
-pub gets_nowhere : {cs : List Cell} {base end i : ℕ} → GetsNear cs base end i end
-gets_nowhere = record { high = omega arith; is = λ lt. absurd (omega (arith, lt)) }
+pub gets_nowhere : {cs : List Cell} {base end i : ℕ} → GetsNear cs base end i None
+gets_nowhere = record { inside = λ p e. absurd (none-some p e); is = λ p e. absurd (none-some p e) }
 
 -- by the map
 pub map_stored : (limit : ℕ) (cs ds : List Cell) (a : IntMap) (class i : ℕ) (c : Cell) (r : Stored) → Stores cs ds limit a class i 0 (c ∷ []) r → StoresCell limit cs ds a class i c r
 map_stored limit cs ds a class i c r st = record { says = λ bound m h. st; leaves = left r st; frame = st.frame }
   where
     left : (r : Stored) → Stores cs ds limit a class i 0 (c ∷ []) r → Leaves limit ds a r
-    left (stored.Refused n) st = tt
-    left (stored.Done b) st = record { base = st.leaves.base; room = st.leaves.room }
+    left (Err n) st = tt
+    left (Ok b) st = record { base = st.leaves.base; room = st.leaves.room }
 
 -- where nothing was written over
 module _ {cs es : List Cell} (same : es ≡ cs) {limit : ℕ} {a : IntMap} where
@@ -499,7 +505,7 @@ cell_leads {limit} {cs} {ds} {a} st leads = record { says = λ bound m le h. (le
 pub key_as : (cs : List Cell) (a : IntMap) (key k : ℕ) (w : Found) → key ≡ k → w ≡ seek cs levels key a.len a.base → w ≡ seek cs levels k a.len a.base
 key_as cs a key k w e f = f ∙ ap (λ n. seek cs levels n a.len a.base) e
 
-pub near_leads : {cs ds : List Cell} {base end i : ℕ} {c : Cell} {r : Bool} {f : ℕ → MemoryState → Tried MemoryState} → WritesNear cs ds base end i c r → ((a : IntMap) (limit : ℕ) → Stores cs ds limit a 0 i 0 (c ∷ []) (stored.Done a) → Leads limit cs ds a (stored.Done a) (f limit)) → LeadsNear cs ds base end f r
+pub near_leads : {cs ds : List Cell} {base end i : ℕ} {c : Cell} {r : Bool} {f : ℕ → MemoryState → Tried MemoryState} → WritesNear cs ds base end i c r → ((a : IntMap) (limit : ℕ) → Stores cs ds limit a 0 i 0 (c ∷ []) (Ok a) → Leads limit cs ds a (Ok a) (f limit)) → LeadsNear cs ds base end f r
 near_leads w leads = record { yes = λ e a first last limit current. cell_leads (w.yes e a first last limit current.room) (leads a limit); no = w.no }
 
 -- a search passes over few tries

@@ -1,6 +1,7 @@
 -- A store in the map leads to the definition's store of a register: any run, and the values of one cell. Assumes nothing.
+use Rattle.refusal.specs.Numbers.{number_of}
 use mathlib.Core.Path.{◌≡◌, refl, sym, ap, subst, ◌∙◌}
-use mathlib.Core.Option.{none}
+use Rattle.std.specs.Prelude.{None, Ok, Err}
 use mathlib.Core.List.{List, [], ◌∷◌}
 use Prim.Native.Nat.{ℕ, zero, suc, ◌+◌, ◌<◌, ◌≤◌}
 use native.Mathlib.Omega.{arith}
@@ -15,10 +16,8 @@ use Rattle.area.specs.Cells.{cell}
 use Rattle.area.specs.declared.Cell.{Cell}
 use Rattle.intmap.specs.Map.{runs_at, Frame}
 use Rattle.intmap.specs.Signed.{int_of}
-use Rattle.intmap.specs.Store.{store_runs, stored_of, Stores}
+use Rattle.intmap.specs.Store.{store_runs, stored_of, Stores, Stored}
 use Rattle.intmap.specs.declared.IntMap.{IntMap}
-use Rattle.intmap.specs.declared.Stored.{Stored}
-use Rattle.intmap.specs.declared.Stored.TheVariants as stored
 use Rattle.encoding.specs.Encode.{nullable_code, single, run_column, run_register}
 use Rattle.encoding.specs.Decode.{nullables}
 use Rattle.encoding.specs.Holds.{SmallRegister}
@@ -38,17 +37,17 @@ module _ (limit : ℕ) (cs ds : List Cell) (a : IntMap) (i key : ℕ) (v : RegDa
     answered r st = ap (λ w. store_runs limit 0 (int_of i) (register_depth v) w (runs_at cs a)) (sym is) ∙ sym st.answer
 
     pub store_leads : (r : Stored) → Stores cs ds limit a 0 i (register_depth v) run r → Leads limit cs ds a r (store_register limit (int_of i) v)
-    store_leads (stored.Refused n) st =
+    store_leads (Err n) st =
         record {
-          says = λ bound m le h. (held_register h (int_of i) key v (λ _. sorted) (small bound le)).refuses n (answered (stored.Refused n) st);
+          says = λ bound m le h. (held_register h (int_of i) key v (λ _. sorted) (small bound le)).refuses (number_of n) (answered (Err n) st);
           leaves = tt;
           frame = wider cs ds a.base limit st.frame;
         }
-    store_leads (stored.Done b) st =
+    store_leads (Ok b) st =
         record {
           says = λ bound m le h.
               (held_register h (int_of i) key v (λ _. sorted) (small bound le)).next ds b.base b.len b.used (runs_at ds b)
-              (answered (stored.Done b) st) refl st.leaves.room.used;
+              (answered (Ok b) st) refl st.leaves.room.used;
           leaves = record { base = st.leaves.base; room = st.leaves.room };
           frame = wider cs ds a.base limit st.frame;
         }
@@ -60,17 +59,17 @@ leads_as {limit} {ds} r e l =
 
 -- ---- values of one cell
 
-pub nullable_code_lem : (n : ℕ) → n < 3 → nullable_code (get_or nullables n none) ≡ n
+pub nullable_code_lem : (n : ℕ) → n < 3 → nullable_code (get_or nullables n None) ≡ n
 nullable_code_lem zero h = refl
 nullable_code_lem (suc zero) h = refl
 nullable_code_lem (suc (suc zero)) h = refl
 nullable_code_lem (suc (suc (suc n))) h = absurd (omega arith)
 
 module _ (limit : ℕ) (cs ds : List Cell) (a : IntMap) (i : ℕ) (r : Stored) where
-  pub single_leads : (d : DataType) (n : ℕ) (c : Cell) → n < 3 → c ≡ single (datatype_code d) n 0 → Stores cs ds limit a 0 i 0 (c ∷ []) r → Leads limit cs ds a r (store_register limit (int_of i) (Column (Single d (get_or nullables n none))))
+  pub single_leads : (d : DataType) (n : ℕ) (c : Cell) → n < 3 → c ≡ single (datatype_code d) n 0 → Stores cs ds limit a 0 i 0 (c ∷ []) r → Leads limit cs ds a r (store_register limit (int_of i) (Column (Single d (get_or nullables n None))))
   unfolding run_register run_column register_depth column_depth SortedColumn
   single_leads d n c small e st =
-      store_leads limit cs ds a i 0 (Column (Single d (get_or nullables n none))) (c ∷ [])
+      store_leads limit cs ds a i 0 (Column (Single d (get_or nullables n None))) (c ∷ [])
       (ap (λ x. x ∷ []) (e ∙ ap (λ k. single (datatype_code d) k 0) (sym (nullable_code_lem n small)))) tt (λ bound le. tt) r st
 
   pub int_leads : (w : ℕ) → Operand w → Stores cs ds limit a 0 i 0 (cell 3 w ∷ []) r → Leads limit cs ds a r (store_register limit (int_of i) (Int (int_of w)))

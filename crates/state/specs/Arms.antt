@@ -1,5 +1,6 @@
 -- The contracts of the arms of `explain`: for every row of the listing that a judged row stands for, an arm leads to what the definition's arm
 -- gives. Assumes nothing.
+use Rattle.intmap.specs.Store.{Stored}
 use Rattle.std.specs.Prelude.{◌≡◌, List, ℕ}
 use Rattle.model.specs.Row.{Row as Listed}
 use Rattle.model.specs.Functions.{built_in, function_in}
@@ -9,7 +10,6 @@ use Rattle.model.specs.RegisterArms.{register_arm}
 use Rattle.model.specs.CursorArms.{cursor_arm}
 use Rattle.area.specs.declared.Cell.{Cell}
 use Rattle.intmap.specs.declared.IntMap.{IntMap}
-use Rattle.intmap.specs.declared.Stored.{Stored}
 use Rattle.rows.specs.Judged.{Judged}
 use Rattle.rows.specs.declared.Row.{Row}
 use Rattle.state.specs.Leads.{Leads}

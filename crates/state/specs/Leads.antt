@@ -1,13 +1,13 @@
 -- What an access to the state in the area leads to, in the definition's words: the same refusal, or a map that holds the definition's state.
 -- The map lies in a room of `limit` cells, and behind it is as much for what is on its way to a store. Assumes nothing.
-use Rattle.std.specs.Prelude.{◌≡◌, List, ℕ, ◌+◌, ◌≤◌, length}
+use Rattle.refusal.specs.Numbers.{number_of}
+use Rattle.intmap.specs.Store.{Stored}
+use Rattle.std.specs.Prelude.{◌≡◌, List, ℕ, ◌+◌, ◌≤◌, length, Ok, Err}
 use Rattle.model.specs.Walk.{Tried, refused}
 use Rattle.model.specs.State.{MemoryState}
 use Rattle.area.specs.declared.Cell.{Cell}
 use Rattle.intmap.specs.Map.{IsMap, HasRoom, Frame}
 use Rattle.intmap.specs.declared.IntMap.{IntMap}
-use Rattle.intmap.specs.declared.Stored.{Stored}
-use Rattle.intmap.specs.declared.Stored.TheVariants as stored
 use Rattle.encoding.specs.Holds.{largest, Holds, HeldNext}
 
 abbrev pub HoldsMap : ℕ → ℕ → List Cell → IntMap → MemoryState → Type 0
@@ -44,8 +44,8 @@ pub record SomeCurrent (cs : List Cell) (a : IntMap) : Type 0 where
 
 -- the answer is the definition's answer t
 abbrev pub Tells : ℕ → ℕ → List Cell → Stored → Tried MemoryState → Type 0
-Tells limit bound ds (stored.Refused n) t = t ≡ refused n
-Tells limit bound ds (stored.Done a) t = HeldNext limit bound ds a.base a.len a.used t
+Tells limit bound ds (Err n) t = t ≡ refused (number_of n)
+Tells limit bound ds (Ok a) t = HeldNext limit bound ds a.base a.len a.used t
 
 -- a map is left where it was
 pub record Stays (limit : ℕ) (ds : List Cell) (a b : IntMap) : Type 0 where
@@ -53,8 +53,8 @@ pub record Stays (limit : ℕ) (ds : List Cell) (a b : IntMap) : Type 0 where
   pub room : HasRoom ds limit b
 
 abbrev pub Leaves : ℕ → List Cell → IntMap → Stored → Type 0
-Leaves limit ds a (stored.Refused n) = Unit {0}
-Leaves limit ds a (stored.Done b) = Stays limit ds a b
+Leaves limit ds a (Err n) = Unit {0}
+Leaves limit ds a (Ok b) = Stays limit ds a b
 
 -- of every state that the map holds, the answer is what f gives; nothing else in the area changes but the room and the one behind it
 pub record Leads (limit : ℕ) (cs ds : List Cell) (a : IntMap) (r : Stored) (f : MemoryState → Tried MemoryState) : Type 0 where

@@ -1,6 +1,6 @@
 -- Where an entry is or belongs, and what tells it at once: a cell of the map with its key, which in cells that hold a state is the entry; what
 -- follows a record of so many columns. And what a store over a register's or cursor's own cell gives. Assumes nothing.
-use Rattle.std.specs.Prelude.{◌≡◌, Bool, true, false, ◌&&◌, List, [], ◌∷◌, ℕ, ◌+◌, ◌-◌, ◌<◌, ◌≤◌, eqb, leb, ltb, get_or, set}
+use Rattle.std.specs.Prelude.{◌≡◌, Bool, true, false, ◌&&◌, List, [], ◌∷◌, ℕ, ◌+◌, ◌-◌, ◌<◌, ◌≤◌, eqb, leb, ltb, get_or, set, Ok, Some, None, Option, Err, Result}
 use Rattle.model.specs.Walk.{Tried, done}
 use Rattle.model.specs.State.{MemoryState}
 use Rattle.model.specs.Access.{index}
@@ -12,21 +12,17 @@ use Rattle.intmap.specs.Map.{levels, HasRoom, Frame}
 use Rattle.intmap.specs.Pack.{tag_of, key_of, with_key, class_key}
 use Rattle.intmap.specs.Pick.{pick}
 use Rattle.intmap.specs.Signed.{int_of}
-use Rattle.intmap.specs.Store.{Stores}
+use Rattle.intmap.specs.Store.{Stores, Stored}
 use Rattle.intmap.specs.declared.Found.{Found}
 use Rattle.intmap.specs.declared.IntMap.{IntMap}
-use Rattle.intmap.specs.declared.Slot.{Slot}
-use Rattle.intmap.specs.declared.Slot.TheVariants as slot
-use Rattle.intmap.specs.declared.Stored.{Stored}
-use Rattle.intmap.specs.declared.Stored.TheVariants as stored
 use Rattle.state.specs.Leads.{HoldsMap, Leaves, Held, Current, Leads}
 
 -- where a search led, if it found the key
-abbrev pub found_slot : Found → Slot
-found_slot w = pick w.present (slot.At w.at) slot.Absent
+abbrev pub found_slot : Found → Option ℕ
+found_slot w = pick w.present (Some w.at) None
 
 -- the entry of an index in a class
-unfoldable pub entry_slot : List Cell → IntMap → ℕ → ℕ → Slot
+unfoldable pub entry_slot : List Cell → IntMap → ℕ → ℕ → Option ℕ
 entry_slot cs a class k = found_slot (seek cs levels (class_key class k) a.len a.base)
 
 -- whether p is before `end` and the cell there has the key
@@ -45,11 +41,15 @@ pub record HeldAmong (cs : List Cell) (base end : ℕ) : Type 0 where
   pub ordered : base ≤ end
   pub last : end ≤ map.base + map.used
 
--- one of them that has the key, or `end`
-pub record Guesses (cs : List Cell) (base end key p : ℕ) : Type 0 where
+-- one of them that has the key
+pub record KeyAt (cs : List Cell) (base end key p : ℕ) : Type 0 where
   pub low : base ≤ p
-  pub high : p ≤ end
-  pub is : p < end → key_of (get_or cs p blank) ≡ key
+  pub inside : p < end
+  pub is : key_of (get_or cs p blank) ≡ key
+
+-- such a one, or none
+pub record Guesses (cs : List Cell) (base end key : ℕ) (r : Option ℕ) : Type 0 where
+  pub is : (p : ℕ) → r ≡ Some p → KeyAt cs base end key p
 
 -- how many cells the entry that begins with c has, if each column of a record has one: never more than it has
 pub record FlatSize (c : Cell) (r : ℕ) : Type 0 where
@@ -78,11 +78,10 @@ pub record Belongs (cs : List Cell) (base end key p : ℕ) : Type 0 where
   pub before : (q : ℕ) → base ≤ q → q < p → 65536 ≤ key_of (get_or cs q blank) → key_of (get_or cs q blank) < key
   pub after : p < end → key ≤ key_of (get_or cs p blank)
 
--- where a key is; or it is nowhere, and `end` and where it belongs are added
-pub record Locates (cs : List Cell) (base end key r : ℕ) : Type 0 where
-  pub low : base ≤ r
-  pub is : r < end → key_of (get_or cs r blank) ≡ key
-  pub new : end ≤ r → Belongs cs base end key (r - end) × (is_at cs end key (r - end) ≡ false)
+-- where a key is; or it is nowhere, and where it belongs
+pub record Locates (cs : List Cell) (base end key : ℕ) (r : Result ℕ ℕ) : Type 0 where
+  pub is : (p : ℕ) → r ≡ Ok p → KeyAt cs base end key p
+  pub new : (p : ℕ) → r ≡ Err p → Belongs cs base end key p × (is_at cs end key p ≡ false)
 
 -- a cell of the map has the key
 pub record HasKey (cs : List Cell) (a : IntMap) (key p : ℕ) : Type 0 where
@@ -110,7 +109,7 @@ pub record PutsPlain (cs ds : List Cell) (p key : ℕ) (c : Cell) (r : Bool) : T
 
 -- a store of c was made over the own cell of index i; or there is none, and nothing has changed
 pub record OverwritesOwn (cs ds : List Cell) (a : IntMap) (class i : ℕ) (c : Cell) (r : Bool) : Type 0 where
-  pub yes : r ≡ true → (limit : ℕ) → HasRoom cs limit a → StoresCell limit cs ds a class i c (stored.Done a)
+  pub yes : r ≡ true → (limit : ℕ) → HasRoom cs limit a → StoresCell limit cs ds a class i c (Ok a)
   pub none : r ≡ false → (p : ℕ) → Own cs a class i p → ⊥
   pub no : r ≡ false → ds ≡ cs
 
@@ -118,29 +117,29 @@ pub record OverwritesOwn (cs ds : List Cell) (a : IntMap) (class i : ℕ) (c : C
 pub record Overwrites (cs ds : List Cell) (a : IntMap) (p i : ℕ) (c : Cell) (r : Bool) : Type 0 where
   pub own : Own cs a 0 i p → r ≡ true
   pub inside : r ≡ true → p < a.base + a.used
-  pub yes : r ≡ true → (limit : ℕ) → HasRoom cs limit a → StoresCell limit cs ds a 0 i c (stored.Done a)
+  pub yes : r ≡ true → (limit : ℕ) → HasRoom cs limit a → StoresCell limit cs ds a 0 i c (Ok a)
   pub no : r ≡ false → ds ≡ cs
 
 -- a store of c was made over register i's own cell, in any map whose cells are from `base` on and before `end`; or nothing has changed
 pub record WritesNear (cs ds : List Cell) (base end i : ℕ) (c : Cell) (r : Bool) : Type 0 where
-  pub yes : r ≡ true → (a : IntMap) → a.base ≡ base → a.base + a.used ≡ end → (limit : ℕ) → HasRoom cs limit a → StoresCell limit cs ds a 0 i c (stored.Done a)
+  pub yes : r ≡ true → (a : IntMap) → a.base ≡ base → a.base + a.used ≡ end → (limit : ℕ) → HasRoom cs limit a → StoresCell limit cs ds a 0 i c (Ok a)
   pub no : r ≡ false → ds ≡ cs
 
 -- an access was made there, and leads to what f gives; or nothing has changed
 pub record LeadsNear (cs ds : List Cell) (base end : ℕ) (f : ℕ → MemoryState → Tried MemoryState) (r : Bool) : Type 0 where
-  pub yes : r ≡ true → (a : IntMap) → a.base ≡ base → a.base + a.used ≡ end → (limit : ℕ) → Current limit cs a → Leads limit cs ds a (stored.Done a) (f limit)
+  pub yes : r ≡ true → (a : IntMap) → a.base ≡ base → a.base + a.used ≡ end → (limit : ℕ) → Current limit cs a → Leads limit cs ds a (Ok a) (f limit)
   pub no : r ≡ false → ds ≡ cs
 
--- register i's entry is at p, in any such map; or p is `end`
-pub record GetsNear (cs : List Cell) (base end i p : ℕ) : Type 0 where
-  pub high : p ≤ end
-  pub is : p < end → (a : IntMap) → a.base ≡ base → a.base + a.used ≡ end → Held cs a → Gets cs a 0 i (slot.At p)
+-- where register i's entry is, in any such map, or nothing
+pub record GetsNear (cs : List Cell) (base end i : ℕ) (r : Option ℕ) : Type 0 where
+  pub inside : (p : ℕ) → r ≡ Some p → p < end
+  pub is : (p : ℕ) → r ≡ Some p → (a : IntMap) → a.base ≡ base → a.base + a.used ≡ end → Held cs a → Gets cs a 0 i (Ok (Some p))
 
--- the entry of place k in a class is at p; or p is `end`
-pub record EntryNear (cs : List Cell) (base end class k p : ℕ) : Type 0 where
-  pub low : base ≤ p
-  pub high : p ≤ end
-  pub is : p < end → (a : IntMap) → a.base ≡ base → a.base + a.used ≡ end → Held cs a → slot.At p ≡ entry_slot cs a class k
+-- where the entry of place k in a class is, or nothing
+pub record EntryNear (cs : List Cell) (base end class k : ℕ) (r : Option ℕ) : Type 0 where
+  pub low : (p : ℕ) → r ≡ Some p → base ≤ p
+  pub inside : (p : ℕ) → r ≡ Some p → p < end
+  pub is : (p : ℕ) → r ≡ Some p → (a : IntMap) → a.base ≡ base → a.base + a.used ≡ end → Held cs a → Some p ≡ entry_slot cs a class k
 
 -- the answer is what `is_flat` gives, in any map whose cells are before `end`
 pub record FlatBefore (cs : List Cell) (end at n : ℕ) (r : Bool) : Type 0 where

@@ -1,7 +1,8 @@
 -- What a register holds, by value, as the definition reads it: a refusal, nothing, a plain column by its codes, a record by the place of its
 -- run, or a known number by its word. Assumes nothing.
-use Rattle.std.specs.Prelude.{◌≡◌, List, ℕ, ◌+◌, ◌≤◌, ◌<◌, eqb, get_or, length}
-use Rattle.std.proofs.Math.Option.{none, some, Option}
+use Rattle.refusal.specs.declared.Refusal.{Refusal}
+use Rattle.refusal.specs.Numbers.{number_of}
+use Rattle.std.specs.Prelude.{◌≡◌, List, ℕ, ◌+◌, ◌≤◌, ◌<◌, eqb, get_or, length, None, Some, Option, Ok, Err, Result}
 use Rattle.model.specs.Walk.{Tried, refused, done}
 use Rattle.model.specs.State.{Columns, Single, Record, RegDataType, Column, Int, MemoryState}
 use Rattle.model.specs.Access.{read_register}
@@ -24,7 +25,7 @@ register_in c at = pick (eqb (tag_of c) 1) (register.Single (kind_of c) (nullabl
 
 -- the definition reads a plain column of these codes
 pub record IsSingle (kind nullable : ℕ) (t : Tried (Option RegDataType)) : Type 0 where
-  pub answer : t ≡ done (some (Column (Single (get_or datatypes kind Null) (get_or nullables nullable none))))
+  pub answer : t ≡ done (Some (Column (Single (get_or datatypes kind Null) (get_or nullables nullable None))))
   pub kind_small : kind < 11
   pub nullable_small : nullable < 3
 
@@ -32,21 +33,25 @@ pub record IsSingle (kind nullable : ℕ) (t : Tried (Option RegDataType)) : Typ
 pub record IsRecord (cs : List Cell) (a : IntMap) (at : ℕ) (t : Tried (Option RegDataType)) : Type 0 where
   pub columns : Columns
   pub key : ℕ
-  pub answer : t ≡ done (some (Column (Record columns)))
+  pub answer : t ≡ done (Some (Column (Record columns)))
   pub stands : Stands cs at (run_register key (Column (Record columns)))
   pub above : a.base ≤ at
   pub below : at + length (run_register key (Column (Record columns))) ≤ a.base + a.used
 
 pub record IsInt (bound w : ℕ) (t : Tried (Option RegDataType)) : Type 0 where
-  pub answer : t ≡ done (some (Int (int_of w)))
+  pub answer : t ≡ done (Some (Int (int_of w)))
   pub small : Small bound (int_of w)
 
-abbrev pub TellsRegister : ℕ → List Cell → IntMap → Register → Tried (Option RegDataType) → Type 0
-TellsRegister bound cs a (register.Bad n) t = t ≡ refused n
-TellsRegister bound cs a register.Absent t = t ≡ done none
-TellsRegister bound cs a (register.Single k n) t = IsSingle k n t
-TellsRegister bound cs a (register.Record at) t = IsRecord cs a at t
-TellsRegister bound cs a (register.Int w) t = IsInt bound w t
+-- what is read: why the index is refused, nothing, or what is there
+abbrev pub Reading : Type 0
+Reading = Result (Option Register) Refusal
 
-pub record Reads (cs : List Cell) (a : IntMap) (i : ℕ) (r : Register) : Type 0 where
+abbrev pub TellsRegister : ℕ → List Cell → IntMap → Reading → Tried (Option RegDataType) → Type 0
+TellsRegister bound cs a (Err n) t = t ≡ refused (number_of n)
+TellsRegister bound cs a (Ok None) t = t ≡ done None
+TellsRegister bound cs a (Ok (Some (register.Single k n))) t = IsSingle k n t
+TellsRegister bound cs a (Ok (Some (register.Record at))) t = IsRecord cs a at t
+TellsRegister bound cs a (Ok (Some (register.Int w))) t = IsInt bound w t
+
+pub record Reads (cs : List Cell) (a : IntMap) (i : ℕ) (r : Reading) : Type 0 where
   pub says : (limit bound : ℕ) (m : MemoryState) → HoldsMap limit bound cs a m → TellsRegister bound cs a r (read_register (int_of i) m)

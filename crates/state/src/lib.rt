@@ -1,15 +1,14 @@
 // Accesses to the state in the area by value: a register read, and values of one cell stored.
 #![tactic(auto)]
 
-ghost use Rattle.std.specs.Prelude.{◌≡◌, true, false, ◌+◌, ◌<◌, ◌≤◌, length, get_or};
-ghost use Rattle.std.proofs.Math.Option.{none};
+ghost use Rattle.std.specs.Prelude.{◌≡◌, true, false, ◌+◌, ◌<◌, ◌≤◌, length, get_or, None};
 ghost use Rattle.model.specs.State.{Column, Single, Int, datatype_code};
 ghost use Rattle.model.specs.Access.{store_register};
 ghost use Rattle.area.specs.Cells.{cell, cells, Inside};
 ghost use Rattle.intmap.specs.Get.{Gets};
 ghost use Rattle.intmap.specs.Find.{seek};
 ghost use Rattle.intmap.specs.Map.{levels, IsMap, HasRoom};
-ghost use Rattle.intmap.specs.Pack.{tag_of, class_key};
+ghost use Rattle.intmap.specs.Pack.{tag_of, class_number, class_key};
 ghost use Rattle.intmap.specs.Signed.{int_of};
 ghost use Rattle.encoding.specs.Encode.{single};
 ghost use Rattle.encoding.specs.Decode.{nullables};
@@ -20,7 +19,8 @@ ghost use Rattle.state.specs.Over.{IsHead, OverEntry, OverRegister};
 ghost use Rattle.state.specs.Reads.{register_in, Reads};
 
 use area::Cell;
-use intmap::{Found, Index, IntMap, Slot, Stored};
+use intmap::{Class, Found, IntMap};
+use refusal::Refusal;
 use type_info::DataType;
 
 // A state: the map of its registers, cursors and tables, and the next row, where 2^63 stands for row 0. The map first: the machine reads it
@@ -31,22 +31,12 @@ pub struct MemoryState {
     pub row: u64,
 }
 
-// A way that a row offers.
+// The ways that a row offers: a branch, and the state that goes on.
 #[derive(Clone, Copy)]
-pub enum Way {
-    Nowhere,
-    To(MemoryState),
+pub struct Ways {
+    pub branch: Option<MemoryState>,
+    pub stays: Option<MemoryState>,
 }
-
-// What handling a row gives: a refusal, or a branch and the state that goes on.
-#[derive(Clone, Copy)]
-pub enum Step {
-    Refused(u64),
-    Ways(Way, Way),
-}
-
-// The class of registers in the map.
-pub const REGISTERS: u64 = 0;
 
 // The codes of `nullable`.
 pub const UNKNOWN: u64 = 0;
@@ -152,25 +142,25 @@ fn flat_size(c: Cell) -> usize
 
 // Looks for a key at its distance from the first entry of a map, whose cells are from `base` on and before `end`: it is there, if the entries of all
 // keys between are, of one cell each.
-fn near_first(area: &[u8], base: usize, end: usize, key: u64) -> usize
+fn near_first(area: &[u8], base: usize, end: usize, key: u64) -> Option<usize>
     requires { HeldAmong (cells area.now) base end × (key < 1099511627776) }
     ensures { Guesses (cells area.now) base end key result }
 {
     if end <= base {
-        return end;
+        return None;
     }
     let k = intmap::key_of(area::cell_at(area, base));
     if key < k {
-        return end;
+        return None;
     }
     if ((end - base) as u64) <= key - k {
-        return end;
+        return None;
     }
     let p = base + (key - k) as usize;
     if is_at(area, end, p, key) {
-        return p;
+        return Some(p);
     }
-    end
+    None
 }
 
 // How many of the last entries are tried for a cursor or table.
@@ -189,7 +179,7 @@ fn head_near(area: &[u8], base: usize, at: usize) -> usize
 }
 
 // Looks for a key among the last entries, whose keys fall from the last on.
-fn near_last(area: &[u8], base: usize, end: usize, key: u64) -> usize
+fn near_last(area: &[u8], base: usize, end: usize, key: u64) -> Option<usize>
     requires { HeldAmong (cells area.now) base end × (key < 1099511627776) }
     ensures { Guesses (cells area.now) base end key result }
 {
@@ -197,20 +187,20 @@ fn near_last(area: &[u8], base: usize, end: usize, key: u64) -> usize
     let mut left: usize = LAST;
     while 0 < left {
         if high <= base {
-            return end;
+            return None;
         }
         let p = head_near(area, base, high - 1);
         let k = intmap::key_of(area::cell_at(area, p));
         if k == key {
-            return p;
+            return Some(p);
         }
         if k < key {
-            return end;
+            return None;
         }
         high = p;
         left -= 1;
     }
-    end
+    None
 }
 
 // From this key on entries are cursors and tables.
@@ -220,7 +210,7 @@ const LATER: u64 = 131072;
 const GAP: usize = 8;
 
 // Looks for a key in the cells below p, down to an entry with a lower one.
-fn near_below(area: &[u8], base: usize, end: usize, p: usize, key: u64) -> usize
+fn near_below(area: &[u8], base: usize, end: usize, p: usize, key: u64) -> Option<usize>
     requires { HeldAmong (cells area.now) base end × (base ≤ p) × (p ≤ end) }
     ensures { Guesses (cells area.now) base end key result }
 {
@@ -228,22 +218,22 @@ fn near_below(area: &[u8], base: usize, end: usize, p: usize, key: u64) -> usize
     let mut left: usize = GAP;
     while 0 < left {
         if q <= base {
-            return end;
+            return None;
         }
         q -= 1;
         let c = area::cell_at(area, q);
         let k = intmap::key_of(c);
         if k == key {
-            return q;
+            return Some(q);
         }
         if k < key {
             if intmap::begins(c) {
-                return end;
+                return None;
             }
         }
         left -= 1;
     }
-    end
+    None
 }
 
 // Below which cell a key may stand: behind the one at its distance from the entry that the cell at p belongs to, if the key is above, else below p.
@@ -265,16 +255,16 @@ fn top_near(area: &[u8], base: usize, end: usize, p: usize, key: u64) -> usize
 }
 
 // Looks for a register's key near its distance from the first entry, from where a record before it, or a register that is absent, has moved it.
-fn near_moved(area: &[u8], base: usize, end: usize, key: u64) -> usize
+fn near_moved(area: &[u8], base: usize, end: usize, key: u64) -> Option<usize>
     requires { HeldAmong (cells area.now) base end }
     ensures { Guesses (cells area.now) base end key result }
 {
     if end <= base {
-        return end;
+        return None;
     }
     let k = intmap::key_of(area::cell_at(area, base));
     if key < k {
-        return end;
+        return None;
     }
     if ((end - base) as u64) <= key - k {
         return near_below(area, base, end, end, key);
@@ -283,18 +273,17 @@ fn near_moved(area: &[u8], base: usize, end: usize, key: u64) -> usize
     near_below(area, base, end, top_near(area, base, end, p, key), key)
 }
 
-// Where a key is found with few tests, or `end`: registers stand close, and cursors and tables are the last entries. It calls nothing that the
+// Where a key is found with few tests, if it is: registers stand close, and cursors and tables are the last entries. It calls nothing that the
 // compiler leaves a call, so that a search costs no copies of what it is given.
-fn near(area: &[u8], base: usize, end: usize, key: u64) -> usize
+fn near(area: &[u8], base: usize, end: usize, key: u64) -> Option<usize>
     requires { HeldAmong (cells area.now) base end × (key < 1099511627776) }
     ensures { Guesses (cells area.now) base end key result }
 {
     if LATER <= key {
         return near_last(area, base, end, key);
     }
-    let p = near_first(area, base, end, key);
-    if p < end {
-        return p;
+    if let Some(p) = near_first(area, base, end, key) {
+        return Some(p);
     }
     near_moved(area, base, end, key)
 }
@@ -379,26 +368,25 @@ fn place(area: &[u8], base: usize, end: usize, key: u64) -> usize
     high
 }
 
-// Where a key is; if it is nowhere, `end` and where it belongs are added.
-fn far(area: &[u8], base: usize, end: usize, key: u64) -> usize
+// Where a key is, or else where it belongs.
+fn far(area: &[u8], base: usize, end: usize, key: u64) -> Result<usize, usize>
     requires { HeldAmong (cells area.now) base end × (65536 ≤ key) × (key < 1099511627776) }
     ensures { Locates (cells area.now) base end key result }
 {
     let p = place(area, base, end, key);
     if is_at(area, end, p, key) {
-        return p;
+        return Ok(p);
     }
-    end + p
+    Err(p)
 }
 
 // The same, with few tests where they find it.
-fn locate(area: &[u8], base: usize, end: usize, key: u64) -> usize
+fn locate(area: &[u8], base: usize, end: usize, key: u64) -> Result<usize, usize>
     requires { HeldAmong (cells area.now) base end × (65536 ≤ key) × (key < 1099511627776) }
     ensures { Locates (cells area.now) base end key result }
 {
-    let p = near(area, base, end, key);
-    if p < end {
-        return p;
+    if let Some(p) = near(area, base, end, key) {
+        return Ok(p);
     }
     far(area, base, end, key)
 }
@@ -427,23 +415,21 @@ pub fn is_flat(map: IntMap, area: &[u8], at: usize, n: u64) -> bool
 }
 
 // Where the entry of a place in a class is: at once, or by a search of all entries.
-pub fn entry_at(map: IntMap, area: &[u8], class: u64, k: u64) -> Slot
-    requires { Held (cells area.now) map × (class < 3) × (k ≤ 65535) }
-    ensures { result ≡ entry_slot (cells area.now) map class k }
+pub fn entry_at(map: IntMap, area: &[u8], class: Class, k: u64) -> Option<usize>
+    requires { Held (cells area.now) map × (k ≤ 65535) }
+    ensures { result ≡ entry_slot (cells area.now) map (class_number class) k }
 {
     let key = intmap::class_key(class, k);
-    let end = map.base + map.used;
-    let p = locate(area, map.base, end, key);
-    if p < end {
-        return Slot::At(p);
+    match locate(area, map.base, map.base + map.used, key) {
+        Ok(p) => Some(p),
+        Err(_) => None,
     }
-    Slot::Absent
 }
 
 // Where a place in a class is or belongs: at the map's end, if its key is above all, or by a search of all entries.
-pub fn place_of(map: IntMap, area: &[u8], class: u64, k: u64) -> Found
-    requires { Held (cells area.now) map × (class < 3) × (k ≤ 65535) }
-    ensures { result ≡ seek (cells area.now) levels (class_key class k) map.len map.base }
+pub fn place_of(map: IntMap, area: &[u8], class: Class, k: u64) -> Found
+    requires { Held (cells area.now) map × (k ≤ 65535) }
+    ensures { result ≡ seek (cells area.now) levels (class_key (class_number class) k) map.len map.base }
 {
     let key = intmap::class_key(class, k);
     let end = map.base + map.used;
@@ -458,15 +444,12 @@ pub fn place_of(map: IntMap, area: &[u8], class: u64, k: u64) -> Found
 }
 
 // Where the entry of index i in a class is.
-pub fn get(map: IntMap, area: &[u8], class: u64, i: u64) -> Slot
-    requires { Held (cells area.now) map × (class < 3) }
-    ensures { Gets (cells area.now) map class i result }
+pub fn get(map: IntMap, area: &[u8], class: Class, i: u64) -> Result<Option<usize>, Refusal>
+    requires { Held (cells area.now) map }
+    ensures { Gets (cells area.now) map (class_number class) i result }
 {
-    let x = intmap::judge_index(i);
-    match x {
-        Index::Bad(n) => Slot::Bad(n),
-        Index::At(k) => entry_at(map, area, class, k),
-    }
+    let k = intmap::judge_index(i)?;
+    Ok(entry_at(map, area, class, k))
 }
 
 // Writes c under a key over the cell at p, if that is no record's. Says whether it was.
@@ -482,34 +465,29 @@ fn put_plain(area: &mut [u8], p: usize, key: u64, c: Cell) -> bool
 }
 
 // Writes c over the cell of index i in a class, if there is one and it is no record's. Says whether it was.
-pub fn overwrite_own(map: IntMap, area: &mut [u8], class: u64, i: u64, c: Cell) -> bool
-    requires { Held (cells area.old) map × (class < 3) × (tag_of c ≡ 2 → ⊥) }
-    ensures { OverwritesOwn (cells area.old) (cells area.new) map class i c result }
+pub fn overwrite_own(map: IntMap, area: &mut [u8], class: Class, i: u64, c: Cell) -> bool
+    requires { Held (cells area.old) map × (tag_of c ≡ 2 → ⊥) }
+    ensures { OverwritesOwn (cells area.old) (cells area.new) map (class_number class) i c result }
 {
-    let x = intmap::judge_index(i);
-    let Index::At(k) = x else {
+    let Ok(k) = intmap::judge_index(i) else {
         return false;
     };
     let key = intmap::class_key(class, k);
-    let end = map.base + map.used;
-    let p = locate(area, map.base, end, key);
-    if end <= p {
+    let Ok(p) = locate(area, map.base, map.base + map.used, key) else {
         return false;
-    }
+    };
     put_plain(area, p, key, c)
 }
 
 // Puts the record at `at` of the map, with c for its head, over the one of place k in a class, if both have as many columns, of one cell each. Says
 // whether it did: then the map is as it was.
-pub fn over_entry(map: IntMap, area: &mut [u8], at: usize, c: Cell, class: u64, k: u64) -> bool
-    requires { Held (cells area.old) map × IsHead (cells area.old) at c × (class < 3) × (k ≤ 65535) }
-    ensures { OverEntry (cells area.old) (cells area.new) map at c class k result }
+pub fn over_entry(map: IntMap, area: &mut [u8], at: usize, c: Cell, class: Class, k: u64) -> bool
+    requires { Held (cells area.old) map × IsHead (cells area.old) at c × (k ≤ 65535) }
+    ensures { OverEntry (cells area.old) (cells area.new) map at c (class_number class) k result }
 {
-    let x = entry_at(map, area, class, k);
-    match x {
-        Slot::Bad(_) => false,
-        Slot::Absent => false,
-        Slot::At(p) => intmap::copy_over(area, at, p, c),
+    match entry_at(map, area, class, k) {
+        None => false,
+        Some(p) => intmap::copy_over(area, at, p, c),
     }
 }
 
@@ -521,32 +499,35 @@ pub fn over_register(map: IntMap, area: &mut [u8], at: usize, c: Cell, i: u64) -
     if intmap::tag_of(c) != intmap::RECORD {
         return false;
     }
-    let x = intmap::judge_index(i);
-    let Index::At(k) = x else {
+    let Ok(k) = intmap::judge_index(i) else {
         return false;
     };
-    over_entry(map, area, at, c, REGISTERS, k)
+    over_entry(map, area, at, c, Class::Registers, k)
 }
 
 // Stores a cell that is no record's under index i of a class: over its own cell, or where that belongs, or in the place of a record.
-pub fn store_cell(map: IntMap, area: &mut [u8], class: u64, i: u64, c: Cell, limit: usize) -> Stored
-    requires { HasRoom (cells area.old) limit map × Held (cells area.old) map × (class < 3) × (tag_of c ≡ 2 → ⊥) }
-    ensures { StoresCell limit (cells area.old) (cells area.new) map class i c result }
+pub fn store_cell(
+    map: IntMap,
+    area: &mut [u8],
+    class: Class,
+    i: u64,
+    c: Cell,
+    limit: usize,
+) -> Result<IntMap, Refusal>
+    requires { HasRoom (cells area.old) limit map × Held (cells area.old) map × (tag_of c ≡ 2 → ⊥) }
+    ensures { StoresCell limit (cells area.old) (cells area.new) map (class_number class) i c result }
 {
-    let x = intmap::judge_index(i);
-    let Index::At(k) = x else {
-        return map.store_cell(area, class, i, c, limit);
-    };
+    let k = intmap::judge_index(i)?;
     let key = intmap::class_key(class, k);
-    let end = map.base + map.used;
-    let p = locate(area, map.base, end, key);
-    if end <= p {
-        return intmap::as_stored(map.insert_new(area, p - end, intmap::with_key(c, key), limit));
+    match locate(area, map.base, map.base + map.used, key) {
+        Err(p) => map.insert_new(area, p, intmap::with_key(c, key), limit),
+        Ok(p) => {
+            if put_plain(area, p, key, c) {
+                return Ok(map);
+            }
+            map.store_cell(area, class, i, c, limit)
+        }
     }
-    if put_plain(area, p, key, c) {
-        return Stored::Done(map);
-    }
-    map.store_cell(area, class, i, c, limit)
 }
 
 // Writes c over the cell at p, if that is register i's own and no record's. Says whether it was.
@@ -554,11 +535,10 @@ pub fn overwrite(map: IntMap, area: &mut [u8], p: usize, i: u64, c: Cell) -> boo
     requires { Held (cells area.old) map × (map.base ≤ p) × (tag_of c ≡ 2 → ⊥) }
     ensures { Overwrites (cells area.old) (cells area.new) map p i c result }
 {
-    let x = intmap::judge_index(i);
-    let Index::At(k) = x else {
+    let Ok(k) = intmap::judge_index(i) else {
         return false;
     };
-    let key = intmap::class_key(REGISTERS, k);
+    let key = intmap::class_key(Class::Registers, k);
     if !is_at(area, map.base + map.used, p, key) {
         return false;
     }
@@ -571,36 +551,33 @@ pub fn write_near(area: &mut [u8], base: usize, end: usize, i: u64, head: u64, p
     requires { HeldAmong (cells area.old) base end × (tag_of (cell head payload) ≡ 2 → ⊥) }
     ensures { WritesNear (cells area.old) (cells area.new) base end i (cell head payload) result }
 {
-    let x = intmap::judge_index(i);
-    let Index::At(k) = x else {
+    let Ok(k) = intmap::judge_index(i) else {
         return false;
     };
-    let key = intmap::class_key(REGISTERS, k);
-    let p = near_first(area, base, end, key);
-    if end <= p {
+    let key = intmap::class_key(Class::Registers, k);
+    let Some(p) = near_first(area, base, end, key) else {
         return false;
-    }
+    };
     put_plain(area, p, key, Cell { head, payload })
 }
 
-// Where the entry of place k in a class is, if it is one of the last, or `end`.
-pub fn last_near(area: &[u8], base: usize, end: usize, class: u64, k: u64) -> usize
-    requires { HeldAmong (cells area.now) base end × (class < 3) × (k ≤ 65535) }
-    ensures { EntryNear (cells area.now) base end class k result }
+// Where the entry of place k in a class is, if it is one of the last.
+pub fn last_near(area: &[u8], base: usize, end: usize, class: Class, k: u64) -> Option<usize>
+    requires { HeldAmong (cells area.now) base end × (k ≤ 65535) }
+    ensures { EntryNear (cells area.now) base end (class_number class) k result }
 {
     near_last(area, base, end, intmap::class_key(class, k))
 }
 
-// Where register i's cell is, if that is at its distance from the first entry, or `end`.
-pub fn register_near(area: &[u8], base: usize, end: usize, i: u64) -> usize
+// Where register i's cell is, if that is at its distance from the first entry.
+pub fn register_near(area: &[u8], base: usize, end: usize, i: u64) -> Option<usize>
     requires { HeldAmong (cells area.now) base end }
     ensures { GetsNear (cells area.now) base end i result }
 {
-    let x = intmap::judge_index(i);
-    let Index::At(k) = x else {
-        return end;
+    let Ok(k) = intmap::judge_index(i) else {
+        return None;
     };
-    near_first(area, base, end, intmap::class_key(REGISTERS, k))
+    near_first(area, base, end, intmap::class_key(Class::Registers, k))
 }
 
 // Stores a plain column over register i's own cell, as `write_near` does.
@@ -613,7 +590,7 @@ pub fn single_near(
     nullable: u64,
 ) -> bool
     requires { HeldAmong (cells area.old) base end × (nullable < 3) }
-    ensures { LeadsNear (cells area.old) (cells area.new) base end (λ limit. store_register limit (int_of i) (Column (Single d (get_or nullables nullable none)))) result }
+    ensures { LeadsNear (cells area.old) (cells area.new) base end (λ limit. store_register limit (int_of i) (Column (Single d (get_or nullables nullable None)))) result }
 {
     let c = single(d, nullable);
     write_near(area, base, end, i, c.head, c.payload)
@@ -628,15 +605,21 @@ pub fn int_near(area: &mut [u8], base: usize, end: usize, i: u64, value: u64) ->
 }
 
 // Stores a cell that is no record's in register i.
-fn store_register(map: IntMap, area: &mut [u8], i: u64, c: Cell, limit: usize) -> Stored
+fn store_register(
+    map: IntMap,
+    area: &mut [u8],
+    i: u64,
+    c: Cell,
+    limit: usize,
+) -> Result<IntMap, Refusal>
     requires { HasRoom (cells area.old) limit map × Held (cells area.old) map × (tag_of c ≡ 2 → ⊥) }
     ensures { StoresCell limit (cells area.old) (cells area.new) map 0 i c result }
 {
     let end = map.base + map.used;
     if write_near(area, map.base, end, i, c.head, c.payload) {
-        return Stored::Done(map);
+        return Ok(map);
     }
-    store_cell(map, area, REGISTERS, i, c, limit)
+    store_cell(map, area, Class::Registers, i, c, limit)
 }
 
 // Stores a plain column in register i.
@@ -647,15 +630,21 @@ pub fn store_single(
     d: DataType,
     nullable: u64,
     limit: usize,
-) -> Stored
+) -> Result<IntMap, Refusal>
     requires { Current limit (cells area.old) map × (nullable < 3) }
-    ensures { Leads limit (cells area.old) (cells area.new) map result (store_register limit (int_of i) (Column (Single d (get_or nullables nullable none)))) }
+    ensures { Leads limit (cells area.old) (cells area.new) map result (store_register limit (int_of i) (Column (Single d (get_or nullables nullable None)))) }
 {
     store_register(map, area, i, single(d, nullable), limit)
 }
 
 // Stores a known number, as an operand's word, in register i.
-pub fn store_int(map: IntMap, area: &mut [u8], i: u64, value: u64, limit: usize) -> Stored
+pub fn store_int(
+    map: IntMap,
+    area: &mut [u8],
+    i: u64,
+    value: u64,
+    limit: usize,
+) -> Result<IntMap, Refusal>
     requires { Current limit (cells area.old) map × Operand value }
     ensures { Leads limit (cells area.old) (cells area.new) map result (store_register limit (int_of i) (Int (int_of value))) }
 {
@@ -667,8 +656,6 @@ pub fn store_int(map: IntMap, area: &mut [u8], i: u64, value: u64, limit: usize)
 // What a register holds. A plain column is told by its codes, a record by the place of its run, a known number by its word.
 #[derive(Clone, Copy)]
 pub enum Register {
-    Bad(u64),
-    Absent,
     Single(u64, u64),
     Record(usize),
     Int(u64),
@@ -688,15 +675,13 @@ pub fn register_in(c: Cell, at: usize) -> Register
     Register::Int(c.payload)
 }
 
-// Reads register i.
-pub fn read_register(map: IntMap, area: &[u8], i: u64) -> Register
+// Reads register i, if it is there.
+pub fn read_register(map: IntMap, area: &[u8], i: u64) -> Result<Option<Register>, Refusal>
     requires { Held (cells area.now) map }
     ensures { Reads (cells area.now) map i result }
 {
-    let x = get(map, area, REGISTERS, i);
-    match x {
-        Slot::Bad(n) => Register::Bad(n),
-        Slot::Absent => Register::Absent,
-        Slot::At(at) => register_in(area::cell_at(area, at), at),
+    match get(map, area, Class::Registers, i)? {
+        None => Ok(None),
+        Some(at) => Ok(Some(register_in(area::cell_at(area, at), at))),
     }
 }

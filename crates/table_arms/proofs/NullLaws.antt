@@ -1,7 +1,10 @@
 -- NullRow: a turn of its loop, the cells that it keeps, and what the definition does with a cursor's columns. Assumes nothing.
+use Rattle.refusal.specs.Numbers.{number_of}
+use Rattle.refusal.specs.declared.Refusal.{Refusal}
+use Rattle.intmap.specs.Get.{Slot}
 use mathlib.Core.Path.{◌≡◌, refl, sym, ap, ap₂, subst, ◌∙◌}
 use mathlib.Core.Bool.{Bool, true, false}
-use mathlib.Core.Option.{Option}
+use Rattle.std.specs.Prelude.{Option, Ok, Err, Some, None}
 use mathlib.Core.List.{List}
 use Prim.Native.Nat.{ℕ, zero, suc, ◌+◌, ◌-◌, ◌<◌, ◌≤◌}
 use native.Mathlib.Omega.{arith}
@@ -10,7 +13,7 @@ use lib.Dec.{eqb}
 use lib.IntN.{ℤ}
 use lib.ListN.{length, get_or, set, length-set}
 use lib.Seq.{get_or-set_same, get_or-set_other, set-get_or}
-use borrow.Author.Tests.{eq-eqb, ne_eqb, eqb-true, eqb-false}
+use borrow.Author.Tests.{eqb-true, eqb-false}
 use Rattle.model.specs.Walk.{Tried, refused, done}
 use Rattle.model.specs.Row.{Row as Listed}
 use Rattle.model.specs.State.{CursorDataType as Cursor, MemoryState}
@@ -28,13 +31,11 @@ use Rattle.intmap.specs.Pick.{pick}
 use Rattle.intmap.specs.Runs.{size, sizes, AreColumns, Agree}
 use Rattle.intmap.specs.Signed.{int_of}
 use Rattle.intmap.specs.declared.IntMap.{IntMap}
-use Rattle.intmap.specs.declared.Slot.{Slot}
-use Rattle.intmap.specs.declared.Slot.TheVariants as slot
-use Rattle.intmap.specs.declared.Stored.TheVariants as stored
 use Rattle.intmap.proofs.RunLaws.{size-pos, sizes_step}
 use Rattle.intmap.proofs.SameCells.{size_same, sizes_same}
 use Rattle.encoding.specs.Heads.{single_nullable, on_heads, null_heads}
 use Rattle.encoding.specs.Holds.{HeldNext}
+use Rattle.encoding.proofs.Accesses.{apart}
 use Rattle.encoding.proofs.BySearch.{search_kept, search_null, search_plain, search_table_kept, search_table_null}
 use Rattle.encoding.proofs.Places.{sizes-many}
 use Rattle.encoding.proofs.Heads.{heads_length, heads_below, heads_above}
@@ -42,23 +43,17 @@ use Rattle.rows.specs.Judged.{Judged}
 use Rattle.rows.specs.declared.Row.{Row}
 use Rattle.state.specs.Leads.{Current, HoldsMap}
 use Rattle.state.specs.Arms.{CursorArm}
-use Rattle.cursor_arms.specs.Cursors.{TellsCursor, ReadsCursor}
+use Rattle.cursor_arms.specs.Cursors.{TellsCursor, Reading, TellsReading}
 use Rattle.state.specs.Own.{entry_slot}
-use Rattle.cursor_arms.specs.StandsFor.{register_slot, head_slot, columns_slot, FindsColumns}
+use Rattle.cursor_arms.specs.StandsFor.{place_of, register_slot, head_slot, columns_slot, FindsReading, FindsCursor}
 use Rattle.cursor_arms.specs.declared.CursorDataType.{CursorDataType}
 use Rattle.cursor_arms.specs.declared.CursorDataType.TheVariants as cursor
 use Rattle.cursor_arms.proofs.DupLaws.{frame_same}
-use Rattle.cursor_arms.proofs.StandsLaws.{led_at, led_nowhere, led_bad, table_tells, table_tag, head_there, HeadLed, columns_led}
+use Rattle.cursor_arms.proofs.StandsLaws.{done-same, led_at, led_nowhere, table_tells, table_tag, head_there, HeadLed, cursor_led}
 use Rattle.cursor_arms.proofs.TableLaws.{sizes_alike, size_alike}
 use Rattle.table_arms.specs.Nulled.{AreNullable, Nulled}
 
 -- ---- a head
-
-pub plain-head : (c : Cell) → tag_of c ≡ 1 → with_nullable 2 c ≡ single_nullable 2 c
-plain-head c t = ap (λ b. pick b (with_nullable 2 c) c) (sym (eq-eqb (tag_of c) 1 t))
-
-pub other_head : (c : Cell) → (tag_of c ≡ 1 → ⊥) → c ≡ single_nullable 2 c
-other_head c t = ap (λ b. pick b (with_nullable 2 c) c) (sym (ne_eqb (tag_of c) 1 t))
 
 head_tag : (c : Cell) → tag_of (single_nullable 2 c) ≡ tag_of c
 head_tag c = go (eqb (tag_of c) 1)
@@ -85,9 +80,6 @@ already_head c n = go (eqb (tag_of c) 1)
 module _ (cs : List Cell) (p : ℕ) (c : Cell) (ce : c ≡ get_or cs p blank) where
   pub cell_kept : c ≡ single_nullable 2 c → cs ≡ set cs p (single_nullable 2 (get_or cs p blank))
   cell_kept e = sym (ap (set cs p) (sym (ap (λ y. single_nullable 2 y) ce) ∙ sym e ∙ ce) ∙ set-get_or cs p blank)
-
-  pub cell_written : (x : Cell) → x ≡ single_nullable 2 c → set cs p x ≡ set cs p (single_nullable 2 (get_or cs p blank))
-  cell_written x xe = ap (set cs p) (xe ∙ ap (λ y. single_nullable 2 y) ce)
 
 -- ---- one head changed
 
@@ -222,18 +214,17 @@ module _ (cs ds : List Cell) (a : IntMap) (is : IsMap cs a) (p : ℕ) (led : Hea
 
 -- by the place of the columns: refused, nothing, or the changed cells hold the state
 abbrev AfterNull : ℕ → ℕ → List Cell → List Cell → IntMap → MemoryState → Slot → Tried MemoryState → Type 0
-AfterNull limit bound cs ds a m (slot.Bad n) t = t ≡ refused n
-AfterNull limit bound cs ds a m slot.Absent t = t ≡ done m
-AfterNull limit bound cs ds a m (slot.At p) t = ds ≡ null_heads cs p → HeldNext limit bound ds a.base a.len a.used t
+AfterNull limit bound cs ds a m (Err n) t = t ≡ refused (number_of n)
+AfterNull limit bound cs ds a m (Ok None) t = t ≡ done m
+AfterNull limit bound cs ds a m (Ok (Some p)) t = ds ≡ null_heads cs p → HeldNext limit bound ds a.base a.len a.used t
 
 module _ (limit bound : ℕ) (cs ds : List Cell) (a : IntMap) (is : IsMap cs a) (m : MemoryState) (h : HoldsMap limit bound cs a m) where
-  table_null : (row : ℕ) (s : Slot) → entry_slot cs a 2 row ≡ s → AfterNull limit bound cs ds a m (head_slot cs s) (done (update_table row null_table m))
-  table_null row (slot.Bad n) e = absurd (led_bad cs a 2 row n e)
-  table_null row slot.Absent e = ap done (search_table_kept h row null_table (led_nowhere cs a 2 row e))
-  table_null row (slot.At p) e =
+  table_null : (row : ℕ) (s : Option ℕ) → entry_slot cs a 2 row ≡ s → AfterNull limit bound cs ds a m (Ok (head_slot cs s)) (done (update_table row null_table m))
+  table_null row None e = ap done (search_table_kept h row null_table (led_nowhere cs a 2 row e))
+  table_null row (Some p) e =
       let led = led_at cs a 2 row p e in
-      subst (λ s. AfterNull limit bound cs ds a m s (done (update_table row null_table m)))
-      (head_there cs (slot.At p) p refl (get_or cs p blank) refl (table_tag h (table_tells h row (slot.At p) e)))
+      subst (λ s. AfterNull limit bound cs ds a m (Ok s) (done (update_table row null_table m)))
+      (head_there cs (Some p) p refl (get_or cs p blank) refl (table_tag h (table_tells h row (Some p) e)))
       (λ nulled.
       record {
         state = update_table row null_table m;
@@ -241,12 +232,11 @@ module _ (limit bound : ℕ) (cs ds : List Cell) (a : IntMap) (is : IsMap cs a) 
         holds = search_table_null h row led.present ds is.inside (nulled ∙ ap (null_heads cs) (sym led.at));
       })
 
-  record_null : (i : ℤ) (k : ℕ) → index i ≡ done k → (s : Slot) → entry_slot cs a 0 k ≡ s → AfterNull limit bound cs ds a m (head_slot cs s) (update_register i null_record m)
-  record_null i k at (slot.Bad n) e = absurd (led_bad cs a 0 k n e)
-  record_null i k at slot.Absent e = search_kept h i k at null_record (led_nowhere cs a 0 k e)
-  record_null i k at (slot.At p) e = go (eqb (tag_of (get_or cs p blank)) 2) refl
+  record_null : (i : ℤ) (k : ℕ) → index i ≡ done k → (s : Option ℕ) → entry_slot cs a 0 k ≡ s → AfterNull limit bound cs ds a m (Ok (head_slot cs s)) (update_register i null_record m)
+  record_null i k at None e = search_kept h i k at null_record (led_nowhere cs a 0 k e)
+  record_null i k at (Some p) e = go (eqb (tag_of (get_or cs p blank)) 2) refl
     where
-      go : (b : Bool) → eqb (tag_of (get_or cs p blank)) 2 ≡ b → AfterNull limit bound cs ds a m (pick b (slot.At p) slot.Absent) (update_register i null_record m)
+      go : (b : Bool) → eqb (tag_of (get_or cs p blank)) 2 ≡ b → AfterNull limit bound cs ds a m (Ok (pick b (Some p) None)) (update_register i null_record m)
       go true t =
           let led = led_at cs a 0 k p e in
           λ nulled.
@@ -256,68 +246,75 @@ module _ (limit bound : ℕ) (cs ds : List Cell) (a : IntMap) (is : IsMap cs a) 
           let led = led_at cs a 0 k p e in
           search_plain h i k at led.present (λ q. eqb-false (tag_of (get_or cs p blank)) 2 t (ap (λ y. tag_of (get_or cs y blank)) (sym led.at) ∙ q))
 
-  register_null : (i : ℤ) → AfterNull limit bound cs ds a m (head_slot cs (register_slot cs a (index i))) (update_register i null_record m)
+  register_null : (i : ℤ) (r : Slot) → place_of r ≡ (register_slot cs a (index i) >>= λ o. done (head_slot cs o)) → AfterNull limit bound cs ds a m r (update_register i null_record m)
   unfolding register_slot update_register
-  register_null i = go (index i) refl
+  register_null i r is = go (index i) refl r is
     where
-      go : (t : Tried ℕ) → index i ≡ t → AfterNull limit bound cs ds a m (head_slot cs (register_slot cs a t)) (update_register i null_record m)
-      go (refused n) e = ap (λ u. u >>= λ k. done (with_registers (update k null_record m.r) m)) e
-      go (done k) e = record_null i k e (entry_slot cs a 0 k) refl
+      go : (t : Tried ℕ) → index i ≡ t → (r : Slot) → place_of r ≡ (register_slot cs a t >>= λ o. done (head_slot cs o)) → AfterNull limit bound cs ds a m r (update_register i null_record m)
+      go (refused n) e (Err k) q = ap (λ u. u >>= λ k. done (with_registers (update k null_record m.r) m)) e ∙ sym (ap (λ t. t >>= λ _. done m) q)
+      go (refused n) e (Ok o) q = absurd (apart n o (sym q))
+      go (done k) e (Err n) q = absurd (apart (number_of n) (head_slot cs (entry_slot cs a 0 k)) q)
+      go (done k) e (Ok o) q = subst (λ s. AfterNull limit bound cs ds a m (Ok s) (update_register i null_record m)) (sym (done-same q)) (record_null i k e (entry_slot cs a 0 k) refl)
 
-  by_cursor : (c : CursorDataType) (t : Tried (Option Cursor)) → TellsCursor bound c t → AfterNull limit bound cs ds a m (columns_slot cs a c) (t >>= λ o. null_columns o m)
+  by_cursor : (c : CursorDataType) (t : Tried (Option Cursor)) → TellsCursor bound c t → (r : Slot) → place_of r ≡ columns_slot cs a c → AfterNull limit bound cs ds a m r (t >>= λ o. null_columns o m)
   unfolding null_columns
-  by_cursor (cursor.Bad n) t told = ap (λ u. u >>= λ o. null_columns o m) told
-  by_cursor cursor.Absent t told = ap (λ u. u >>= λ o. null_columns o m) told
-  by_cursor (cursor.Normal row) t told =
-      subst (AfterNull limit bound cs ds a m (head_slot cs (entry_slot cs a 2 row))) (sym (ap (λ u. u >>= λ o. null_columns o m) told.answer)) (table_null row (entry_slot cs a 2 row) refl)
-  by_cursor (cursor.Pseudo w) t told =
-      subst (AfterNull limit bound cs ds a m (head_slot cs (register_slot cs a (index (int_of w))))) (sym (ap (λ u. u >>= λ o. null_columns o m) told.answer)) (register_null (int_of w))
+  by_cursor (cursor.Normal row) t told (Err n) is = absurd (apart (number_of n) (head_slot cs (entry_slot cs a 2 row)) is)
+  by_cursor (cursor.Normal row) t told (Ok s) is =
+      subst (AfterNull limit bound cs ds a m (Ok s)) (sym (ap (λ u. u >>= λ o. null_columns o m) told.answer))
+      (subst (λ s. AfterNull limit bound cs ds a m (Ok s) (done (update_table row null_table m))) (sym (done-same is)) (table_null row (entry_slot cs a 2 row) refl))
+  by_cursor (cursor.Pseudo w) t told r is = subst (AfterNull limit bound cs ds a m r) (sym (ap (λ u. u >>= λ o. null_columns o m) told.answer)) (register_null (int_of w) r is)
+
+  by_reading : (q : Reading) (t : Tried (Option Cursor)) → TellsReading bound q t → (r : Slot) → FindsReading cs a q r → AfterNull limit bound cs ds a m r (t >>= λ o. null_columns o m)
+  unfolding null_columns
+  by_reading (Err n) t told r is = subst (λ s. AfterNull limit bound cs ds a m s (t >>= λ o. null_columns o m)) (sym is) (ap (λ u. u >>= λ o. null_columns o m) told)
+  by_reading (Ok None) t told r is = subst (λ s. AfterNull limit bound cs ds a m s (t >>= λ o. null_columns o m)) (sym is) (ap (λ u. u >>= λ o. null_columns o m) told)
+  by_reading (Ok (Some c)) t told r is = by_cursor c t told r is.place
 
 -- ---- the arm
 
-module _ (cs : List Cell) (a : IntMap) (is : IsMap cs a) (c : CursorDataType) (r : Slot) (finds : FindsColumns cs a c r) (p : ℕ) (e : r ≡ slot.At p) where
+module _ (cs : List Cell) (a : IntMap) (is : IsMap cs a) (i : ℕ) (r : Slot) (found : FindsCursor cs a i r) (p : ℕ) (e : r ≡ Ok (Some p)) where
   pub head_within : p < length cs
-  head_within = omega (arith, (columns_led cs a is p c r finds e).below, is.inside)
+  head_within = omega (arith, (cursor_led cs a is p i r found e).below, is.inside)
 
   pub columns_within : (b : Cell) → b ≡ get_or cs p blank → AreColumns cs 8 b.payload (p + 1)
   columns_within b be =
       subst (λ (y : Cell). AreColumns cs 8 y.payload (p + 1)) (sym be)
-      (record { fits = omega (arith, (columns_led cs a is p c r finds e).below, is.inside); small = is.small })
+      (record { fits = omega (arith, (cursor_led cs a is p i r found e).below, is.inside); small = is.small })
 
-module _ (cs : List Cell) (a : IntMap) (is : IsMap cs a) (x : Row) (c : CursorDataType) (reads : ReadsCursor cs a x.p1 c) (r : Slot) (finds : FindsColumns cs a c r) where
+module _ (cs : List Cell) (a : IntMap) (is : IsMap cs a) (x : Row) (r : Slot) (found : FindsCursor cs a x.p1 r) where
   nulls : (ds : List Cell) (s : Slot) → r ≡ s → (limit bound : ℕ) (m : MemoryState) → HoldsMap limit bound cs a m → (meaning : Meaning) (row : ℕ) (l : Listed) → Judged l x → AfterNull limit bound cs ds a m s (cursor_arm meaning row l m op_null_row)
   unfolding cursor_arm
   nulls ds s e limit bound m h meaning row l j =
-      subst (λ y. AfterNull limit bound cs ds a m y (read_cursor l.p1 m >>= λ o. null_columns o m)) (sym finds.place ∙ e)
-      (by_cursor limit bound cs ds a is m h c (read_cursor l.p1 m) (subst (λ i. TellsCursor bound c (read_cursor i m)) j.p1 (reads.says limit bound m h)))
+      subst (λ y. AfterNull limit bound cs ds a m y (read_cursor l.p1 m >>= λ o. null_columns o m)) e
+      (by_reading limit bound cs ds a is m h found.reading (read_cursor l.p1 m) (subst (λ i. TellsReading bound found.reading (read_cursor i m)) j.p1 (found.reads.says limit bound m h)) r found.finds)
 
-  pub null_bad : (n : ℕ) → r ≡ slot.Bad n → (limit row : ℕ) → Current limit cs a → CursorArm limit cs cs a row x op_null_row (stored.Refused n)
+  pub null_bad : (n : Refusal) → r ≡ Err n → (limit row : ℕ) → Current limit cs a → CursorArm limit cs cs a row x op_null_row (Err n)
   null_bad n e limit row current =
       record {
         leads = λ meaning l st j.
-            record { says = λ bound m le h. nulls cs (slot.Bad n) e limit bound m h meaning row l j; leaves = tt; frame = frame_same cs _ _ };
+            record { says = λ bound m le h. nulls cs (Err n) e limit bound m h meaning row l j; leaves = tt; frame = frame_same cs _ _ };
       }
 
-  pub null_absent : r ≡ slot.Absent → (limit row : ℕ) → Current limit cs a → CursorArm limit cs cs a row x op_null_row (stored.Done a)
+  pub null_absent : r ≡ (Ok None) → (limit row : ℕ) → Current limit cs a → CursorArm limit cs cs a row x op_null_row (Ok a)
   null_absent e limit row current =
       record {
         leads = λ meaning l st j.
             record {
-              says = λ bound m le h. record { state = m; answer = nulls cs slot.Absent e limit bound m h meaning row l j; holds = h };
+              says = λ bound m le h. record { state = m; answer = nulls cs (Ok None) e limit bound m h meaning row l j; holds = h };
               leaves = record { base = refl; room = current.room };
               frame = frame_same cs _ _;
             };
       }
 
-  module _ (p : ℕ) (e : r ≡ slot.At p) where
-    pub null_there : (ds : List Cell) (b : Cell) → b ≡ get_or cs p blank → Nulled cs ds b.payload (p + 1) → (limit row : ℕ) → Current limit cs a → CursorArm limit cs ds a row x op_null_row (stored.Done a)
+  module _ (p : ℕ) (e : r ≡ Ok (Some p)) where
+    pub null_there : (ds : List Cell) (b : Cell) → b ≡ get_or cs p blank → Nulled cs ds b.payload (p + 1) → (limit row : ℕ) → Current limit cs a → CursorArm limit cs ds a row x op_null_row (Ok a)
     null_there ds b be nulled limit row current =
         let all : ds ≡ null_heads cs p = nulled.cells ∙ ap (λ (y : Cell). on_heads (single_nullable 2) 8 cs y.payload (p + 1)) be in
-        let led = columns_led cs a is p c r finds e in
+        let led = cursor_led cs a is p x.p1 r found e in
         record {
           leads = λ meaning l st j.
               record {
-                says = λ bound m le h. nulls ds (slot.At p) e limit bound m h meaning row l j all;
+                says = λ bound m le h. nulls ds (Ok (Some p)) e limit bound m h meaning row l j all;
                 leaves = record { base = refl; room = null_leaves cs ds a is p led all limit current.room };
                 frame = null_frame cs ds a is p led all limit current.room.most;
               };

@@ -1,6 +1,6 @@
 -- Insert, IdxInsert and SorterInsert by the run of what register P2 holds, which stands at `at` in the map. Assumes nothing.
-use Rattle.std.specs.Prelude.{◌≡◌, false, List, ℕ, ◌+◌, ◌≤◌, ℤ}
-use Rattle.std.proofs.Math.Option.{some}
+use Rattle.intmap.specs.Store.{Stored}
+use Rattle.std.specs.Prelude.{◌≡◌, false, List, ℕ, ◌+◌, ◌≤◌, ℤ, Some}
 use Rattle.model.specs.Walk.{Tried, done}
 use Rattle.model.specs.Row.{Row as Listed}
 use Rattle.model.specs.State.{Record, Columns, RegDataType, Column, MemoryState}
@@ -15,7 +15,6 @@ use Rattle.intmap.specs.Map.{levels, Frame}
 use Rattle.intmap.specs.Runs.{size}
 use Rattle.intmap.specs.Signed.{int_of}
 use Rattle.intmap.specs.declared.IntMap.{IntMap}
-use Rattle.intmap.specs.declared.Stored.{Stored}
 use Rattle.encoding.specs.Encode.{run_register}
 use Rattle.rows.specs.Judged.{Judged}
 use Rattle.rows.specs.declared.Row.{Row}
@@ -23,7 +22,7 @@ use Rattle.state.specs.Leads.{HoldsMap, Tells, Leaves, operands}
 
 -- a plain Null inserted: cursor i's table, if it has one, is not empty
 unfoldable pub fill_table : ℤ → MemoryState → Tried MemoryState
-fill_table i m = read_cursor i m >>= λ c. done (update_cursor_table (set_empty (some false)) c m)
+fill_table i m = read_cursor i m >>= λ c. done (update_cursor_table (set_empty (Some false)) c m)
 
 -- a record of these columns, as a state has it, stands there
 pub record RecordAt (cs : List Cell) (at : ℕ) (x : Columns) : Type 0 where
@@ -34,7 +33,7 @@ pub record RecordAt (cs : List Cell) (at : ℕ) (x : Columns) : Type 0 where
 
 -- its columns stored as the table of a row, which is not empty
 pub record StoresTable (limit : ℕ) (cs ds : List Cell) (a : IntMap) (row at : ℕ) (r : Stored) : Type 0 where
-  pub says : (bound : ℕ) (m : MemoryState) → HoldsMap limit bound cs a m → (x : Columns) → RecordAt cs at x → Tells limit bound ds r (store_table limit row (record { cols = x; is_empty = some false }) m)
+  pub says : (bound : ℕ) (m : MemoryState) → HoldsMap limit bound cs a m → (x : Columns) → RecordAt cs at x → Tells limit bound ds r (store_table limit row (record { cols = x; is_empty = Some false }) m)
   pub leaves : Leaves limit ds a r
   pub frame : Frame cs ds a.base (limit + limit)
 
@@ -46,6 +45,6 @@ pub record InsertsRecord (limit : ℕ) (cs ds : List Cell) (a : IntMap) (x : Row
 
 -- any value
 pub record InsertsFrom (limit : ℕ) (cs ds : List Cell) (a : IntMap) (x : Row) (at : ℕ) (r : Stored) : Type 0 where
-  pub says : (l : Listed) → Judged l x → (bound : ℕ) (m : MemoryState) → operands ≤ bound → HoldsMap limit bound cs a m → (key : ℕ) (v : RegDataType) → GoodRegister v → span cs at (size cs levels at) ≡ run_register key v → Tells limit bound ds r (insert_arm limit l m (some v))
+  pub says : (l : Listed) → Judged l x → (bound : ℕ) (m : MemoryState) → operands ≤ bound → HoldsMap limit bound cs a m → (key : ℕ) (v : RegDataType) → GoodRegister v → span cs at (size cs levels at) ≡ run_register key v → Tells limit bound ds r (insert_arm limit l m (Some v))
   pub leaves : Leaves limit ds a r
   pub frame : Frame cs ds a.base (limit + limit)

@@ -16,7 +16,8 @@ ghost use Rattle.table_arms.specs.Inserted.{fill_table, StoresTable, InsertsReco
 
 use area::Cell;
 use cursor_arms::CursorDataType;
-use intmap::{Insertion, IntMap, Slot, Stored};
+use intmap::IntMap;
+use refusal::Refusal;
 use rows::Row;
 
 // How deep the records of a cursor's columns nest.
@@ -39,6 +40,7 @@ fn null_columns(area: &mut [u8], from: usize, n: u64)
 {
     let mut p = from;
     let mut left = n;
+    // No `for`: each turn goes on by as many cells as its column has.
     while 0 < left {
         let c = area::cell_at(area, p);
         let size = intmap::count_from(area, p, c, DEPTH);
@@ -67,6 +69,7 @@ fn nullable_cells(area: &[u8], from: usize, n: u64) -> u64
     ensures { (result ≤ n) × AreNullable (cells area.now) from result }
 {
     let mut k: u64 = 0;
+    // No iterator: one over pairs of cells would need the bytes as cells, and they are none.
     while k + 1 < n {
         let p = from + k as usize;
         if intmap::nullable_of(area::cell_at(area, p)) != state::NULLABLE {
@@ -86,104 +89,108 @@ fn null_cells(area: &mut [u8], from: usize, n: u64)
     ensures { Nulled (cells area.old) (cells area.new) n from }
 {
     let k = nullable_cells(area, from, n);
-    let mut p = from + k as usize;
-    let mut left = n - k;
-    while 0 < left {
+    for p in from + k as usize..from + n as usize {
         null_cell(area, p);
-        p += 1;
-        left -= 1;
     }
 }
 
 // NullRow: every plain column of cursor P1 may be null.
-pub fn null_row(map: IntMap, area: &mut [u8], x: Row) -> Stored
+pub fn null_row(map: IntMap, area: &mut [u8], x: Row) -> Result<IntMap, Refusal>
     requires { SomeCurrent (cells area.old) map × IsRow x }
     ensures { (limit row : ℕ) → Current limit (cells area.old) map → CursorArm limit (cells area.old) (cells area.new) map row x op_null_row result }
 {
-    let p = cursor_arms::read_cursor(map, area, x.p1);
-    let columns = p.columns(map, area);
-    match columns {
-        Slot::Bad(n) => Stored::Refused(n),
-        Slot::Absent => Stored::Done(map),
-        Slot::At(at) => {
-            let c = area::cell_at(area, at);
-            if state::is_flat(map, area, at, c.payload) {
-                null_cells(area, at + 1, c.payload);
-                return Stored::Done(map);
-            }
-            null_columns(area, at + 1, c.payload);
-            Stored::Done(map)
-        }
+    let Some(at) = cursor_arms::columns_of(map, area, x.p1)? else {
+        return Ok(map);
+    };
+    let c = area::cell_at(area, at);
+    if state::is_flat(map, area, at, c.payload) {
+        null_cells(area, at + 1, c.payload);
+        return Ok(map);
     }
+    null_columns(area, at + 1, c.payload);
+    Ok(map)
 }
 
 // Stores the columns of the record at `at` of the map as the table that a row opened, which is not empty then. A store may move that record, so it
 // goes to the room behind the map first.
-fn store_behind(map: IntMap, area: &mut [u8], row: u64, at: usize, limit: usize) -> Stored
+fn store_behind(
+    map: IntMap,
+    area: &mut [u8],
+    row: u64,
+    at: usize,
+    limit: usize,
+) -> Result<IntMap, Refusal>
     requires { Current limit (cells area.old) map × (map.base ≤ at) × (at + size (cells area.old) levels at ≤ map.base + map.used) × (row ≤ 65535) }
     ensures { StoresTable limit (cells area.old) (cells area.new) map row at result }
 {
-    let n = cursor_arms::run_behind(map, area, at, cursor_arms::NEVER_EMPTY, limit);
-    let key = intmap::class_key(cursor_arms::TABLES, row);
-    let x = map.insert_run(area, key, map.base + limit, n, limit);
-    match x {
-        Insertion::Full => Stored::Refused(8),
-        Insertion::Done(m) => Stored::Done(m),
-    }
+    let filled = cursor_arms::nullable_code(Some(false));
+    let n = cursor_arms::run_behind(map, area, at, filled, limit);
+    let key = intmap::class_key(intmap::Class::Tables, row);
+    map.insert_run(area, key, map.base + limit, n, limit)
 }
 
 // The same, at once where the table has as many columns, of one cell each.
-fn store_table(map: IntMap, area: &mut [u8], row: u64, at: usize, limit: usize) -> Stored
+fn store_table(
+    map: IntMap,
+    area: &mut [u8],
+    row: u64,
+    at: usize,
+    limit: usize,
+) -> Result<IntMap, Refusal>
     requires { Current limit (cells area.old) map × (map.base ≤ at) × (at + size (cells area.old) levels at ≤ map.base + map.used) × (row ≤ 65535) }
     ensures { StoresTable limit (cells area.old) (cells area.new) map row at result }
 {
-    let c = intmap::with_nullable(area::cell_at(area, at), cursor_arms::NEVER_EMPTY);
-    if state::over_entry(map, area, at, c, cursor_arms::TABLES, row) {
-        return Stored::Done(map);
+    let filled = cursor_arms::nullable_code(Some(false));
+    let c = intmap::with_nullable(area::cell_at(area, at), filled);
+    if state::over_entry(map, area, at, c, intmap::Class::Tables, row) {
+        return Ok(map);
     }
     store_behind(map, area, row, at, limit)
 }
 
 // Insert of the record at `at` of the map: it replaces the table of cursor P1, if there is one.
-fn insert_record(map: IntMap, area: &mut [u8], x: Row, at: usize, limit: usize) -> Stored
+fn insert_record(
+    map: IntMap,
+    area: &mut [u8],
+    x: Row,
+    at: usize,
+    limit: usize,
+) -> Result<IntMap, Refusal>
     requires { Current limit (cells area.old) map × (map.base ≤ at) × (at + size (cells area.old) levels at ≤ map.base + map.used) }
     ensures { InsertsRecord limit (cells area.old) (cells area.new) map x at result }
 {
-    let p = cursor_arms::read_cursor(map, area, x.p1);
-    match p {
-        CursorDataType::Bad(n) => Stored::Refused(n),
-        CursorDataType::Absent => Stored::Done(map),
-        CursorDataType::Normal(row) => {
-            let table = p.table(map, area);
-            match table {
-                Slot::Bad(n) => Stored::Refused(n),
-                Slot::Absent => Stored::Done(map),
-                Slot::At(_) => store_table(map, area, row, at, limit),
-            }
-        }
-        CursorDataType::Pseudo(_) => Stored::Done(map),
-    }
+    let Some(p) = cursor_arms::read_cursor(map, area, x.p1)? else {
+        return Ok(map);
+    };
+    let CursorDataType::Normal(row) = p else {
+        return Ok(map);
+    };
+    let Some(_) = p.table(map, area) else {
+        return Ok(map);
+    };
+    store_table(map, area, row, at, limit)
 }
 
 // Insert of a plain Null: the table of cursor P1, if there is one, is not empty.
-fn insert_null(map: IntMap, area: &mut [u8], x: Row, limit: usize) -> Stored
+fn insert_null(map: IntMap, area: &mut [u8], x: Row, limit: usize) -> Result<IntMap, Refusal>
     requires { Current limit (cells area.old) map }
     ensures { Leads limit (cells area.old) (cells area.new) map result (fill_table (int_of x.p1)) }
 {
-    let p = cursor_arms::read_cursor(map, area, x.p1);
-    match p {
-        CursorDataType::Bad(n) => Stored::Refused(n),
-        CursorDataType::Absent => Stored::Done(map),
-        CursorDataType::Normal(_) => {
-            p.set_empty(map, area, cursor_arms::NEVER_EMPTY);
-            Stored::Done(map)
-        }
-        CursorDataType::Pseudo(_) => Stored::Done(map),
-    }
+    let Some(p) = cursor_arms::read_cursor(map, area, x.p1)? else {
+        return Ok(map);
+    };
+    p.set_empty(map, area, Some(false));
+    Ok(map)
 }
 
 // Insert of the value at `at` of the map: a record, a plain Null, or another, which changes nothing.
-fn insert_from(map: IntMap, area: &mut [u8], x: Row, at: usize, limit: usize) -> Stored
+fn insert_from(
+    map: IntMap,
+    area: &mut [u8],
+    x: Row,
+    at: usize,
+    limit: usize,
+) -> Result<IntMap, Refusal>
     requires { Current limit (cells area.old) map × (map.base ≤ at) × (at + size (cells area.old) levels at ≤ map.base + map.used) }
     ensures { InsertsFrom limit (cells area.old) (cells area.new) map x at result }
 {
@@ -197,18 +204,16 @@ fn insert_from(map: IntMap, area: &mut [u8], x: Row, at: usize, limit: usize) ->
             return insert_null(map, area, x, limit);
         }
     }
-    Stored::Done(map)
+    Ok(map)
 }
 
 // Insert, IdxInsert, SorterInsert: what register P2 holds goes into the table of cursor P1.
-pub fn insert(map: IntMap, area: &mut [u8], x: Row, limit: usize) -> Stored
+pub fn insert(map: IntMap, area: &mut [u8], x: Row, limit: usize) -> Result<IntMap, Refusal>
     requires { Current limit (cells area.old) map × IsRow x }
     ensures { (row : ℕ) → CursorArm limit (cells area.old) (cells area.new) map row x op_insert result }
 {
-    let v = state::get(map, area, state::REGISTERS, x.p2);
-    match v {
-        Slot::Bad(n) => Stored::Refused(n),
-        Slot::Absent => Stored::Done(map),
-        Slot::At(at) => insert_from(map, area, x, at, limit),
-    }
+    let Some(at) = state::get(map, area, intmap::Class::Registers, x.p2)? else {
+        return Ok(map);
+    };
+    insert_from(map, area, x, at, limit)
 }

@@ -1,88 +1,87 @@
--- Items in a row, read at offsets until the text ends, and how many there are. Assumes nothing.
+-- Items in a row, read until the text ends, and how many there are. Assumes nothing.
 use mathlib.Core.Path.{◌≡◌, refl, sym, ap, ◌∙◌}
-use mathlib.Core.Option.{Option, none, some}
+use Rattle.std.specs.Prelude.{Option, None, Some}
 use mathlib.Core.List.{List, [], ◌∷◌, ◌++◌, append-nil, append_assoc}
 use Prim.Native.Nat.{ℕ, zero, suc, ◌+◌, ◌-◌, ◌≤◌, ◌<◌}
 use native.Mathlib.Omega.{arith}
 use native.Mathlib.Numerals.{add-one}
 use native.Mathlib.Nat.{sub-zero}
 use lib.Dec.{leb}
-use lib.ListN.{length, drop, length-drop, drop_of_length-le, length-append}
+use lib.ListN.{length, length-append}
 use borrow.Author.Tests.{le-leb, lt-leb}
 use Rattle.model.specs.Walk.{Tried, refused, done}
 use Rattle.model.specs.Access.{◌>>=◌}
 use Rattle.model.specs.Call.{or_refused, done_if}
 use Rattle.model.specs.Reader.{◌then◌, Reader}
 use Rattle.model.specs.Fields.{items_up_to, read_items}
-use Rattle.text.specs.ReadAt.{ReadsAt, rest_at}
+use Rattle.text.specs.Reads.{with_rest, Reads}
 use Rattle.text.specs.Counts.{length_of}
-use Rattle.text.proofs.ReadLaws.{then_then, then_same, read_ends}
+use Rattle.text.proofs.ReadLaws.{then_then, then_same, read_shorter}
 
 module _ {A : Type 0} (item : ℕ → Reader A) where
-  -- the items before `at` are read, and those from there on are not yet
-  pub record ItemsRead (t : List ℕ) (at k : ℕ) (before : List A) : Type 0 where
+  -- of the text t, k items were read, and `rest` is not yet
+  pub record ItemsRead (t rest : List ℕ) (k : ℕ) (before : List A) : Type 0 where
     pub count : length before ≡ k
-    pub each : k ≤ at
-    pub inside : at ≤ length t
-    pub all : (items_up_to item (length t - k) k (drop at t) then λ more. some (before ++ more)) ≡ read_items item t
+    pub each : k + length rest ≤ length t
+    pub all : (items_up_to item (length t - k) k rest then λ more. Some (before ++ more)) ≡ read_items item t
 
-  pub record SomeRead (t : List ℕ) (at k : ℕ) : Type 0 where
+  pub record SomeRead (t rest : List ℕ) (k : ℕ) : Type 0 where
     pub before : List A
-    pub read : ItemsRead t at k before
+    pub read : ItemsRead t rest k before
 
-  no_more : (most k : ℕ) → items_up_to item most k [] ≡ some []
+  no_more : (most k : ℕ) (rest : List ℕ) → length rest ≡ 0 → items_up_to item most k rest ≡ Some []
   unfolding items_up_to
-  no_more zero k = refl
-  no_more (suc most) k = refl
+  no_more zero k [] e = refl
+  no_more (suc most) k [] e = refl
+  no_more most k (b ∷ rest) e = absurd (omega (arith, e))
 
-  one_more : (most k : ℕ) (t : List ℕ) → 0 < most → 0 < length t → items_up_to item most k t ≡ (item k t then λ x. items_up_to item (most - 1) (suc k) x.1 then λ more. some (x.0 ∷ more))
+  one_more : (most k : ℕ) (t : List ℕ) → 0 < most → (length t ≡ 0 → ⊥) → items_up_to item most k t ≡ (item k t then λ x. items_up_to item (most - 1) (suc k) x.1 then λ more. Some (x.0 ∷ more))
   unfolding items_up_to
   one_more zero k t h l = absurd (omega arith)
-  one_more (suc most) k [] h l = absurd (omega arith)
+  one_more (suc most) k [] h l = absurd (l refl)
   one_more (suc most) k (b ∷ t) h l = let e : suc most - 1 ≡ most = omega arith in rw e
 
-  pub items_start : (t : List ℕ) → ItemsRead t 0 0 []
+  pub items_start : (t : List ℕ) → ItemsRead t t 0 []
   unfolding read_items
-  items_start t = record { count = refl; each = omega arith; inside = omega arith; all = rw (sub-zero (length t)) (same (items_up_to item (length t) 0 t)) }
+  items_start t = record { count = refl; each = omega arith; all = rw (sub-zero (length t)) (same (items_up_to item (length t) 0 t)) }
     where
-      same : (o : Option (List A)) → (o then λ more. some ([] ++ more)) ≡ o
-      same none = refl
-      same (some xs) = refl
+      same : (o : Option (List A)) → (o then λ more. Some ([] ++ more)) ≡ o
+      same None = refl
+      same (Some xs) = refl
 
-  module _ {t : List ℕ} {at k : ℕ} {before : List A} (h : ItemsRead t at k before) where
-    pub items_end : length t ≤ at → read_items item t ≡ some before
-    items_end l = sym h.all ∙ ap (λ s. items_up_to item (length t - k) k s then λ more. some (before ++ more)) (drop_of_length-le t l) ∙ ap (λ o. o then λ more. some (before ++ more)) (no_more (length t - k) k) ∙ ap some (append-nil before)
+  module _ {t rest : List ℕ} {k : ℕ} {before : List A} (h : ItemsRead t rest k before) where
+    pub items_end : length rest ≡ 0 → read_items item t ≡ Some before
+    items_end e = sym h.all ∙ ap (λ o. o then λ more. Some (before ++ more)) (no_more (length t - k) k rest e) ∙ ap Some (append-nil before)
 
-    opened : at < length t → {o : Option (A × ℕ)} → ReadsAt (item k) t at o → ((rest_at t o then λ x. items_up_to item (length t - k - 1) (suc k) x.1 then λ more. some (x.0 ∷ more)) then λ more. some (before ++ more)) ≡ read_items item t
-    opened l r = ap (λ o. (o then λ x. items_up_to item (length t - k - 1) (suc k) x.1 then λ more. some (x.0 ∷ more)) then λ more. some (before ++ more)) r.is ∙ sym (ap (λ o. o then λ more. some (before ++ more)) (one_more (length t - k) k (drop at t) (omega (arith, h.each)) (omega (arith, length-drop at t)))) ∙ h.all
+    module _ (some : length rest ≡ 0 → ⊥) {last : List ℕ} {o : Option A} (r : Reads (item k) rest last o) where
+      opened : ((with_rest last o then λ x. items_up_to item (length t - k - 1) (suc k) x.1 then λ more. Some (x.0 ∷ more)) then λ more. Some (before ++ more)) ≡ read_items item t
+      opened = ap (λ o. (o then λ x. items_up_to item (length t - k - 1) (suc k) x.1 then λ more. Some (x.0 ∷ more)) then λ more. Some (before ++ more)) r.is ∙ sym (ap (λ o. o then λ more. Some (before ++ more)) (one_more (length t - k) k rest (omega (arith, h.each, some)) some)) ∙ h.all
 
-    pub items_bad : {o : Option (A × ℕ)} → at < length t → ReadsAt (item k) t at o → o ≡ none → read_items item t ≡ none
-    items_bad l r e = sym (opened l r) ∙ ap (λ o. (rest_at t o then λ x. items_up_to item (length t - k - 1) (suc k) x.1 then λ more. some (x.0 ∷ more)) then λ more. some (before ++ more)) e
+      pub items_bad : o ≡ None → read_items item t ≡ None
+      items_bad e = sym opened ∙ ap (λ o. (with_rest last o then λ x. items_up_to item (length t - k - 1) (suc k) x.1 then λ more. Some (x.0 ∷ more)) then λ more. Some (before ++ more)) e
 
-    pub items_next : {o : Option (A × ℕ)} {a : A} {next : ℕ} → at < length t → ReadsAt (item k) t at o → o ≡ some (a, next) → ItemsRead t next (k + 1) (before ++ (a ∷ []))
-    items_next {o} {a} {next} l r e =
-        let (past, inside) = read_ends r e in
-        let d : length t - suc k ≡ length t - k - 1 = omega arith in
-        let rest = items_up_to item (length t - k - 1) (suc k) (drop next t) in
-        record {
-          count = length-append before (a ∷ []) ∙ ap (λ n. n + 1) h.count;
-          each = omega (arith, h.each);
-          inside = inside;
-          all = rw (add-one k, d) (then_same rest (λ more. ap some (append_assoc before (a ∷ []) more)))
-              ∙ sym (then_then rest _ _)
-              ∙ ap (λ o. (rest_at t o then λ x. items_up_to item (length t - k - 1) (suc k) x.1 then λ more. some (x.0 ∷ more)) then λ more. some (before ++ more)) (sym e)
-              ∙ opened l r;
-        }
+      pub items_next : {a : A} → o ≡ Some a → ItemsRead t last (k + 1) (before ++ (a ∷ []))
+      items_next {a} e =
+          let d : length t - suc k ≡ length t - k - 1 = omega arith in
+          let more = items_up_to item (length t - k - 1) (suc k) last in
+          record {
+            count = length-append before (a ∷ []) ∙ ap (λ n. n + 1) h.count;
+            each = omega (arith, h.each, read_shorter r e);
+            all = rw (add-one k, d) (then_same more (λ xs. ap Some (append_assoc before (a ∷ []) xs)))
+                ∙ sym (then_then more _ _)
+                ∙ ap (λ o. (with_rest last o then λ x. items_up_to item (length t - k - 1) (suc k) x.1 then λ more. Some (x.0 ∷ more)) then λ more. Some (before ++ more)) (sym e)
+                ∙ opened;
+          }
 
 -- How many were read, or the refusal: `number` where the text is ill-formed, 3 where there are more than `most`.
 module _ {A : Type 0} (number most : ℕ) where
   abbrev pub judged : Option (List A) → Tried (List A)
   judged o = or_refused number o >>= λ xs. done_if 3 (leb (length xs) most) xs
 
-  pub count_refused : {o : Option (List A)} → o ≡ none → refused number ≡ length_of (judged o)
+  pub count_refused : {o : Option (List A)} → o ≡ None → refused number ≡ length_of (judged o)
   count_refused e = ap (λ o. length_of (judged o)) (sym e)
 
-  module _ {o : Option (List A)} {xs : List A} (e : o ≡ some xs) {k : ℕ} (n : length xs ≡ k) where
+  module _ {o : Option (List A)} {xs : List A} (e : o ≡ Some xs) {k : ℕ} (n : length xs ≡ k) where
     count_as : length_of (done_if 3 (leb k most) xs) ≡ length_of (judged o)
     count_as = ap (λ m. length_of (done_if 3 (leb m most) xs)) (sym n) ∙ ap (λ o. length_of (judged o)) (sym e)
 

@@ -1,3 +1,3 @@
-pub mod ReadAt
+pub mod Reads
 pub mod Digits
 pub mod Counts

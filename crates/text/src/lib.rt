@@ -1,175 +1,75 @@
-// Fields of the call's texts, read from a slice at an offset: a key, a value and LF (model's Fields and Numbers).
+// The call's texts, read from the front, field by field: a key, a value and LF (model's Fields and Numbers).
 #![tactic(auto)]
 
-ghost use Rattle.std.specs.Prelude.{◌≡◌, [], ◌∷◌, ◌≤◌, length, drop};
-ghost use Rattle.type_info.specs.Ascii.{starts_with};
+ghost use Rattle.std.specs.Prelude.{◌≡◌, ◌==◌, option_copied, position};
 ghost use Rattle.model.specs.Fields.{take_value, take_field};
 ghost use Rattle.model.specs.Numbers.{read_up_to};
-ghost use Rattle.text.specs.ReadAt.{ReadsAt, number_of, number_at, LineAt, PartAt};
-ghost use Rattle.text.specs.Digits.{digits_up_to};
+ghost use Rattle.text.specs.Reads.{Reads};
+ghost use Rattle.text.specs.Digits.{digit_of, digits_up_to};
 
-// What a number's text says.
+// A text that is read from its front: what is left of it. One that gave nothing is not read on.
 #[derive(Clone, Copy)]
-pub enum Number {
-    Is(u64),
-    Bad,
+pub struct Reader<'a> {
+    pub rest: &'a [u8],
 }
 
-// Where a line ends.
-#[derive(Clone, Copy)]
-pub enum Line {
-    Ends(usize),
-    Open,
+impl<'a> Reader<'a> {
+    // The value behind the key.
+    pub fn value(&mut self, key: &[u8]) -> Option<&'a [u8]>
+        ensures { Reads (take_value key.now) self.old.rest.now self.new.rest.now (option_copied result) }
+    {
+        let line = self.rest.strip_prefix(key)?;
+        let end = line_end(line)?;
+        self.rest = &line[end + 1..];
+        Some(&line[..end])
+    }
+
+    // The number behind the key, if it is at most `most`.
+    pub fn number(&mut self, key: &[u8], most: u64) -> Option<u64>
+        ensures { Reads (take_field key.now (read_up_to most)) self.old.rest.now self.new.rest.now result }
+    {
+        natural(self.value(key)?, most)
+    }
 }
 
-// Where a field's value stands; its LF stands at `to`.
-#[derive(Clone, Copy)]
-pub enum Value {
-    Is { from: usize, to: usize },
-    Absent,
+// Where the first line's LF stands.
+fn line_end(t: &[u8]) -> Option<usize>
+    ensures { result ≡ position (λ b. b == 10) t.now }
+{
+    t.iter().position(|b| *b == b'\n')
 }
 
-// A field's number and the offset behind the field.
-#[derive(Clone, Copy)]
-pub enum Field {
-    Is { value: u64, next: usize },
-    Bad,
+// The value of a decimal digit.
+fn digit(b: u8) -> Option<u64>
+    ensures { result ≡ digit_of b }
+{
+    match b {
+        b'0'..=b'9' => Some((b - b'0') as u64),
+        _ => None,
+    }
 }
 
-// How many items a text has, or the refusal.
-#[derive(Clone, Copy)]
-pub enum Counted {
-    Refused(u64),
-    Count(usize),
+// The number of digits, leading zeros among them. It stops once that is above `most`, so that no number of digits is too long.
+fn digits(t: &[u8], most: u64) -> Option<u64>
+    ensures { result ≡ digits_up_to most 0 t.now }
+{
+    let mut n: u64 = 0;
+    for b in t {
+        n = n.checked_mul(10)?.checked_add(digit(*b)?)?;
+        if most < n {
+            return None;
+        }
+    }
+    Some(n)
 }
 
 // The number that t is, if it is at most `most`.
-pub fn natural(t: &[u8], most: u64) -> Number
-    ensures { number_of result ≡ read_up_to most t.now }
+pub fn natural(t: &[u8], most: u64) -> Option<u64>
+    ensures { result ≡ read_up_to most t.now }
 {
-    if t.len() == 0 {
-        return Number::Bad;
-    }
-    if t.len() == 1 {
-        return digit(t[0], most);
-    }
-    if t[0] == b'0' {
-        return Number::Bad;
-    }
-    digits(t, most)
-}
-
-// The number of one digit, as most are.
-fn digit(b: u8, most: u64) -> Number
-    ensures { number_of result ≡ digits_up_to most 0 (b ∷ []) }
-{
-    if b < b'0' {
-        return Number::Bad;
-    }
-    if b'9' < b {
-        return Number::Bad;
-    }
-    let d = wide(b - b'0');
-    if most < d {
-        return Number::Bad;
-    }
-    Number::Is(d)
-}
-
-// The number of digits, leading zeros among them. It stops once the number is above `most`, so that no number of digits is too long.
-fn digits(t: &[u8], most: u64) -> Number
-    ensures { number_of result ≡ digits_up_to most 0 t.now }
-{
-    let tenth = most / 10;
-    let mut n: u64 = 0;
-    let mut i: usize = 0;
-    while i < t.len() {
-        let b = t[i];
-        if b < b'0' {
-            return Number::Bad;
-        }
-        if b'9' < b {
-            return Number::Bad;
-        }
-        if tenth < n {
-            return Number::Bad;
-        }
-        let d = wide(b - b'0');
-        if most - n * 10 < d {
-            return Number::Bad;
-        }
-        n = n * 10 + d;
-        i += 1;
-    }
-    Number::Is(n)
-}
-
-fn wide(b: u8) -> u64
-    ensures { result ≡ b }
-{
-    b as u64
-}
-
-// Whether the key stands at `at`.
-fn starts(t: &[u8], at: usize, key: &[u8]) -> bool
-    requires { at ≤ length t.now }
-    ensures { result ≡ starts_with (drop at t.now) key.now }
-{
-    if t.len() - at < key.len() {
-        return false;
-    }
-    let mut i: usize = 0;
-    while i < key.len() {
-        if t[at + i] != key[i] {
-            return false;
-        }
-        i += 1;
-    }
-    true
-}
-
-// The end of the line that begins at `from`.
-fn find_lf(t: &[u8], from: usize) -> Line
-    ensures { LineAt t.now from result }
-{
-    let mut i = from;
-    while i < t.len() {
-        if t[i] == b'\n' {
-            return Line::Ends(i);
-        }
-        i += 1;
-    }
-    Line::Open
-}
-
-// The value behind the key at `at`.
-pub fn value_at(t: &[u8], at: usize, key: &[u8]) -> Value
-    requires { at ≤ length t.now }
-    ensures { PartAt (take_value key.now) t.now at result }
-{
-    if !starts(t, at, key) {
-        return Value::Absent;
-    }
-    let from = at + key.len();
-    let Line::Ends(to) = find_lf(t, from) else {
-        return Value::Absent;
-    };
-    Value::Is { from, to }
-}
-
-// The number behind the key at `at`, if it is at most `most`.
-pub fn number_at(t: &[u8], at: usize, key: &[u8], most: u64) -> Field
-    requires { at ≤ length t.now }
-    ensures { ReadsAt (take_field key.now (read_up_to most)) t.now at (number_at result) }
-{
-    let Value::Is { from, to } = value_at(t, at, key) else {
-        return Field::Bad;
-    };
-    let Number::Is(n) = natural(&t[from..to], most) else {
-        return Field::Bad;
-    };
-    Field::Is {
-        value: n,
-        next: to + 1,
+    match t {
+        [] => None,
+        [b'0', _, ..] => None,
+        _ => digits(t, most),
     }
 }

@@ -8,11 +8,10 @@ use native.Mathlib.Omega.{arith}
 use lib.ListN.{drop}
 use Rattle.type_info.specs.All.{All, all_nil, all_cons}
 use Rattle.type_info.specs.Ascii.{ascii, lower_byte, lowercase, equals, starts_with, contains}
-use Rattle.type_info.specs.Kind.{Arm, exactly, containing, takes, arms, first_if, first_arm, from_str, or_null, kind_of}
+use Rattle.type_info.specs.Kind.{Arm, exactly, containing, takes, gives, arms, first_if, first_arm, from_str, or_null, kind_of}
 use Rattle.type_info.specs.Affinity.{Rule, rules, contains_any_case, affinity_if, first_rule, affinity_of}
 use Rattle.type_info.specs.Agreement.{kind_of_affinity, Word, words, is_one_of, Says, Agreement}
 use Rattle.type_info.specs.declared.DataType.{DataType}
-use Rattle.type_info.proofs.Tests.{arm_fails}
 
 -- arms that contain the rules' words and give what their affinities say
 data Alike : List Arm → List Rule → Type 0 where
@@ -46,6 +45,11 @@ last-arms = also refl refl (also refl refl (also refl refl (also refl refl (also
 pub last_agree : (s : List ℕ) → or_null (first_arm (drop 8 arms) (lowercase s)) ≡ kind_of_affinity (affinity_of s)
 unfolding affinity_of
 last_agree s = same s last-arms
+
+-- an arm that does not take the text leaves it to the rest
+arm_fails : (a : Arm) (more : List Arm) (s : List ℕ) → takes a s ≡ false → first_arm more s ≡ first_arm (a ∷ more) s
+unfolding first_arm
+arm_fails a more s e = sym (ap (λ b. first_if b (gives a) (first_arm more s)) e)
 
 own : List Word → List Arm
 own [] = []

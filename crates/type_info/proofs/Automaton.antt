@@ -1,14 +1,15 @@
 -- The check's turns: a state and what is left to read say what the whole text says. Assumes nothing.
 use mathlib.Core.Path.{◌≡◌, refl, sym, ap, ◌∙◌}
 use mathlib.Core.Bool.{Bool, true, false}
-use mathlib.Core.Option.{Option, none, some}
+use Rattle.std.specs.Prelude.{Option, None, Some}
 use mathlib.Core.List.{List, [], ◌∷◌}
-use Prim.Native.Nat.{ℕ, ◌+◌, ◌<◌, ◌≤◌}
+use Prim.Native.Nat.{ℕ, suc, ◌+◌, ◌<◌, ◌≤◌}
 use native.Mathlib.Numerals.{add-one}
 use native.Mathlib.Omega.{arith}
 use lib.Dec.{eqb}
 use lib.ListN.{length, get_or, drop, drop_of_length-le}
 use lib.Seq.{drop-cons}
+use Rattle.std.specs.Str.{IsAscii}
 use Rattle.type_info.specs.Utf8.{Range, ◌‥◌, utf8_char, begun, after_byte, is_empty, reads, is_utf8, Checked}
 use Rattle.type_info.specs.ByteClass.{ClassOf, expectations, expectation, or_none, expected, StateAfter}
 use Rattle.type_info.proofs.Grammar.{in_range_lem, sound, complete, reads_on, reads_stops}
@@ -16,15 +17,15 @@ use Rattle.type_info.proofs.Tables.{passes, passes_at}
 
 -- every state but 8 expects something
 goes_on : Option (List Range) → Bool
-goes_on none = false
-goes_on (some rs) = true
+goes_on None = false
+goes_on (Some rs) = true
 
-is_some : (o : Option (List Range)) → goes_on o ≡ true → o ≡ some (or_none o)
+is_some : (o : Option (List Range)) → goes_on o ≡ true → o ≡ Some (or_none o)
 unfolding goes_on
-is_some none e = let z : ◌≡◌ {A = ℕ} 0 1 = cc in absurd (omega arith)
-is_some (some rs) e = refl
+is_some None e = let z : ◌≡◌ {A = ℕ} 0 1 = cc in absurd (omega arith)
+is_some (Some rs) e = refl
 
-expects : (q : ℕ) → q < 8 → expectation q ≡ some (expected q)
+expects : (q : ℕ) → q < 8 → expectation q ≡ Some (expected q)
 unfolding expectation expectations expected goes_on passes
 expects q h = is_some (expectation q) (passes_at (λ k. goes_on (expectation k)) 0 8 refl q (omega arith) (omega arith))
 
@@ -62,10 +63,15 @@ module _ (s : List ℕ) (i q c r : ℕ) (inside : i < length s) (class : ClassOf
   byte_refused e = sym (byte_read (expected q) s i inside ∙ reads_stops (expected q) (get_or s i 0) (drop (i + 1) s) (sym (after.is (get_or s i 0) class.has) ∙ ap expectation e))
 
 -- a byte below 128 is a character: behind it nothing more is expected
-pub ascii_taken : (s : List ℕ) (i : ℕ) → i < length s → get_or s i 0 ≤ 127 → is_utf8 (drop (i + 1) s) ≡ is_utf8 (drop i s)
+ascii_char : (b : ℕ) (s : List ℕ) → b ≤ 127 → is_utf8 (b ∷ s) ≡ is_utf8 s
 unfolding is_utf8 after_byte begun utf8_char
-ascii_taken s i inside low =
-    sym (byte_read [] s i inside ∙ reads_on [] (get_or s i 0) (drop (i + 1) s) [] (rw (in_range_lem (0x00 ‥ 0x7F) (get_or s i 0) (omega arith) low)))
+ascii_char b s low = reads_on [] b s [] (rw (in_range_lem (0x00 ‥ 0x7F) b (omega arith) low))
+
+-- so a text of such bytes is UTF-8
+pub ascii_utf8 : (s : List ℕ) → IsAscii s → is_utf8 s ≡ true
+unfolding is_utf8 reads
+ascii_utf8 [] ascii = refl
+ascii_utf8 (b ∷ s) ascii = ascii_char b s (omega (arith, ascii 0)) ∙ ascii_utf8 s (λ i. ascii (suc i))
 
 pub checked : (s : List ℕ) (r : Bool) → r ≡ is_utf8 s → Checked s r
 checked s r e = record { is = e; sound = λ h. sound s (sym e ∙ h); complete = λ u. e ∙ complete u }

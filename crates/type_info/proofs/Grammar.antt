@@ -1,7 +1,8 @@
 -- The test of specs/Utf8.antt says what its grammar says, both ways. Assumes nothing.
 use mathlib.Core.Path.{◌≡◌, refl, sym, ap, subst, ◌∙◌}
 use mathlib.Core.Bool.{Bool, true, false, and-eq-true_iff}
-use mathlib.Core.Option.{Option, none, some, none-ne-some, some-injective}
+use Rattle.std.specs.Prelude.{Option, None, Some}
+use Rattle.std.proofs.lemmas.Option.{none-some, same_Some}
 use mathlib.Core.List.{List, [], ◌∷◌, ◌++◌}
 use Prim.Native.Nat.{ℕ, suc, ◌≤◌, ◌<◌}
 use native.Mathlib.Omega.{arith}
@@ -43,7 +44,7 @@ rising =
 -- what a byte leaves of the alternative that it begins
 record Begun (alts : List (List Range)) (b : ℕ) (s : List ℕ) : Type 0 where
   rest : List Range
-  is : begun alts b ≡ some rest
+  is : begun alts b ≡ Some rest
   fits : Sequence rest s
 
 begins : {k : ℕ} {alts : List (List Range)} {b : ℕ} {s : List ℕ} → Rising k alts → OneOf alts (b ∷ s) → (k ≤ b) × Begun alts b s
@@ -61,20 +62,20 @@ not-empty (next {k = k} {r = r} {rs = rs} {more = more} low order up) (this q) =
 not-empty (next low order up) (later o) = not-empty up o
 
 -- one byte of the test
-pub reads_on : (rs : List Range) (b : ℕ) (s : List ℕ) (more : List Range) → after_byte rs b ≡ some more → reads rs (b ∷ s) ≡ reads more s
+pub reads_on : (rs : List Range) (b : ℕ) (s : List ℕ) (more : List Range) → after_byte rs b ≡ Some more → reads rs (b ∷ s) ≡ reads more s
 unfolding reads
-reads_on rs b s more e = ap (λ o. elim o as (λ _. Bool) [ none ↦ false | some more₂ ↦ reads more₂ s ]) e
+reads_on rs b s more e = ap (λ o. elim o as (λ _. Bool) [ None ↦ false | Some more₂ ↦ reads more₂ s ]) e
 
-pub reads_stops : (rs : List Range) (b : ℕ) (s : List ℕ) → after_byte rs b ≡ none → reads rs (b ∷ s) ≡ false
+pub reads_stops : (rs : List Range) (b : ℕ) (s : List ℕ) → after_byte rs b ≡ None → reads rs (b ∷ s) ≡ false
 unfolding reads
-reads_stops rs b s e = ap (λ o. elim o as (λ _. Bool) [ none ↦ false | some more ↦ reads more s ]) e
+reads_stops rs b s e = ap (λ o. elim o as (λ _. Bool) [ None ↦ false | Some more ↦ reads more s ]) e
 
 -- the grammar is accepted
 sequence_read : {rs : List Range} {c : List ℕ} (t : List ℕ) → Sequence rs c → reads [] t ≡ true → reads rs (c ++ t) ≡ true
 unfolding reads after_byte
 sequence_read t empty h = h
 sequence_read t (byte {r} {rs} {b} {s} lo hi q) h =
-    reads_on (r ∷ rs) b (s ++ t) rs (ap (λ x. some_if x rs none) (in_range_lem r b lo hi)) ∙ sequence_read t q h
+    reads_on (r ∷ rs) b (s ++ t) rs (ap (λ x. some_if x rs None) (in_range_lem r b lo hi)) ∙ sequence_read t q h
 
 char_read : (c t : List ℕ) → OneOf utf8_char c → reads [] t ≡ true → reads [] (c ++ t) ≡ true
 unfolding reads after_byte
@@ -94,14 +95,14 @@ record Read (rs : List Range) (s : List ℕ) : Type 0 where
   octets : Utf8Octets rest
   joined : s ≡ start ++ rest
 
-began : (alts : List (List Range)) (b : ℕ) (s : List ℕ) (rs : List Range) → begun alts b ≡ some rs → Sequence rs s → OneOf alts (b ∷ s)
+began : (alts : List (List Range)) (b : ℕ) (s : List ℕ) (rs : List Range) → begun alts b ≡ Some rs → Sequence rs s → OneOf alts (b ∷ s)
 unfolding begun
-began [] b s rs e q = absurd (none-ne-some rs e)
+began [] b s rs e q = absurd (none-some rs e)
 began ([] ∷ more) b s rs e q = later (began more b s rs e q)
 began ((r ∷ ranges) ∷ more) b s rs e q = go (in_range r b) refl e (λ f. began more b s rs f q)
   where
-    go : (x : Bool) → in_range r b ≡ x → some_if x ranges (begun more b) ≡ some rs → (begun more b ≡ some rs → OneOf more (b ∷ s)) → OneOf ((r ∷ ranges) ∷ more) (b ∷ s)
-    go true ex f back = let i = range_in r b ex in this (byte i.0 i.1 (subst (λ l. Sequence l s) (sym (some-injective ranges rs f)) q))
+    go : (x : Bool) → in_range r b ≡ x → some_if x ranges (begun more b) ≡ Some rs → (begun more b ≡ Some rs → OneOf more (b ∷ s)) → OneOf ((r ∷ ranges) ∷ more) (b ∷ s)
+    go true ex f back = let i = range_in r b ex in this (byte i.0 i.1 (subst (λ l. Sequence l s) (sym (same_Some ranges rs f)) q))
     go false ex f back = later (back f)
 
 read : (rs : List Range) (s : List ℕ) → reads rs s ≡ true → Read rs s
@@ -110,9 +111,9 @@ read [] [] e = record { start = []; rest = []; fits = empty; octets = empty; joi
 read (r ∷ rs) [] e = let z : ◌≡◌ {A = ℕ} 0 1 = cc in absurd (omega arith)
 read [] (b ∷ s) e = go (begun utf8_char b) refl e (λ rs. read rs s)
   where
-    go : (o : Option (List Range)) → begun utf8_char b ≡ o → elim o as (λ _. Bool) [ none ↦ false | some more ↦ reads more s ] ≡ true → ((rs : List Range) → reads rs s ≡ true → Read rs s) → Read [] (b ∷ s)
-    go none eb h back = let z : ◌≡◌ {A = ℕ} 0 1 = cc in absurd (omega arith)
-    go (some rs) eb h back =
+    go : (o : Option (List Range)) → begun utf8_char b ≡ o → elim o as (λ _. Bool) [ None ↦ false | Some more ↦ reads more s ] ≡ true → ((rs : List Range) → reads rs s ≡ true → Read rs s) → Read [] (b ∷ s)
+    go None eb h back = let z : ◌≡◌ {A = ℕ} 0 1 = cc in absurd (omega arith)
+    go (Some rs) eb h back =
         let x = back rs h in
         record {
           start = [];
@@ -123,7 +124,7 @@ read [] (b ∷ s) e = go (begun utf8_char b) refl e (λ rs. read rs s)
         }
 read (r ∷ rs) (b ∷ s) e = go (in_range r b) refl e (read rs s)
   where
-    go : (x : Bool) → in_range r b ≡ x → elim (some_if x rs none) as (λ _. Bool) [ none ↦ false | some more ↦ reads more s ] ≡ true → (reads rs s ≡ true → Read rs s) → Read (r ∷ rs) (b ∷ s)
+    go : (x : Bool) → in_range r b ≡ x → elim (some_if x rs None) as (λ _. Bool) [ None ↦ false | Some more ↦ reads more s ] ≡ true → (reads rs s ≡ true → Read rs s) → Read (r ∷ rs) (b ∷ s)
     go true ex h back =
         let x = back h in
         let i = range_in r b ex in

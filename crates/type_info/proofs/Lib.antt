@@ -1,5 +1,5 @@
 pub mod Words
-pub mod Tests
+pub mod Codes
 pub mod Agreement
 pub mod Stars
 pub mod Grammar

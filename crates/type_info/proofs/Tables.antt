@@ -2,7 +2,7 @@
 use mathlib.Core.Path.{◌≡◌, refl, ap, ap₂, subst}
 use mathlib.Core.Bool.{Bool, true, false, ◌&&◌, ◌||◌, and-eq-true_iff}
 use mathlib.Core.List.{List, [], ◌∷◌}
-use mathlib.Core.Option.{Option, none, some}
+use Rattle.std.specs.Prelude.{Option, None, Some}
 use lib.ListN.{get_or}
 use Prim.Native.Nat.{ℕ, zero, suc, ◌+◌, ◌-◌, ◌*◌, ◌/◌, ◌%◌, ◌<◌, ◌≤◌}
 use native.Mathlib.Omega.{arith}
@@ -10,6 +10,7 @@ use borrow.Author.Tests.{eqb-true, eqb-false, ltb-true, leb-true}
 use lib.Dec.{eqb, leb, ltb}
 use Rattle.type_info.specs.Utf8.{Range, ◌‥◌, utf8_char, in_range, begun, after_byte}
 use Rattle.type_info.specs.ByteClass.{classes, in_any, in_class, ClassOf, expectations, expectation, expected, StateAfter}
+use Rattle.type_info.specs.declared.utf8.TheConstants.{CLASSES, STATES}
 use Rattle.type_info.proofs.Grammar.{range_in}
 
 -- the test passes at each of n numbers from a on
@@ -54,10 +55,10 @@ same_ranges (q ∷ qs) [] = false
 same_ranges (q ∷ qs) (r ∷ rs) = eqb q.first r.first && (eqb q.last r.last && same_ranges qs rs)
 
 same_expected : Option (List Range) → Option (List Range) → Bool
-same_expected none none = true
-same_expected none (some rs) = false
-same_expected (some qs) none = false
-same_expected (some qs) (some rs) = same_ranges qs rs
+same_expected None None = true
+same_expected None (Some rs) = false
+same_expected (Some qs) None = false
+same_expected (Some qs) (Some rs) = same_ranges qs rs
 
 ranges_same : (qs rs : List Range) → same_ranges qs rs ≡ true → qs ≡ rs
 unfolding same_ranges
@@ -71,10 +72,10 @@ ranges_same (q ∷ qs) (r ∷ rs) e =
 
 expected-same : (x y : Option (List Range)) → same_expected x y ≡ true → x ≡ y
 unfolding same_expected
-expected-same none none e = refl
-expected-same none (some rs) e = let z : ◌≡◌ {A = ℕ} 0 1 = cc in absurd (omega arith)
-expected-same (some qs) none e = let z : ◌≡◌ {A = ℕ} 0 1 = cc in absurd (omega arith)
-expected-same (some qs) (some rs) e = ap some (ranges_same qs rs e)
+expected-same None None e = refl
+expected-same None (Some rs) e = let z : ◌≡◌ {A = ℕ} 0 1 = cc in absurd (omega arith)
+expected-same (Some qs) None e = let z : ◌≡◌ {A = ℕ} 0 1 = cc in absurd (omega arith)
+expected-same (Some qs) (Some rs) e = ap Some (ranges_same qs rs e)
 
 -- each entry of a table of classes is the class of its byte
 pub record ClassTable (table : List ℕ) : Type 0 where
@@ -127,40 +128,11 @@ state_right_lem table e = record { at = λ q c hq hc. entry q c hq hc }
               (ranges_at (right r q) (get_or classes c []) (moved q c ((q * 12 + c) / 12) ((q * 12 + c) % 12) r (omega arith) (omega arith) k.1) b h);
         }
 
--- the tables by their rules: the number of the first class that has the byte, and of the state that expects what a byte of the class leaves
-unfoldable pub tabulate : (ℕ → ℕ) → ℕ → ℕ → List ℕ
-tabulate f a zero = []
-tabulate f a (suc n) = f a ∷ tabulate f (suc a) n
+-- the tables of the code
+pub classes_right : ClassTable CLASSES
+unfolding passes class_right
+classes_right = class_right_lem CLASSES refl
 
-abbrev place_if : Bool → ℕ → ℕ → ℕ
-place_if true k rest = k
-place_if false k rest = rest
-
-class_from : List (List Range) → ℕ → ℕ → ℕ
-class_from [] k b = k
-class_from (rs ∷ more) k b = place_if (in_any rs b) k (class_from more (suc k) b)
-
-state_from : List (Option (List Range)) → ℕ → Option (List Range) → ℕ
-state_from [] k e = k
-state_from (x ∷ more) k e = place_if (same_expected x e) k (state_from more (suc k) e)
-
--- the first byte of a class
-first_of : List Range → ℕ
-first_of [] = 0
-first_of (r ∷ rs) = r.first
-
-unfoldable pub class_table : List ℕ
-unfolding classes in_any in_range class_from tabulate
-class_table = tabulate (class_from classes 0) 0 256
-
-unfoldable pub state_table : List ℕ
-unfolding classes in_range expectation expectations expected after_byte begun utf8_char same_expected same_ranges first_of state_from tabulate
-state_table = tabulate (λ k. state_from expectations 0 (after_byte (expected (k / 12)) (first_of (get_or classes (k % 12) [])))) 0 96
-
-pub classes_right : ClassTable class_table
-unfolding class_table passes class_right
-classes_right = class_right_lem class_table refl
-
-pub states_right : StateTable state_table
-unfolding state_table passes state_right
-states_right = state_right_lem state_table refl
+pub states_right : StateTable STATES
+unfolding passes state_right
+states_right = state_right_lem STATES refl

@@ -1,77 +1,139 @@
--- Words in a text, byte by byte: what the loops over a text and a word go by. Assumes nothing.
-use mathlib.Core.Path.{◌≡◌, refl, sym, ap, ◌∙◌}
-use mathlib.Core.Bool.{Bool, true, false, ◌&&◌, ◌||◌}
-use mathlib.Core.List.{List, [], ◌∷◌}
-use Prim.Native.Nat.{ℕ, suc, ◌+◌, ◌<◌, ◌≤◌}
-use native.Mathlib.Nat.{add-suc}
-use native.Mathlib.Numerals.{add-one}
-use native.Mathlib.Omega.{arith}
-use lib.Dec.{eqb, eqb-suc-zero}
-use lib.ListN.{length, get_or, drop, drop_of_length-le, length-map}
-use lib.Seq.{drop-cons}
-use borrow.Author.Tests.{le-leb, lt-leb, eq-eqb, ne_eqb}
-use Rattle.type_info.specs.All.{all_of}
-use Rattle.type_info.specs.Ascii.{within, lower_byte, lowercase, equals, starts_with, contains}
-use Rattle.type_info.specs.DeclaredType.{all_printable}
+-- Words in a text, in any letter case: what std's tests say, in the words of specs/Ascii.antt. Assumes nothing.
+use Rattle.std.proofs.Common.{◌≡◌, refl, sym, ap, ap₂, subst, ◌∙◌, Bool, true, false, ◌&&◌, List, [], ◌∷◌, map, ℕ, suc, ◌+◌, ◌<◌, ◌≤◌, length, take, drop, arith, Bor, Some, None, get_or, zero, ◌↔◌, IsTrue}
+use Rattle.std.specs.Prelude.{Option}
+use Rattle.std.specs.Char.{to_ascii_lowercase}
+use Rattle.std.specs.Option.{IfSome, option_map}
+use Rattle.std.specs.Iterator.Runs.{Run, IsWindowsRun}
+use Rattle.std.proofs.lemmas.List.{take-map, drop-map}
+use lib.ListN.{length-map, length-take, length-drop}
+use mathlib.Core.Bool.{false≢true, and-eq-true_iff, or-true}
+use Rattle.std.proofs.lemmas.Option.{none-some}
+use Rattle.std.specs.List.{IsSubsliceAt}
+use lib.Dec.{eqb}
+use borrow.Author.Tests.{eq-eqb, eqb-true}
+use Rattle.std.proofs.lemmas.Grind.{common_steps}
+use Rattle.type_info.specs.Ascii.{lower_byte, lowercase, equals, starts_with, contains}
+use Rattle.type_info.specs.Affinity.{contains_any_case}
 
--- the three cases of lower case
-pub lower_below : (b : ℕ) → b < 65 → b ≡ lower_byte b
+-- std's lower case is that of specs/Ascii.antt
+lower_same : (b : ℕ) → to_ascii_lowercase b ≡ lower_byte b
 unfolding lower_byte
-lower_below b h = rw (lt-leb 65 b h)
+lower_same b = grind (arith, common_steps)
 
-pub lower_above : (b : ℕ) → 65 ≤ b → 90 < b → b ≡ lower_byte b
-unfolding lower_byte
-lower_above b h k = rw (le-leb 65 b h, lt-leb b 90 k)
+lowercase_same : (s : List ℕ) → map to_ascii_lowercase s ≡ lowercase s
+unfolding lowercase
+lowercase_same [] = refl
+lowercase_same (b ∷ s) = ap₂ (λ x xs. x ∷ xs) (lower_same b) (lowercase_same s)
 
-pub lower_letter : (b : ℕ) → 65 ≤ b → b ≤ 90 → b + 32 ≡ lower_byte b
-unfolding lower_byte
-lower_letter b h k = rw (le-leb 65 b h, le-leb b 90 k)
+-- the word stands at k
+abbrev pub Stands : List ℕ → List ℕ → ℕ → Type 0
+Stands s word k = map to_ascii_lowercase (take (length word) (drop k s)) ≡ map to_ascii_lowercase word
 
--- the word from its place j on, against the text from `at` + j on
-module _ (s word : List ℕ) (at j : ℕ) (more : j < length word) where
-  -- the text ends first
-  pub word_short : length s ≤ at + j → false ≡ starts_with (lowercase (drop (at + j) s)) (drop j word)
-  unfolding starts_with lowercase
-  word_short h = rw (drop_of_length-le s h, drop-cons word j 0 more)
+-- a run over the windows of the word's length that misses it at each
+module _ {S : Type 0} {steps : S → Option (Bor (List ℕ)) → S → Type 0} (p : Run steps) (s word : List ℕ) where
+  pub windows_miss :
+      IsWindowsRun p (length word) s →
+      p.whole ≡ true →
+      ((k : ℕ) → IfSome (p.at k) (λ x. ¬ (map to_ascii_lowercase x.now ≡ map to_ascii_lowercase word))) →
+      (k : ℕ) →
+      k + length word ≤ length s →
+      ¬ (Stands s word k)
+  windows_miss w e miss k inside = go (p.at k) refl
+    where
+      go : (o : Option (Bor (List ℕ))) → p.at k ≡ o → ¬ (Stands s word k)
+      go None f stands =
+          let at : option_map (λ x. get_or x.now 0 0) (p.at k) ≡ Some (get_or s k 0) = w.3 k 0 (omega (arith, w.1 e)) in
+          absurd (none-some _ (ap (option_map (λ x. get_or x.now 0 0)) (sym f) ∙ at))
+      go (Some x) f stands =
+          let cut : IfSome (Some x) (λ y. (length y.now ≡ length word) × (k + length word ≤ length s) × IsSubsliceAt (length word) s k y.now) =
+          subst (λ o. IfSome o (λ y. (length y.now ≡ length word) × (k + length word ≤ length s) × IsSubsliceAt (length word) s k y.now)) f (w.2 k)
+          in
+          let off : IfSome (Some x) (λ y. ¬ (map to_ascii_lowercase y.now ≡ map to_ascii_lowercase word)) =
+          subst (λ o. IfSome o (λ y. ¬ (map to_ascii_lowercase y.now ≡ map to_ascii_lowercase word))) f (miss k)
+          in
+          off (ap (map to_ascii_lowercase) cut.2.0 ∙ stands)
 
-  module _ (inside : at + j < length s) where
-    -- a byte of each, and the rest
-    word_byte :
-        starts_with (lowercase (drop (at + j) s)) (drop j word) ≡
-        (eqb (lower_byte (get_or s (at + j) 0)) (get_or word j 0) && starts_with (lowercase (drop (at + (j + 1)) s)) (drop (j + 1) word))
-    unfolding starts_with lowercase
-    word_byte = rw (drop-cons s (at + j) 0 inside, drop-cons word j 0 more, add-one j, add-suc at j)
-
-    pub word_differs : (lower_byte (get_or s (at + j) 0) ≡ get_or word j 0 → ⊥) → false ≡ starts_with (lowercase (drop (at + j) s)) (drop j word)
-    word_differs h = sym (word_byte ∙ ap (λ b. b && starts_with (lowercase (drop (at + (j + 1)) s)) (drop (j + 1) word)) (ne_eqb _ _ h))
-
-    pub word_agrees :
-        lower_byte (get_or s (at + j) 0) ≡ get_or word j 0 →
-        starts_with (lowercase (drop (at + (j + 1)) s)) (drop (j + 1) word) ≡ starts_with (lowercase (drop (at + j) s)) (drop j word)
-    word_agrees h = sym (word_byte ∙ ap (λ b. b && starts_with (lowercase (drop (at + (j + 1)) s)) (drop (j + 1) word)) (eq-eqb _ _ h))
-
--- the word is read to its end
-pub word_read : (t word : List ℕ) (j : ℕ) → length word ≤ j → true ≡ starts_with t (drop j word)
+-- `starts_with` by the text's front
+front_starts : (t w : List ℕ) → take (length w) t ≡ w → starts_with t w ≡ true
 unfolding starts_with
-word_read t word j h = rw (drop_of_length-le word h)
+front_starts t [] e = refl
+front_starts [] (b ∷ w) e = absurd (omega (arith, ap length e))
+front_starts (a ∷ t) (b ∷ w) e = rw (eq-eqb a b cc) (front_starts t w cc)
 
--- the text from its place i on contains the word where the word stands there, or where the rest contains it
-module _ (s word : List ℕ) (i : ℕ) (inside : i < length s) where
-  contains_byte : contains (lowercase (drop i s)) word ≡ (starts_with (lowercase (drop i s)) word || contains (lowercase (drop (i + 1) s)) word)
-  unfolding contains lowercase
-  contains_byte = rw (add-one i, drop-cons s i 0 inside)
+starts_front : (t w : List ℕ) → starts_with t w ≡ true → take (length w) t ≡ w
+unfolding starts_with
+starts_front t [] e = refl
+starts_front [] (b ∷ w) e = absurd (false≢true e)
+starts_front (a ∷ t) (b ∷ w) e =
+    let h = (and-eq-true_iff (eqb a b) (starts_with t w)).0 e in
+    ap₂ (λ x xs. x ∷ xs) (eqb-true a b h.0) (starts_front t w h.1)
 
-  pub contains_here : starts_with (lowercase (drop i s)) word ≡ true → true ≡ contains (lowercase (drop i s)) word
-  contains_here h = sym (contains_byte ∙ ap (λ b. b || contains (lowercase (drop (i + 1) s)) word) h)
+-- `contains` by the places
+contains_at : (t w : List ℕ) (k : ℕ) → starts_with (drop k t) w ≡ true → contains t w ≡ true
+unfolding contains
+contains_at [] w zero h = h
+contains_at [] w (suc k) h = h
+contains_at (a ∷ t) w zero h = rw h refl
+contains_at (a ∷ t) w (suc k) h = rw (contains_at t w k h) (or-true (starts_with (a ∷ t) w))
 
-  pub contains_later : starts_with (lowercase (drop i s)) word ≡ false → contains (lowercase (drop (i + 1) s)) word ≡ contains (lowercase (drop i s)) word
-  contains_later h = sym (contains_byte ∙ ap (λ b. b || contains (lowercase (drop (i + 1) s)) word) h)
+contains_nowhere : (t w : List ℕ) → ((k : ℕ) → starts_with (drop k t) w ≡ false) → contains t w ≡ false
+unfolding contains
+contains_nowhere [] w h = h 0
+contains_nowhere (a ∷ t) w h = rw (h 0) (contains_nowhere t w (λ k. h (suc k)))
 
--- nothing is left: only the empty word stands there
-pub contains_end : (s word : List ℕ) (i : ℕ) → length s ≤ i → eqb (length word) 0 ≡ contains (lowercase (drop i s)) word
-unfolding contains lowercase starts_with
-contains_end s [] i h = rw (drop_of_length-le s h)
-contains_end s (w ∷ ws) i h = rw (drop_of_length-le s h) (eqb-suc-zero (length ws))
+-- a place where the word stands is one where it starts what is left
+module _ (s word : List ℕ) (k : ℕ) where
+  front : take (length (lowercase word)) (drop k (lowercase s)) ≡ map to_ascii_lowercase (take (length word) (drop k s))
+  front =
+      ap₂ take (ap length (sym (lowercase_same word)) ∙ length-map word to_ascii_lowercase) (ap (drop k) (sym (lowercase_same s)) ∙ drop-map to_ascii_lowercase k s)
+      ∙ take-map to_ascii_lowercase (length word) (drop k s)
+
+  stands_starts : Stands s word k → starts_with (drop k (lowercase s)) (lowercase word) ≡ true
+  stands_starts h = front_starts (drop k (lowercase s)) (lowercase word) (front ∙ h ∙ lowercase_same word)
+
+  starts_stands : starts_with (drop k (lowercase s)) (lowercase word) ≡ true → Stands s word k
+  starts_stands h = sym front ∙ starts_front (drop k (lowercase s)) (lowercase word) h ∙ sym (lowercase_same word)
+
+pub found_word :
+    (r : Bool) (s word : List ℕ) →
+    0 < length word →
+    (r ≡ true → (k : ℕ) × (k + length word ≤ length s) × Stands s word k) →
+    (r ≡ false → (k : ℕ) → k + length word ≤ length s → ¬ (Stands s word k)) →
+    r ≡ contains_any_case s word
+unfolding contains_any_case
+found_word true s word some hit miss = let h = hit refl in sym (contains_at (lowercase s) (lowercase word) h.0 (stands_starts s word h.0 h.2))
+found_word false s word some hit miss = sym (contains_nowhere (lowercase s) (lowercase word) (λ k. go k (starts_with (drop k (lowercase s)) (lowercase word)) refl))
+  where
+    go : (k : ℕ) (x : Bool) → starts_with (drop k (lowercase s)) (lowercase word) ≡ x → x ≡ false
+    go k false e = refl
+    go k true e =
+        let h = starts_stands s word k e in
+        absurd (miss refl k (omega (arith, ap length h, length-map word to_ascii_lowercase, length-map (take (length word) (drop k s)) to_ascii_lowercase, length-take (length word) (drop k s), length-drop k s)) h)
+
+-- std's equality in any letter case
+equals_same : (t : List ℕ) → equals t t ≡ true
+unfolding equals
+equals_same [] = refl
+equals_same (b ∷ t) = rw (eq-eqb b b refl) (equals_same t)
+
+same_equals : (t w : List ℕ) → equals t w ≡ true → t ≡ w
+unfolding equals
+same_equals [] [] e = refl
+same_equals [] (b ∷ w) e = absurd (false≢true e)
+same_equals (a ∷ t) [] e = absurd (false≢true e)
+same_equals (a ∷ t) (b ∷ w) e =
+    let h = (and-eq-true_iff (eqb a b) (equals t w)).0 e in
+    ap₂ (λ x xs. x ∷ xs) (eqb-true a b h.0) (same_equals t w h.1)
+
+pub same_word : (r : Bool) (s word : List ℕ) → (IsTrue r ↔ (map to_ascii_lowercase s ≡ map to_ascii_lowercase word)) → r ≡ equals (lowercase s) (lowercase word)
+same_word true s word h =
+    let same : lowercase word ≡ lowercase s = sym (lowercase_same word) ∙ sym (h.0 refl) ∙ lowercase_same s in
+    sym (subst (λ t. equals t (lowercase word) ≡ true) same (equals_same (lowercase word)))
+same_word false s word h = go (equals (lowercase s) (lowercase word)) refl
+  where
+    go : (x : Bool) → equals (lowercase s) (lowercase word) ≡ x → false ≡ x
+    go false e = refl
+    go true e = h.1 (lowercase_same s ∙ same_equals (lowercase s) (lowercase word) e ∙ sym (lowercase_same word))
 
 -- a text equals a word of its length where the word starts it
 pub equals_starts : (t word : List ℕ) → length t ≡ length word → starts_with t word ≡ equals t word
@@ -92,26 +154,3 @@ equals_other (a ∷ t) (w ∷ ws) h = both (eqb a w) (equals_other t ws (λ e. h
     both : (b : Bool) → false ≡ equals t ws → false ≡ (b && equals t ws)
     both true e = e
     both false e = refl
-
-pub length-lowercase : (s : List ℕ) → length (lowercase s) ≡ length s
-unfolding lowercase
-length-lowercase s = length-map s lower_byte
-
--- every byte printable: the first, and the rest
-module _ (s : List ℕ) (i : ℕ) (inside : i < length s) where
-  printable_byte : all_printable (drop i s) ≡ (within 32 126 (get_or s i 0) && all_printable (drop (i + 1) s))
-  unfolding all_printable all_of
-  printable_byte = rw (add-one i, drop-cons s i 0 inside)
-
-  pub printable_low : get_or s i 0 < 32 → false ≡ all_printable (drop i s)
-  printable_low h = sym (printable_byte ∙ rw (lt-leb 32 (get_or s i 0) h))
-
-  pub printable_high : 32 ≤ get_or s i 0 → 126 < get_or s i 0 → false ≡ all_printable (drop i s)
-  printable_high h k = sym (printable_byte ∙ rw (le-leb 32 (get_or s i 0) h, lt-leb (get_or s i 0) 126 k))
-
-  pub printable_on : 32 ≤ get_or s i 0 → get_or s i 0 ≤ 126 → all_printable (drop (i + 1) s) ≡ all_printable (drop i s)
-  printable_on h k = sym (printable_byte ∙ rw (le-leb 32 (get_or s i 0) h, le-leb (get_or s i 0) 126 k))
-
-pub printable_end : (s : List ℕ) (i : ℕ) → length s ≤ i → true ≡ all_printable (drop i s)
-unfolding all_printable all_of
-printable_end s i h = rw (drop_of_length-le s h)

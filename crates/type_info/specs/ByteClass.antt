@@ -1,7 +1,6 @@
 -- The classes of bytes behind the UTF-8 check: bytes of one class lie in the same ranges of RFC 3629's grammar.
 -- 01, "Leaves": a table of 256 byte classes stands behind the check. What the check says is in specs/Utf8.antt alone. Assumes nothing.
-use Rattle.std.specs.Prelude.{◌≡◌, Bool, true, false, ◌||◌, List, [], ◌∷◌, ℕ, ◌≤◌, ◌<◌, get_or}
-use Rattle.std.proofs.Math.Option.{Option, none, some}
+use Rattle.std.specs.Prelude.{◌≡◌, Bool, true, false, ◌||◌, List, [], ◌∷◌, ℕ, ◌≤◌, ◌<◌, get_or, Option, None, Some}
 use Rattle.type_info.specs.Utf8.{Range, ◌‥◌, tail, in_range, after_byte}
 
 -- the bytes of each class, by its number
@@ -36,22 +35,22 @@ pub record ClassOf (b c : ℕ) : Type 0 where
 -- the states of the check: what is expected next, by the state's number; 8 is the refusing one
 unfoldable pub expectations : List (Option (List Range))
 expectations =
-    some []
-    ∷ some (tail ∷ [])
-    ∷ some (tail ∷ tail ∷ [])
-    ∷ some (tail ∷ tail ∷ tail ∷ [])
-    ∷ some (0xA0 ‥ 0xBF ∷ tail ∷ [])
-    ∷ some (0x80 ‥ 0x9F ∷ tail ∷ [])
-    ∷ some (0x90 ‥ 0xBF ∷ tail ∷ tail ∷ [])
-    ∷ some (0x80 ‥ 0x8F ∷ tail ∷ tail ∷ [])
+    Some []
+    ∷ Some (tail ∷ [])
+    ∷ Some (tail ∷ tail ∷ [])
+    ∷ Some (tail ∷ tail ∷ tail ∷ [])
+    ∷ Some (0xA0 ‥ 0xBF ∷ tail ∷ [])
+    ∷ Some (0x80 ‥ 0x9F ∷ tail ∷ [])
+    ∷ Some (0x90 ‥ 0xBF ∷ tail ∷ tail ∷ [])
+    ∷ Some (0x80 ‥ 0x8F ∷ tail ∷ tail ∷ [])
     ∷ []
 
 unfoldable pub expectation : ℕ → Option (List Range)
-expectation q = get_or expectations q none
+expectation q = get_or expectations q None
 
 abbrev pub or_none : Option (List Range) → List Range
-or_none none = []
-or_none (some rs) = rs
+or_none None = []
+or_none (Some rs) = rs
 
 unfoldable pub expected : ℕ → List Range
 expected q = or_none (expectation q)

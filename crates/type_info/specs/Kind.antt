@@ -1,7 +1,6 @@
 -- The kind of a declared type: the Rust's `DataType::from_str` (type_info.rs), word by word in the order of its arms.
 -- 01, "Leaves": the kind of a declared type is `DataType::from_str`, failure giving Null. Assumes nothing.
-use Rattle.std.specs.Prelude.{Bool, true, false, List, [], ◌∷◌, ℕ}
-use Rattle.std.proofs.Math.Option.{Option, none, some}
+use Rattle.std.specs.Prelude.{Bool, true, false, List, [], ◌∷◌, ℕ, Option, None, Some}
 use Prim.Native.String.{String}
 use Rattle.type_info.specs.Ascii.{ascii, lowercase, equals, contains}
 use Rattle.type_info.specs.declared.DataType.{DataType}
@@ -41,20 +40,20 @@ arms =
     ∷ []
 
 abbrev pub first_if : Bool → DataType → Option DataType → Option DataType
-first_if true k rest = some k
+first_if true k rest = Some k
 first_if false k rest = rest
 
 -- the first that takes the text decides
 unfoldable pub first_arm : List Arm → List ℕ → Option DataType
-first_arm [] s = none
+first_arm [] s = None
 first_arm (a ∷ more) s = first_if (takes a s) (gives a) (first_arm more s)
 
 unfoldable pub from_str : List ℕ → Option DataType
 from_str s = first_arm arms (lowercase s)
 
 abbrev pub or_null : Option DataType → DataType
-or_null none = Null
-or_null (some k) = k
+or_null None = Null
+or_null (Some k) = k
 
 unfoldable pub kind_of : List ℕ → DataType
 kind_of s = or_null (from_str s)

@@ -3,6 +3,7 @@ pub mod Ascii
 pub mod Kind
 pub mod Affinity
 pub mod Names
+pub mod Codes
 pub mod DeclaredType
 pub mod Agreement
 pub mod Stars

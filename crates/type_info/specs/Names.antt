@@ -1,12 +1,11 @@
 -- The names of kinds and affinities as bytes: a variant's name, as 01's "Sample runs" has the answer print it, and the datatype page's words.
 -- Assumes nothing.
-use Rattle.std.specs.Prelude.{List, ◌++◌, ℕ, length, take, replicate}
+use Rattle.std.specs.Prelude.{List, ℕ}
 use Rattle.type_info.specs.Ascii.{ascii}
 use Rattle.type_info.specs.declared.Affinity.{Affinity}
 use Rattle.type_info.specs.declared.Affinity.TheVariants as affinity
 use Rattle.type_info.specs.declared.DataType.{DataType}
 use Rattle.type_info.specs.declared.DataType.TheVariants as kind
-use Rattle.type_info.specs.declared.Name.{Name}
 
 unfoldable pub name_of : DataType → List ℕ
 name_of kind.Null = ascii "Null"
@@ -27,7 +26,3 @@ affinity_name affinity.Numeric = ascii "NUMERIC"
 affinity_name affinity.Integer = ascii "INTEGER"
 affinity_name affinity.Real = ascii "REAL"
 affinity_name affinity.Blob = ascii "BLOB"
-
--- a name in eight bytes, zeros behind it
-abbrev pub spelled : List ℕ → Name
-spelled name = record { 0 = take 8 (name ++ replicate 8 0); 1 = length name }

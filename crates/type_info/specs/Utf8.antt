@@ -1,7 +1,6 @@
 -- UTF-8 by RFC 3629, section 4: the grammar, and the same as a test.
 -- The ABNF's names are kept: UTF8-octets = *( UTF8-char ), UTF8-char = UTF8-1 / UTF8-2 / UTF8-3 / UTF8-4. Assumes nothing.
-use Rattle.std.specs.Prelude.{◌≡◌, Bool, true, false, List, [], ◌∷◌, ◌++◌, ℕ, ◌≤◌, length, drop}
-use Rattle.std.proofs.Math.Option.{Option, none, some}
+use Rattle.std.specs.Prelude.{◌≡◌, Bool, true, false, List, [], ◌∷◌, ◌++◌, ℕ, ◌≤◌, Option, None, Some}
 use Rattle.type_info.specs.Ascii.{within}
 
 -- the bytes from first to last, %xFIRST-LAST
@@ -63,18 +62,18 @@ unfoldable pub in_range : Range → ℕ → Bool
 in_range r b = within r.first r.last b
 
 abbrev pub some_if : Bool → List Range → Option (List Range) → Option (List Range)
-some_if true rs other = some rs
+some_if true rs other = Some rs
 some_if false rs other = other
 
 -- what a character that begins with this byte has still to come
 unfoldable pub begun : List (List Range) → ℕ → Option (List Range)
-begun [] b = none
+begun [] b = None
 begun ([] ∷ more) b = begun more b
 begun ((r ∷ rs) ∷ more) b = some_if (in_range r b) rs (begun more b)
 
 unfoldable pub after_byte : List Range → ℕ → Option (List Range)
 after_byte [] b = begun utf8_char b
-after_byte (r ∷ rs) b = some_if (in_range r b) rs none
+after_byte (r ∷ rs) b = some_if (in_range r b) rs None
 
 abbrev pub is_empty : List Range → Bool
 is_empty [] = true
@@ -82,15 +81,10 @@ is_empty (r ∷ rs) = false
 
 unfoldable pub reads : List Range → List ℕ → Bool
 reads expected [] = is_empty expected
-reads expected (b ∷ s) = elim (after_byte expected b) [ none ↦ false | some rest ↦ reads rest s ]
+reads expected (b ∷ s) = elim (after_byte expected b) [ None ↦ false | Some rest ↦ reads rest s ]
 
 unfoldable pub is_utf8 : List ℕ → Bool
 is_utf8 s = reads [] s
-
--- behind its first n bytes the text says what the whole says
-pub record Passed (s : List ℕ) (n : ℕ) : Type 0 where
-  pub inside : n ≤ length s
-  pub rest : is_utf8 (drop n s) ≡ is_utf8 s
 
 -- what the check says: the test's value, and the grammar both ways
 pub record Checked (s : List ℕ) (r : Bool) : Type 0 where

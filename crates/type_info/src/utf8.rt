@@ -1,9 +1,10 @@
 // UTF-8 by RFC 3629: the check that P4 is a text.
-ghost use Rattle.std.specs.Prelude.{◌≡◌, ◌≤◌, length, drop};
-ghost use Rattle.type_info.specs.Utf8.{is_utf8, Passed, Checked};
+ghost use Rattle.std.specs.Prelude.{◌≡◌, ◌<◌};
+ghost use Rattle.type_info.specs.ByteClass.{ClassOf, StateAfter};
+ghost use Rattle.type_info.specs.Utf8.{is_utf8, Checked};
 
 // The class of each byte; specs/ByteClass.antt says which bytes a class has.
-const CLASSES: [u8; 256] = [
+static CLASSES: [u8; 256] = [
     0, 0, 0, 0, 0, 0, 0, 0, 0, 0, 0, 0, 0, 0, 0, 0, 0, 0, 0, 0, 0, 0, 0, 0, 0, 0, 0, 0, 0, 0, 0, 0,
     0, 0, 0, 0, 0, 0, 0, 0, 0, 0, 0, 0, 0, 0, 0, 0, 0, 0, 0, 0, 0, 0, 0, 0, 0, 0, 0, 0, 0, 0, 0, 0,
     0, 0, 0, 0, 0, 0, 0, 0, 0, 0, 0, 0, 0, 0, 0, 0, 0, 0, 0, 0, 0, 0, 0, 0, 0, 0, 0, 0, 0, 0, 0, 0,
@@ -16,60 +17,50 @@ const CLASSES: [u8; 256] = [
 ];
 
 // The state behind each state and class, twelve classes to a state; 8 refuses.
-const STATES: [u8; 96] = [
+static STATES: [u8; 96] = [
     0, 8, 8, 8, 1, 4, 2, 5, 6, 3, 7, 8, 8, 0, 0, 0, 8, 8, 8, 8, 8, 8, 8, 8, 8, 1, 1, 1, 8, 8, 8, 8,
     8, 8, 8, 8, 8, 2, 2, 2, 8, 8, 8, 8, 8, 8, 8, 8, 8, 8, 8, 1, 8, 8, 8, 8, 8, 8, 8, 8, 8, 1, 1, 8,
     8, 8, 8, 8, 8, 8, 8, 8, 8, 8, 2, 2, 8, 8, 8, 8, 8, 8, 8, 8, 8, 2, 8, 8, 8, 8, 8, 8, 8, 8, 8, 8,
 ];
 
 // Whether s is UTF-8: the Rust's `from_utf8` as far as success goes. Nearly every text is ASCII, and needs no tables.
+// By a rule of the project a table of byte classes stands behind the check, and not std's `from_utf8`.
 pub fn is_utf8(s: &[u8]) -> bool
     ensures { Checked s.now result }
 {
-    let start = ascii_start(s);
-    if start == s.len() {
-        return true;
-    }
-    reads_from(s, start)
+    s.is_ascii() || reads(s)
 }
 
-// How many bytes at the start are ASCII. Each is a character, so the rest decides.
-fn ascii_start(s: &[u8]) -> usize
-    ensures { Passed s.now result }
+// Whether s is UTF-8, by the tables.
+fn reads(s: &[u8]) -> bool
+    ensures { result ≡ is_utf8 s.now }
 {
-    let mut i: usize = 0;
-    while i < s.len() {
-        if 127 < s[i] {
-            return i;
-        }
-        i += 1;
-    }
-    i
-}
-
-// Whether s is UTF-8 from `at` on. The tables are taken once, and not for each byte.
-fn reads_from(s: &[u8], at: usize) -> bool
-    requires { at ≤ length s.now }
-    ensures { result ≡ is_utf8 (drop at s.now) }
-{
-    let classes = CLASSES;
-    let states = STATES;
-    let mut state: usize = 0;
-    let mut i: usize = at;
-    while i < s.len() {
-        let class = wide(classes[wide(s[i])]);
-        state = wide(states[state * 12 + class]);
+    let mut state = 0;
+    for b in s {
+        state = state_after(state, class_of(*b));
         if state == 8 {
             return false;
         }
-        i += 1;
     }
     state == 0
+}
+
+fn class_of(b: u8) -> u8
+    ensures { ClassOf b result }
+{
+    CLASSES[usize::from(b)]
+}
+
+fn state_after(state: u8, class: u8) -> u8
+    requires { (state < 8) × (class < 12) }
+    ensures { StateAfter state class result }
+{
+    STATES[usize::from(state) * 12 + usize::from(class)]
 }
 
 // A byte as an index or a length.
 pub fn wide(b: u8) -> usize
     ensures { result ≡ b }
 {
-    b as usize
+    usize::from(b)
 }

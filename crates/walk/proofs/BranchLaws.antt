@@ -1,12 +1,12 @@
 -- A branch pushed, as the definition offers it. Assumes nothing.
 use mathlib.Core.Path.{◌≡◌, refl, sym, ap, subst, ◌∙◌}
 use mathlib.Core.Logic.{◌⊎◌, inl, inr}
-use mathlib.Core.Option.{some}
+use Rattle.std.specs.Prelude.{Some, Result, Ok, Err, slice_get}
 use mathlib.Core.List.{List, [], ◌∷◌}
 use Prim.Native.Nat.{ℕ, ◌+◌, ◌-◌, ◌/◌, ◌<◌}
 use native.Mathlib.Omega.{arith}
 use lib.Dec.{leb}
-use lib.ListN.{length, get_or, get_elem?}
+use lib.ListN.{length, get_or}
 use Rattle.model.specs.Walk.{Lineage, Verdict, dropped, kept, no_space, verdict, known, judge, full, offer}
 use Rattle.model.specs.Row.{Row as Listed}
 use Rattle.model.specs.State.{MemoryState as Defined}
@@ -17,6 +17,7 @@ use Rattle.model.specs.Explain.{units}
 use Rattle.model.specs.Offer.{row_at}
 use Rattle.model.proofs.Rows.{row_at-within}
 use lib.IntN.{pos}
+use Rattle.refusal.specs.declared.Refusal.{Refusal}
 use Rattle.area.specs.Cells.{blank, cells}
 use Rattle.area.specs.declared.Cell.{Cell}
 use Rattle.rows.specs.Rows.{row_in}
@@ -25,13 +26,15 @@ use Rattle.state.specs.declared.MemoryState.{MemoryState}
 use Rattle.branches.specs.Entries.{Kept, states, lineages, Remembers}
 use Rattle.branches.specs.Lists.{Below, units_for, Dropped, Added as Kept-now, Pushes}
 use Rattle.branches.specs.declared.BranchList.{BranchList}
-use Rattle.branches.specs.declared.Pushed.{Pushed}
-use Rattle.branches.specs.declared.Pushed.TheVariants as pushed
-use Rattle.walk.specs.Walks.{rows_from, counts_from, Given, bound_of, HoldsList}
-use Rattle.walk.specs.Loop.{with_branches, Offers, AddsBranch}
+use Rattle.branches.specs.declared.Layout.{Layout}
+use Rattle.walk.specs.Walks.{rows_from, counts_from, layout_of, Given, bound_of, HoldsList}
+use Rattle.walk.specs.Loop.{Offers, AddsBranch}
 use Rattle.walk.specs.declared.Program.{Program}
 use Rattle.walk.specs.declared.Walk.{Walk}
-use Rattle.walk.specs.declared.Added.TheVariants as added
+
+-- the walk with other branches
+abbrev pub with_branches : Walk → BranchList → Walk
+with_branches w b = record { gas = w.gas; counts = w.counts; width = w.width; branches = b }
 
 -- the units that a state takes
 units_for_lem : (rows : List Listed) (n : ℕ) (m : Defined) → length rows ≡ n → units_for n m ≡ units rows m
@@ -56,7 +59,7 @@ module _ (units_of : Defined → ℕ) (past : List ℕ) (m : Defined) (more : Li
   unfolding offer
   offer_kept e = rw (e, offer)
 
-row_within : (rows : List Listed) (i : ℕ) (x : Listed) → get_elem? rows i ≡ some x → i < length rows
+row_within : (rows : List Listed) (i : ℕ) (x : Listed) → slice_get rows i ≡ Some x → i < length rows
 unfolding row_at
 row_within rows i x e = row_at-within rows (pos i) x e
 
@@ -98,65 +101,60 @@ module _ {p : Program} {g : Given} {blocks xs cols : List ℕ} {w : Walk} {ls : 
       e
 
 -- a branch that is dropped or kept, or has no space
-module _ (p : Program) (xs ys : List ℕ) (w : Walk) (s : MemoryState) where
-  pub adds_full : (r : Pushed) → Pushes p.limit p.size (counts_from p) xs ys w.branches s r → r ≡ pushed.Full → AddsBranch p xs ys w s added.Full
-  adds_full r pushes e =
+module _ (p : Program) (xs ys : List ℕ) (w : Walk) (c : BranchList) (s : MemoryState) where
+  pub adds_branch : (r : Result (Unit {0}) Refusal) → Pushes p.limit p.size (counts_from p) xs ys w.branches c s r → AddsBranch p xs ys w (with_branches w c) s r
+  adds_branch (Err e) pushes =
       record {
-        says = λ g blocks cols ls remembered space counted past m h held past-counted more.
-            offer_full (units g.rows) past m more ls remembered space
-            (judged h m no_space (as_full.says (bound_of w) h.all h.wait m past h.remembers held past-counted));
+        says = λ g blocks cols ls remembered space counted past m h held past-counted. (
+          pushes.writes.0,
+          λ more. offer_full (units g.rows) past m more ls remembered space
+              (judged h m no_space (pushes.says (bound_of w) h.all h.wait m past h.remembers held past-counted)),
+        );
         below = pushes.below;
         bytes = pushes.bytes;
       }
-    where
-      as_full : Pushes p.limit p.size (counts_from p) xs ys w.branches s pushed.Full
-      as_full = subst (Pushes p.limit p.size (counts_from p) xs ys w.branches s) e pushes
-
-  adds_done_as : (r : Pushed) (b : BranchList) → Pushes p.limit p.size (counts_from p) xs ys w.branches s r → r ≡ pushed.Done b → AddsBranch p xs ys w s (added.Done (with_branches w b))
-  adds_done_as r b pushes e =
+  adds_branch (Ok u) pushes =
       record {
         says = λ g blocks cols ls remembered space counted past m h held past-counted. (
           told g blocks cols ls remembered space counted past m h
-              (as_done.says (bound_of w) h.all h.wait m past h.remembers held past-counted),
+              (pushes.says (bound_of w) h.all h.wait m past h.remembers held past-counted),
           record { gas = refl; charged = refl; loopstops = refl; gasstops = refl; repeats = refl; width = refl },
         );
         below = pushes.below;
         bytes = pushes.bytes;
       }
     where
-      as_done : Pushes p.limit p.size (counts_from p) xs ys w.branches s (pushed.Done b)
-      as_done = subst (Pushes p.limit p.size (counts_from p) xs ys w.branches s) e pushes
-
       long : length (cells ys) ≡ length (cells xs)
       long = pushes.below.long
 
       told :
           (g : Given) (blocks cols : List ℕ) (ls : List (Lineage Defined)) (remembered : List Defined) (space : ℕ) (counted : List ResultRow) (past : List ℕ) (m : Defined) →
           (h : HoldsList p g blocks xs cols w ls remembered space counted) →
-          ((judge eq_state (units_for p.size) m (states h.all) (length (cells xs) - w.branches.top) ≡ dropped) × Dropped p.limit (bound_of w) p.size ys w.branches b h.all h.wait)
-          ⊎ ((judge eq_state (units_for p.size) m (states h.all) (length (cells xs) - w.branches.top) ≡ kept) × Kept-now p.limit (bound_of w) p.size ys w.branches b h.all h.wait m past) →
-          Offers p g blocks ys cols (with_branches w b) past (m ∷ []) ls remembered space counted
+          ((judge eq_state (units_for p.size) m (states h.all) (length (cells xs) - w.branches.top) ≡ dropped) × Dropped p.limit (bound_of w) p.size ys w.branches c h.all h.wait)
+          ⊎ ((judge eq_state (units_for p.size) m (states h.all) (length (cells xs) - w.branches.top) ≡ kept) × Kept-now p.limit (bound_of w) p.size ys w.branches c h.all h.wait m past) →
+          Offers p g blocks ys cols (with_branches w c) past (m ∷ []) ls remembered space counted
       told g blocks cols ls remembered space counted past m h (inl (e, d)) =
           record {
             waiting = lineages h.wait;
             known = states h.all;
-            left = length (cells ys) - b.top;
+            left = length (cells ys) - c.top;
             same = λ more. offer_dropped (units g.rows) past m more ls remembered space (judged h m dropped e) ∙
                 rw (sym h.waits, sym h.are, sym h.left, d.same, long);
-            holds = list_with h ys b h.all h.wait pushes.below (ap (λ c. c.first) d.same) d.remembers;
+            holds = list_with h ys c h.all h.wait pushes.below (ap (λ x. x.first) d.same) d.remembers;
           }
       told g blocks cols ls remembered space counted past m h (inr (e, k)) =
           record {
             waiting = record { mem = m; past = past } ∷ lineages h.wait;
             known = m ∷ states h.all;
-            left = length (cells ys) - b.top;
+            left = length (cells ys) - c.top;
             same = λ more. offer_kept (units g.rows) past m more ls remembered space (judged h m kept e) ∙
                 rw (sym h.waits, sym h.are, left);
-            holds = list_with h ys b _ _ pushes.below k.first k.remembers;
+            holds = list_with h ys c _ _ pushes.below k.first k.remembers;
           }
         where
-          left : space - units g.rows m ≡ length (cells ys) - b.top
+          left : space - units g.rows m ≡ length (cells ys) - c.top
           left = omega (arith, h.left, k.top, long, units_for_lem g.rows p.size m h.size)
 
-  pub adds_done : (r : Pushed) (b : BranchList) (v : Walk) → Pushes p.limit p.size (counts_from p) xs ys w.branches s r → r ≡ pushed.Done b → v ≡ with_branches w b → AddsBranch p xs ys w s (added.Done v)
-  adds_done r b v pushes e f = subst (λ u. AddsBranch p xs ys w s (added.Done u)) (sym f) (adds_done_as r b pushes e)
+  -- as the code tells the layout
+  pub adds_laid : (l : Layout) → l ≡ layout_of p → (r : Result (Unit {0}) Refusal) → Pushes l.limit l.rows l.counts xs ys w.branches c s r → AddsBranch p xs ys w (with_branches w c) s r
+  adds_laid l e r pushes = adds_branch r (subst (λ (x : Layout). Pushes x.limit x.rows x.counts xs ys w.branches c s r) e pushes)

@@ -1,8 +1,8 @@
 -- What follows a row's handling: the branches offered, and the state that goes on. Assumes nothing.
 use mathlib.Core.Path.{◌≡◌, refl, sym, ap, subst, ◌∙◌}
 use mathlib.Core.Bool.{Bool, true, false}
-use mathlib.Core.Option.{Option, none, some}
-use mathlib.Core.List.{List, [], ◌∷◌}
+use Rattle.std.specs.Prelude.{Option, None, Some, Result, Ok, Err}
+use mathlib.Core.List.{List, [], ◌∷◌, ◌++◌}
 use Prim.Native.Nat.{ℕ, ◌+◌, ◌<◌, ◌≤◌}
 use native.Mathlib.Omega.{arith}
 use lib.ListN.{length}
@@ -11,6 +11,8 @@ use Rattle.model.specs.State.{MemoryState as Defined}
 use Rattle.model.specs.Results.{ResultRow}
 use Rattle.model.specs.Offer.{Offer}
 use Rattle.model.specs.Explain.{row_of}
+use Rattle.refusal.specs.Numbers.{number_of}
+use Rattle.refusal.specs.declared.Refusal.{Refusal}
 use Rattle.area.specs.Cells.{cells}
 use Rattle.intmap.specs.Map.{levels, HasRoom}
 use Rattle.intmap.specs.Runs.{size}
@@ -18,23 +20,18 @@ use Rattle.intmap.proofs.SameCells.{size_same, sizes_same}
 use Rattle.encoding.specs.Holds.{largest}
 use Rattle.encoding.proofs.Held.{held_elsewhere}
 use Rattle.state.specs.Leads.{operands}
-use Rattle.state.specs.Steps.{HoldsState, TellsWay, StaysAt, branch_of}
+use Rattle.state.specs.Steps.{HoldsState, TellsWay, StaysAt, branch_of, Way}
 use Rattle.state.specs.declared.MemoryState.{MemoryState}
-use Rattle.state.specs.declared.Way.{Way}
-use Rattle.state.specs.declared.Way.TheVariants as way
 use Rattle.branches.specs.Entries.{Counted}
 use Rattle.branches.specs.Lists.{Below}
 use Rattle.branches.specs.Changes.{Pushable}
 use Rattle.branches.proofs.RememberLaws.{Bytes, counted-kept}
 use Rattle.branches.proofs.BlockLaws.{blocks_low}
-use Rattle.walk.specs.Walks.{counts_from, first_from, Given, bound_of, HoldsList, HoldsWalk, the_offer, the_following}
-use Rattle.walk.specs.Loop.{Walking, Holding, Turning, Offering, MayOffer, Offers, SameCounts, TellsOffers, AddsBranch, AddsThree, GoesOn, note_repeated, FollowsWays, FollowsThree}
+use Rattle.branches.specs.declared.Layout.{Layout}
+use Rattle.walk.specs.Walks.{counts_from, first_from, layout_of, Given, bound_of, HoldsList, HoldsWalk, the_offer, the_following}
+use Rattle.walk.specs.Loop.{Walking, Holding, Turning, Offering, MayOffer, Offers, SameCounts, TellsOffers, AddsBranch, AddsWay, AddsThree, GoesOn, note_repeated, FollowsWays, FollowsThree}
 use Rattle.walk.specs.declared.Program.{Program}
 use Rattle.walk.specs.declared.Walk.{Walk}
-use Rattle.walk.specs.declared.Added.{Added}
-use Rattle.walk.specs.declared.Added.TheVariants as added
-use Rattle.walk.specs.declared.Front.{Front}
-use Rattle.walk.specs.declared.Turn.TheVariants as turned
 use Rattle.walk.proofs.ListLaws.{list_as}
 
 -- the definition, by what it offers
@@ -52,6 +49,10 @@ module _ (p : Program) (g : Given) (past : List ℕ) (ls : List (Lineage Defined
       pub follow_full : the_offer p g past w.branches ls n.remembered n.space ≡ full → the_following p g past ls n o ≡ over (refused_with 11 n)
       unfolding follow_ways settle
       follow_full f = rw (e, f)
+
+      -- by the refusal
+      pub follow_stops : (r : Refusal) → number_of r ≡ 11 → the_offer p g past w.branches ls n.remembered n.space ≡ full → the_following p g past ls n o ≡ over (refused_with (number_of r) n)
+      follow_stops r k f = follow_full f ∙ ap (λ i. over (refused_with i n)) (sym k)
 
       pub follow_offered :
           (waiting : List (Lineage Defined)) (known : List Defined) (left : ℕ) →
@@ -79,12 +80,12 @@ module _ (p : Program) (xs ys : List ℕ) (first : ℕ) (below : Below (cells xs
       }
 
   stays_below : (w : Way) → StaysAt p.limit (cells xs) 0 w → StaysAt p.limit (cells ys) 0 w
-  stays_below way.Nowhere h = tt
-  stays_below (way.To s) h = (h.0, room_below s h.0 h.1)
+  stays_below None h = tt
+  stays_below (Some s) h = (h.0, room_below s h.0 h.1)
 
   way_below : (bound : ℕ) (w : Way) (ms : Option Defined) → StaysAt p.limit (cells xs) 0 w → TellsWay p.limit bound (cells xs) w ms → TellsWay p.limit bound (cells ys) w ms
-  way_below bound way.Nowhere ms lies h = h
-  way_below bound (way.To s) ms lies h = record { state = h.state; is = h.is; held = held_below bound s h.state (omega (arith, lies.0, lies.1.most)) h.held }
+  way_below bound None ms lies h = h
+  way_below bound (Some s) ms lies h = record { state = h.state; is = h.is; held = held_below bound s h.state (omega (arith, lies.0, lies.1.most)) h.held }
 
 -- what the area holds after a row's branches, with one repeat more where it counts as one
 module _ {p : Program} {g : Given} {blocks xs cols : List ℕ} {w : Walk} {ls : List (Lineage Defined)} {n : Notes Defined ResultRow} (h : HoldsWalk p g blocks xs cols w ls n) where
@@ -99,9 +100,9 @@ module _ {p : Program} {g : Given} {blocks xs cols : List ℕ} {w : Walk} {ls : 
       (ys : List ℕ) (v u : Walk) (b : Bool) (waiting : List (Lineage Defined)) (known : List Defined) (left : ℕ) (branches : List Defined) (stays : Option Defined) →
       SameCounts w v → w.counts.repeats < w.counts.charged → u ≡ note_repeated v b →
       HoldsList p g blocks ys cols v waiting known left n.counted →
-      HoldsWalk p g blocks ys cols u waiting (note_ways (record { branches = branches; stays = stays; result = none; repeat = b }) known left n)
+      HoldsWalk p g blocks ys cols u waiting (note_ways (record { branches = branches; stays = stays; result = None; repeat = b }) known left n)
   noted ys v u b waiting known left branches stays same lt e list =
-      subst (λ x. HoldsWalk p g blocks ys cols x waiting (note_ways (record { branches = branches; stays = stays; result = none; repeat = b }) known left n)) (sym e)
+      subst (λ x. HoldsWalk p g blocks ys cols x waiting (note_ways (record { branches = branches; stays = stays; result = None; repeat = b }) known left n)) (sym e)
       (record {
         list = list_as list (note_repeated v b) refl refl (omega arith) (few_numbers v same.charged);
         counts = record {
@@ -119,30 +120,21 @@ module _ {p : Program} {g : Given} {blocks xs cols : List ℕ} {w : Walk} {ls : 
 pub same_counts : (w : Walk) → SameCounts w w
 same_counts w = record { gas = refl; charged = refl; loopstops = refl; gasstops = refl; repeats = refl; width = refl }
 
--- no branch
-pub ways_nowhere :
-    (p : Program) (xs ys : List ℕ) (w u : Walk) (branch stays : Way) (repeat : Bool) (r : Front) →
-    w.counts.repeats < w.counts.charged → branch ≡ way.Nowhere → u ≡ note_repeated w repeat → GoesOn p xs ys u stays r →
-    FollowsWays p xs ys w branch stays repeat (turned.Goes r)
-ways_nowhere p xs ys w u branch stays repeat r lt e f on =
-    subst (λ b. FollowsWays p xs ys w b stays repeat (turned.Goes r)) (sym e)
-    (record {
-      says = λ g blocks cols ls n past o h counted offers lies.
-          record {
-            front = go_on (row_of g.rows) (onward offers.the_state past) ls (note_ways (record { branches = branch_of offers.the_branch; stays = offers.the_state; result = none; repeat = repeat }) n.remembered n.space n);
-            is = follow_offered p g past ls n o _ offers.answer ls n.remembered n.space
-                (ap (λ b. the_offer p g past (branch_of b) ls n.remembered n.space) offers.branches ∙ offers_none p g past ls n.remembered n.space);
-            holds = on.says g blocks cols ls _ past offers.the_state
-                (noted h xs w u repeat ls n.remembered n.space (branch_of offers.the_branch) offers.the_state (same_counts w) lt f h.list)
-                (subst (λ x. TellsWay p.limit (bound_of x) (cells xs) stays offers.the_state) (sym f) offers.goes_on)
-                lies counted;
-          };
-      bytes = on.bytes;
-    })
+-- at most one branch
+pub way_none : (p : Program) (xs : List ℕ) (w : Walk) → AddsWay p xs xs w w None (Ok tt)
+way_none p xs w =
+    record {
+      says = λ g blocks cols ls remembered space counted past ms h is now. (
+        record { waiting = ls; known = remembered; left = space; same = λ more. ap (λ o. the_offer p g past (branch_of o ++ more) ls remembered space) is; holds = h },
+        same_counts w,
+      );
+      below = record { long = refl; same = λ j lt. refl };
+      bytes = refl;
+    }
 
--- the branch of a way
-branch_of_lem : (p : Program) (g : Given) (past : List ℕ) (ls : List (Lineage Defined)) (remembered : List Defined) (space : ℕ) (ms : Option Defined) (m : Defined) → ms ≡ some m → the_offer p g past (branch_of ms) ls remembered space ≡ the_offer p g past (m ∷ []) ls remembered space
-branch_of_lem p g past ls remembered space ms m e = ap (λ o. the_offer p g past (branch_of o) ls remembered space) e
+no_more : (ms : Option Defined) → branch_of ms ++ [] ≡ branch_of ms
+no_more None = refl
+no_more (Some m) = refl
 
 -- what waits in front of the remembered states
 in_front : {p : Program} {g : Given} {blocks xs cols : List ℕ} {w : Walk} {ls : List (Lineage Defined)} {remembered : List Defined} {space : ℕ} {counted : List ResultRow} → HoldsList p g blocks xs cols w ls remembered space counted → first_from p ≤ w.branches.first
@@ -159,46 +151,36 @@ counted_below {p} {xs = xs} {w = w} h ys past small less long below counted =
     (λ j lt. below.same (counts_from p + j) (omega (arith, h.first)))
     counted
 
--- a branch, and no space
-pub ways-full :
-    (p : Program) (xs ys : List ℕ) (w : Walk) (branch stays : Way) (repeat : Bool) (s : MemoryState) (a : Added) →
-    branch ≡ way.To s → a ≡ added.Full → AddsBranch p xs ys w s a →
-    FollowsWays p xs ys w branch stays repeat (turned.Over 11)
-ways-full p xs ys w branch stays repeat s a e f adds =
-    subst (λ b. FollowsWays p xs ys w b stays repeat (turned.Over 11)) (sym e)
-    (record {
+-- no space
+pub ways_refused : {p : Program} {xs ys : List ℕ} {w v : Walk} {branch : Way} (stays : Way) (repeat : Bool) (e : Refusal) → AddsWay p xs ys w v branch (Err e) → FollowsWays p xs ys w v branch stays repeat (Err e)
+ways_refused {p} stays repeat e adds =
+    record {
       says = λ g blocks cols ls n past o h counted offers lies.
-          let held = offers.branches in
+          let t = adds.says g blocks cols ls n.remembered n.space n.counted past offers.the_branch h.list offers.branches counted in
           record {
             notes = n;
-            is = follow_full p g past ls n o _ offers.answer
-                (branch_of_lem p g past ls n.remembered n.space offers.the_branch held.state held.is ∙
-                as_full.says g blocks cols ls n.remembered n.space n.counted past held.state h.list held.held counted []);
+            is = follow_stops p g past ls n o _ offers.answer e (ap number_of t.0)
+                (ap (λ ms. the_offer p g past ms ls n.remembered n.space) (sym (no_more offers.the_branch)) ∙ t.1 []);
           };
       bytes = adds.bytes;
-    })
-  where
-    as_full : AddsBranch p xs ys w s added.Full
-    as_full = subst (AddsBranch p xs ys w s) f adds
+    }
 
--- a branch that is dropped or kept
-pub ways-done :
-    (p : Program) (xs ys zs : List ℕ) (w v u : Walk) (branch stays : Way) (repeat : Bool) (s : MemoryState) (a : Added) (r : Front) →
+-- what was offered is dropped or kept
+pub ways_goes :
+    {p : Program} {xs ys zs : List ℕ} {w v u t : Walk} {branch stays : Way} {repeat : Bool} {r : Option MemoryState} →
     Bytes xs → Bytes ys → w.counts.repeats < w.counts.charged →
-    branch ≡ way.To s → a ≡ added.Done v → AddsBranch p xs ys w s a → u ≡ note_repeated v repeat → GoesOn p ys zs u stays r →
-    FollowsWays p xs zs w branch stays repeat (turned.Goes r)
-ways-done p xs ys zs w v u branch stays repeat s a r small less lt e f adds noted-u on =
-    subst (λ b. FollowsWays p xs zs w b stays repeat (turned.Goes r)) (sym e)
-    (record {
+    AddsWay p xs ys w v branch (Ok tt) → u ≡ note_repeated v repeat → GoesOn p ys zs u t stays r →
+    FollowsWays p xs zs w t branch stays repeat (Ok r)
+ways_goes {p} {xs} {ys} {zs} {w} {v} {u} {t} {branch} {stays} {repeat} {r} small less lt adds noted-u on =
+    record {
       says = λ g blocks cols ls n past o h counted offers lies.
-          let held = offers.branches in
-          let told = as_done.says g blocks cols ls n.remembered n.space n.counted past held.state h.list held.held counted in
+          let told = adds.says g blocks cols ls n.remembered n.space n.counted past offers.the_branch h.list offers.branches counted in
           let of = told.0 in
           let same = told.1 in
           record {
-            front = go_on (row_of g.rows) (onward offers.the_state past) of.waiting (note_ways (record { branches = branch_of offers.the_branch; stays = offers.the_state; result = none; repeat = repeat }) of.known of.left n);
+            front = go_on (row_of g.rows) (onward offers.the_state past) of.waiting (note_ways (record { branches = branch_of offers.the_branch; stays = offers.the_state; result = None; repeat = repeat }) of.known of.left n);
             is = follow_offered p g past ls n o _ offers.answer of.waiting of.known of.left
-                (branch_of_lem p g past ls n.remembered n.space offers.the_branch held.state held.is ∙ of.same [] ∙ offers_none p g past of.waiting of.known of.left);
+                (ap (λ ms. the_offer p g past ms ls n.remembered n.space) (sym (no_more offers.the_branch)) ∙ of.same [] ∙ offers_none p g past of.waiting of.known of.left);
             holds = on.says g blocks cols of.waiting _ past offers.the_state
                 (noted h ys v u repeat of.waiting of.known of.left (branch_of offers.the_branch) offers.the_state same lt noted-u of.holds)
                 (subst (λ k. TellsWay p.limit k (cells ys) stays offers.the_state) (bound_of_lem same.charged) (way_below p xs ys w.branches.first adds.below (in_front h.list) (bound_of w) stays offers.the_state lies offers.goes_on))
@@ -206,68 +188,61 @@ ways-done p xs ys zs w v u branch stays repeat s a r small less lt e f adds note
                 (counted_below h.list ys past small less adds.bytes adds.below counted);
           };
       bytes = on.bytes ∙ adds.bytes;
-    })
+    }
   where
-    as_done : AddsBranch p xs ys w s (added.Done v)
-    as_done = subst (AddsBranch p xs ys w s) f adds
-
     bound_of_lem : v.counts.charged ≡ w.counts.charged → bound_of w ≡ bound_of u
     bound_of_lem e = ap (λ k. operands + k) (sym e) ∙ sym (ap bound_of noted-u)
 
 -- ---- what is asked of the next call
 
-pub turn_holding : {p : Program} {xs : List ℕ} {w : Walk} → Turning p xs w → Holding p xs w
-turn_holding t =
-    record {
-      given = t.walking.given;
-      blocks = t.walking.blocks;
-      cols = t.walking.cols;
-      waiting = t.walking.waiting;
-      known = t.walking.notes.remembered;
-      space = t.walking.notes.space;
-      results = t.walking.notes.counted;
-      holds = t.walking.holds.list;
-      past = t.past;
-      counted = t.counted;
-    }
+-- the state that a way leads to
+record Tells (p : Program) (xs : List ℕ) (w : Walk) (branch : Way) : Type 0 where
+  state : Option Defined
+  tells : TellsWay p.limit (bound_of w) (cells xs) branch state
 
-pub few_repeats : {p : Program} {xs : List ℕ} {w : Walk} → Turning p xs w → w.counts.repeats < 4294967296
-few_repeats t = omega (arith, t.less, t.walking.holds.counts.gas_few)
-
-pub offering_of : {p : Program} {xs : List ℕ} {w : Walk} (branch : Way) (s : MemoryState) → branch ≡ way.To s → MayOffer p xs w branch → Offering p xs w s
-offering_of {p} {xs} {w} branch s e o = subst (MayOffer p xs w) e o
+told_by : (p : Program) (xs : List ℕ) (w : Walk) (branch : Way) → MayOffer p xs w branch → Tells p xs w branch
+told_by p xs w None o = record { state = None; tells = refl }
+told_by p xs w (Some s) o = record { state = Some o.state; tells = record { state = o.state; is = refl; held = o.holds } }
 
 -- a branch can be pushed
-pub may_push : (p : Program) (xs : List ℕ) (w : Walk) (s : MemoryState) → Holding p xs w → Offering p xs w s → Pushable p.limit p.size (counts_from p) xs w.branches s
-may_push p xs w s h o =
-    record {
+pub may_push : (p : Program) (xs : List ℕ) (w : Walk) (s : MemoryState) → Holding p xs w → Offering p xs w s → (l : Layout) → l ≡ layout_of p → Pushable l.limit l.rows l.counts xs w.branches s
+may_push p xs w s h o l e =
+    subst (λ (x : Layout). Pushable x.limit x.rows x.counts xs w.branches s) (sym e)
+    (record {
       remembering = record { bound = bound_of w; all = h.holds.all; wait = h.holds.wait; remembers = h.holds.remembers };
       offers = o.below;
       state = o.state;
       holds = o.holds;
       rows = h.holds.few;
       below = omega (arith, h.holds.first);
-    }
+    })
 
--- with a repeat noted
-pub walking_repeated : {p : Program} {xs : List ℕ} {w : Walk} → Turning p xs w → (u : Walk) (b : Bool) → u ≡ note_repeated w b → Walking p xs u
-walking_repeated {p} {xs} {w} t u b e =
-    record {
-      given = t.walking.given;
-      blocks = t.walking.blocks;
-      cols = t.walking.cols;
-      waiting = t.walking.waiting;
-      notes = _;
-      holds = noted t.walking.holds xs w u b t.walking.waiting t.walking.notes.remembered t.walking.notes.space [] none (same_counts w) t.less e t.walking.holds.list;
-    }
+-- after at most one branch
+module _ {p : Program} {xs ys : List ℕ} {w v : Walk} {branch : Way} (adds : AddsWay p xs ys w v branch (Ok tt)) (o : MayOffer p xs w branch) (t : Turning p xs w) where
+  after_way : Offers p t.walking.given t.walking.blocks ys t.walking.cols v t.past (branch_of (told_by p xs w branch o).state) t.walking.waiting t.walking.notes.remembered t.walking.notes.space t.walking.notes.counted × SameCounts w v
+  after_way =
+      let n = t.walking.notes in
+      adds.says t.walking.given t.walking.blocks t.walking.cols t.walking.waiting n.remembered n.space n.counted t.past (told_by p xs w branch o).state t.walking.holds.list (told_by p xs w branch o).tells t.counted
+
+  pub few_after : v.counts.repeats < 4294967296
+  few_after = omega (arith, t.less, t.walking.holds.counts.gas_few, after_way.1.repeats)
+
+  pub walking_after : (u : Walk) (b : Bool) → u ≡ note_repeated v b → Walking p ys u
+  walking_after u b f =
+      let d = after_way in
+      record {
+        given = t.walking.given;
+        blocks = t.walking.blocks;
+        cols = t.walking.cols;
+        waiting = d.0.waiting;
+        notes = _;
+        holds = noted t.walking.holds ys v u b d.0.waiting d.0.known d.0.left [] None d.1 t.less f d.0.holds;
+      }
 
 -- after a branch
-module _ {p : Program} {xs ys : List ℕ} {w v : Walk} {s : MemoryState} {a : Added} (adds : AddsBranch p xs ys w s a) (e : a ≡ added.Done v) (o : Offering p xs w s) where
-  done_branch : AddsBranch p xs ys w s (added.Done v)
-  done_branch = subst (AddsBranch p xs ys w s) e adds
-
+module _ {p : Program} {xs ys : List ℕ} {w v : Walk} {s : MemoryState} (adds : AddsBranch p xs ys w v s (Ok tt)) (o : Offering p xs w s) where
   after_branch : (h : Holding p xs w) → Offers p h.given h.blocks ys h.cols v h.past (o.state ∷ []) h.waiting h.known h.space h.results × SameCounts w v
-  after_branch h = done_branch.says h.given h.blocks h.cols h.waiting h.known h.space h.results h.past o.state h.holds o.holds h.counted
+  after_branch h = adds.says h.given h.blocks h.cols h.waiting h.known h.space h.results h.past o.state h.holds o.holds h.counted
 
   pub holding_after : Bytes xs → Bytes ys → Holding p xs w → Holding p ys v
   holding_after small less h =
@@ -284,22 +259,6 @@ module _ {p : Program} {xs ys : List ℕ} {w v : Walk} {s : MemoryState} {a : Ad
         past = h.past;
         counted = counted_below h.holds ys h.past small less adds.bytes adds.below h.counted;
       }
-
-  pub walking_after : Turning p xs w → (u : Walk) (b : Bool) → u ≡ note_repeated v b → Walking p ys u
-  unfolding turn_holding
-  walking_after t u b f =
-      let d = after_branch (turn_holding t) in
-      record {
-        given = t.walking.given;
-        blocks = t.walking.blocks;
-        cols = t.walking.cols;
-        waiting = d.0.waiting;
-        notes = _;
-        holds = noted t.walking.holds ys v u b d.0.waiting d.0.known d.0.left [] none d.1 t.less f d.0.holds;
-      }
-
-  pub few_after : Turning p xs w → v.counts.repeats < 4294967296
-  few_after t = let d = after_branch (turn_holding t) in omega (arith, t.less, t.walking.holds.counts.gas_few, d.1.repeats)
 
   -- another state in front of the remembered ones
   pub offering_after : Holding p xs w → (r : MemoryState) → Offering p xs w r → Offering p ys v r
@@ -323,28 +282,23 @@ module _ {p : Program} {xs ys : List ℕ} {w v : Walk} {s : MemoryState} {a : Ad
 
 -- ---- three branches
 
-module _ (p : Program) (xs ys : List ℕ) (w : Walk) (s₁ s₂ s₃ : MemoryState) (x : Added) (first : AddsBranch p xs ys w s₁ x) where
-  pub three_full : x ≡ added.Full → AddsThree p xs ys w s₁ s₂ s₃ added.Full
-  three_full e =
+module _ (p : Program) (xs ys : List ℕ) (w u : Walk) (s₁ s₂ s₃ : MemoryState) where
+  pub three_full : (e : Refusal) → AddsBranch p xs ys w u s₁ (Err e) → AddsThree p xs ys w u s₁ s₂ s₃ (Err e)
+  three_full e first =
       record {
-        says = λ g blocks cols ls remembered space counted past m₁ m₂ m₃ h a b c now more.
-            as_full.says g blocks cols ls remembered space counted past m₁ h a now (m₂ ∷ m₃ ∷ more);
+        says = λ g blocks cols ls remembered space counted past m₁ m₂ m₃ h a b c now.
+            let t = first.says g blocks cols ls remembered space counted past m₁ h a now in
+            (t.0, λ more. t.1 (m₂ ∷ m₃ ∷ more));
         below = first.below;
         bytes = first.bytes;
       }
-    where
-      as_full : AddsBranch p xs ys w s₁ added.Full
-      as_full = subst (AddsBranch p xs ys w s₁) e first
 
   -- the second has no space, or the third is next
-  module _ (u : Walk) (small : Bytes xs) (less : Bytes ys) (e : x ≡ added.Done u) where
-    first_done : AddsBranch p xs ys w s₁ (added.Done u)
-    first_done = subst (AddsBranch p xs ys w s₁) e first
-
+  module _ (small : Bytes xs) (less : Bytes ys) (first : AddsBranch p xs ys w u s₁ (Ok tt)) where
     -- what the first leaves, for the second and third
     module _ {g : Given} {blocks cols : List ℕ} {ls : List (Lineage Defined)} {remembered : List Defined} {space : ℕ} {counted : List ResultRow} (past : List ℕ) (m : Defined) (h : HoldsList p g blocks xs cols w ls remembered space counted) (a : HoldsState p.limit (bound_of w) (cells xs) s₁ m) (now : Counted xs p.size (counts_from p) past) where
       abbrev left-first : Offers p g blocks ys cols u past (m ∷ []) ls remembered space counted × SameCounts w u
-      left-first = first_done.says g blocks cols ls remembered space counted past m h a now
+      left-first = first.says g blocks cols ls remembered space counted past m h a now
 
       kept_state : (s : MemoryState) (n : Defined) → s.map.base + s.map.used ≤ w.branches.first → HoldsState p.limit (bound_of w) (cells xs) s n → HoldsState p.limit (bound_of u) (cells ys) s n
       kept_state s n fits held =
@@ -354,119 +308,101 @@ module _ (p : Program) (xs ys : List ℕ) (w : Walk) (s₁ s₂ s₃ : MemorySta
       kept_counts : Counted ys p.size (counts_from p) past
       kept_counts = counted_below h ys past small less first.bytes first.below now
 
-    module _ (zs : List ℕ) (y : Added) (second : AddsBranch p ys zs u s₂ y) (same_first : u.branches.first ≡ w.branches.first) (fits₂ : s₂.map.base + s₂.map.used ≤ w.branches.first) where
-      below_twice : Below (cells xs) (cells zs) w.branches.first
-      below_twice = record { long = second.below.long ∙ first.below.long; same = λ j lt. second.below.same j (omega (arith, same_first)) ∙ first.below.same j lt }
+    module _ (zs : List ℕ) (v : Walk) (same_first : u.branches.first ≡ w.branches.first) (fits₂ : s₂.map.base + s₂.map.used ≤ w.branches.first) where
+      below_twice : Below (cells ys) (cells zs) u.branches.first → Below (cells xs) (cells zs) w.branches.first
+      below_twice second = record { long = second.long ∙ first.below.long; same = λ j lt. second.same j (omega (arith, same_first)) ∙ first.below.same j lt }
 
-      pub three_second_full : y ≡ added.Full → AddsThree p xs zs w s₁ s₂ s₃ added.Full
-      three_second_full f =
+      pub three_second_full : (e : Refusal) → AddsBranch p ys zs u v s₂ (Err e) → AddsThree p xs zs w v s₁ s₂ s₃ (Err e)
+      three_second_full e second =
           record {
-            says = λ g blocks cols ls remembered space counted past m₁ m₂ m₃ h a b c now more.
+            says = λ g blocks cols ls remembered space counted past m₁ m₂ m₃ h a b c now.
                 let of = (left-first past m₁ h a now).0 in
-                of.same (m₂ ∷ m₃ ∷ more) ∙
-                as_full.says g blocks cols of.waiting of.known of.left counted past m₂ of.holds (kept_state past m₁ h a now s₂ m₂ fits₂ b) (kept_counts past m₁ h a now) (m₃ ∷ more);
-            below = below_twice;
+                let t = second.says g blocks cols of.waiting of.known of.left counted past m₂ of.holds (kept_state past m₁ h a now s₂ m₂ fits₂ b) (kept_counts past m₁ h a now) in
+                (t.0, λ more. of.same (m₂ ∷ m₃ ∷ more) ∙ t.1 (m₃ ∷ more));
+            below = below_twice second.below;
             bytes = second.bytes ∙ first.bytes;
           }
-        where
-          as_full : AddsBranch p ys zs u s₂ added.Full
-          as_full = subst (AddsBranch p ys zs u s₂) f second
 
       -- the third
-      module _ (v : Walk) (low : Bytes zs) (f : y ≡ added.Done v) (ts : List ℕ) (r : Added) (third : AddsBranch p zs ts v s₃ r) (same_second : v.branches.first ≡ w.branches.first) (fits₃ : s₃.map.base + s₃.map.used ≤ w.branches.first) where
-        second_done : AddsBranch p ys zs u s₂ (added.Done v)
-        second_done = subst (AddsBranch p ys zs u s₂) f second
-
+      module _ (low : Bytes zs) (second : AddsBranch p ys zs u v s₂ (Ok tt)) (ts : List ℕ) (x : Walk) (r : Result (Unit {0}) Refusal) (third : AddsBranch p zs ts v x s₃ r) (same_second : v.branches.first ≡ w.branches.first) (fits₃ : s₃.map.base + s₃.map.used ≤ w.branches.first) where
         told_three :
-            (g : Given) (blocks cols : List ℕ) (ls waiting waiting₂ : List (Lineage Defined)) (remembered known known₂ : List Defined) (space left left₂ : ℕ) (counted : List ResultRow) (past : List ℕ) (m₁ m₂ m₃ : Defined) (z : Added) →
+            (g : Given) (blocks cols : List ℕ) (ls waiting waiting₂ : List (Lineage Defined)) (remembered known known₂ : List Defined) (space left left₂ : ℕ) (counted : List ResultRow) (past : List ℕ) (m₁ m₂ m₃ : Defined) (z : Result (Unit {0}) Refusal) →
             ((more : List Defined) → the_offer p g past (m₁ ∷ more) ls remembered space ≡ the_offer p g past more waiting known left) →
             ((more : List Defined) → the_offer p g past (m₂ ∷ more) waiting known left ≡ the_offer p g past more waiting₂ known₂ left₂) →
             SameCounts w u → SameCounts u v →
-            TellsOffers p g blocks ts cols v z past (m₃ ∷ []) waiting₂ known₂ left₂ counted →
-            TellsOffers p g blocks ts cols w z past (m₁ ∷ m₂ ∷ m₃ ∷ []) ls remembered space counted
-        told_three g blocks cols ls waiting waiting₂ remembered known known₂ space left left₂ counted past m₁ m₂ m₃ added.Full one two a b t = λ more. one (m₂ ∷ m₃ ∷ more) ∙ two (m₃ ∷ more) ∙ t more
-        told_three g blocks cols ls waiting waiting₂ remembered known known₂ space left left₂ counted past m₁ m₂ m₃ (added.Done x) one two a b t = (
+            TellsOffers p g blocks ts cols v x z past (m₃ ∷ []) waiting₂ known₂ left₂ counted →
+            TellsOffers p g blocks ts cols w x z past (m₁ ∷ m₂ ∷ m₃ ∷ []) ls remembered space counted
+        told_three g blocks cols ls waiting waiting₂ remembered known known₂ space left left₂ counted past m₁ m₂ m₃ (Err e) one two a b t = (t.0, λ more. one (m₂ ∷ m₃ ∷ more) ∙ two (m₃ ∷ more) ∙ t.1 more)
+        told_three g blocks cols ls waiting waiting₂ remembered known known₂ space left left₂ counted past m₁ m₂ m₃ (Ok y) one two a b t = (
           record { waiting = t.0.waiting; known = t.0.known; left = t.0.left; same = λ more. one (m₂ ∷ m₃ ∷ more) ∙ two (m₃ ∷ more) ∙ t.0.same more; holds = t.0.holds },
           record { gas = t.1.gas ∙ b.gas ∙ a.gas; charged = t.1.charged ∙ b.charged ∙ a.charged; loopstops = t.1.loopstops ∙ b.loopstops ∙ a.loopstops; gasstops = t.1.gasstops ∙ b.gasstops ∙ a.gasstops; repeats = t.1.repeats ∙ b.repeats ∙ a.repeats; width = t.1.width ∙ b.width ∙ a.width },
         )
 
-        pub three_all : AddsThree p xs ts w s₁ s₂ s₃ r
+        pub three_all : AddsThree p xs ts w x s₁ s₂ s₃ r
         three_all =
             record {
               says = λ g blocks cols ls remembered space counted past m₁ m₂ m₃ h a b c now.
                   let d = left-first past m₁ h a now in
                   let of = d.0 in
-                  let e₂ = second_done.says g blocks cols of.waiting of.known of.left counted past m₂ of.holds (kept_state past m₁ h a now s₂ m₂ fits₂ b) (kept_counts past m₁ h a now) in
+                  let e₂ = second.says g blocks cols of.waiting of.known of.left counted past m₂ of.holds (kept_state past m₁ h a now s₂ m₂ fits₂ b) (kept_counts past m₁ h a now) in
                   let two = e₂.0 in
                   told_three g blocks cols ls of.waiting two.waiting remembered of.known two.known space of.left two.left counted past m₁ m₂ m₃ r of.same two.same d.1 e₂.1
                   (third.says g blocks cols two.waiting two.known two.left counted past m₃ two.holds
                   (subst (λ k. HoldsState p.limit k (cells zs) s₃ m₃) (ap (λ k. operands + k) (sym e₂.1.charged))
                   (held_below p ys zs u.branches.first second.below (in_front of.holds) (bound_of u) s₃ m₃ (omega (arith, same_first)) (kept_state past m₁ h a now s₃ m₃ fits₃ c)))
                   (counted_below of.holds zs past less low second.bytes second.below (kept_counts past m₁ h a now)));
-              below = record { long = third.below.long ∙ below_twice.long; same = λ j lt. third.below.same j (omega (arith, same_second)) ∙ below_twice.same j lt };
+              below = record { long = third.below.long ∙ (below_twice second.below).long; same = λ j lt. third.below.same j (omega (arith, same_second)) ∙ (below_twice second.below).same j lt };
               bytes = third.bytes ∙ second.bytes ∙ first.bytes;
             }
 
 -- and the state that goes on
-pub three_over : (p : Program) (xs ys : List ℕ) (w : Walk) (a b c stays : MemoryState) (x : Added) → x ≡ added.Full → AddsThree p xs ys w a b c x → FollowsThree p xs ys w a b c stays (turned.Over 11)
-three_over p xs ys w a b c stays x e adds =
+pub three_refused : {p : Program} {xs ys : List ℕ} {w v : Walk} {a b c : MemoryState} (stays : MemoryState) (e : Refusal) → AddsThree p xs ys w v a b c (Err e) → FollowsThree p xs ys w v a b c stays (Err e)
+three_refused {p} stays e adds =
     record {
       says = λ g blocks cols ls n past o h counted offers lies.
-          record {
-            notes = n;
-            is = follow_full p g past ls n o _ offers.answer
-                (as_full.says g blocks cols ls n.remembered n.space n.counted past offers.first offers.second offers.third h.list offers.first_held offers.second_held offers.third_held counted []);
-          };
+          let t = adds.says g blocks cols ls n.remembered n.space n.counted past offers.first offers.second offers.third h.list offers.first_held offers.second_held offers.third_held counted in
+          record { notes = n; is = follow_stops p g past ls n o _ offers.answer e (ap number_of t.0) (t.1 []) };
       bytes = adds.bytes;
     }
-  where
-    as_full : AddsThree p xs ys w a b c added.Full
-    as_full = subst (AddsThree p xs ys w a b c) e adds
 
 pub three_goes :
-    (p : Program) (xs ys zs : List ℕ) (w v : Walk) (a b c stays : MemoryState) (x : Added) (r : Front) →
-    Bytes xs → Bytes ys → w.counts.repeats < w.counts.charged → x ≡ added.Done v → AddsThree p xs ys w a b c x → GoesOn p ys zs v (way.To stays) r →
-    FollowsThree p xs zs w a b c stays (turned.Goes r)
-three_goes p xs ys zs w v a b c stays x r small less lt e adds on =
+    {p : Program} {xs ys zs : List ℕ} {w v u : Walk} {a b c stays : MemoryState} {r : Option MemoryState} →
+    Bytes xs → Bytes ys → w.counts.repeats < w.counts.charged → AddsThree p xs ys w v a b c (Ok tt) → GoesOn p ys zs v u (Some stays) r →
+    FollowsThree p xs zs w u a b c stays (Ok r)
+three_goes {p} {xs} {ys} {zs} {w} {v} {u} {a} {b} {c} {stays} {r} small less lt adds on =
     record {
       says = λ g blocks cols ls n past o h counted offers lies.
-          let t = as_done.says g blocks cols ls n.remembered n.space n.counted past offers.first offers.second offers.third h.list offers.first_held offers.second_held offers.third_held counted in
+          let t = adds.says g blocks cols ls n.remembered n.space n.counted past offers.first offers.second offers.third h.list offers.first_held offers.second_held offers.third_held counted in
           let of = t.0 in
           let same = t.1 in
           record {
-            front = go_on (row_of g.rows) (onward (some offers.state) past) of.waiting (note_ways (record { branches = offers.first ∷ offers.second ∷ offers.third ∷ []; stays = some offers.state; result = none; repeat = false }) of.known of.left n);
+            front = go_on (row_of g.rows) (onward (Some offers.state) past) of.waiting (note_ways (record { branches = offers.first ∷ offers.second ∷ offers.third ∷ []; stays = Some offers.state; result = None; repeat = false }) of.known of.left n);
             is = follow_offered p g past ls n o _ offers.answer of.waiting of.known of.left (of.same [] ∙ offers_none p g past of.waiting of.known of.left);
-            holds = on.says g blocks cols of.waiting _ past (some offers.state)
-                (noted h ys v v false of.waiting of.known of.left (offers.first ∷ offers.second ∷ offers.third ∷ []) (some offers.state) same lt refl of.holds)
-                (subst (λ k. TellsWay p.limit k (cells ys) (way.To stays) (some offers.state)) (ap (λ k. operands + k) (sym same.charged))
-                (way_below p xs ys w.branches.first adds.below (in_front h.list) (bound_of w) (way.To stays) (some offers.state) lies (record { state = offers.state; is = refl; held = offers.state_held })))
-                (stays_below p xs ys w.branches.first adds.below (in_front h.list) (way.To stays) lies)
+            holds = on.says g blocks cols of.waiting _ past (Some offers.state)
+                (noted h ys v v false of.waiting of.known of.left (offers.first ∷ offers.second ∷ offers.third ∷ []) (Some offers.state) same lt refl of.holds)
+                (subst (λ k. TellsWay p.limit k (cells ys) (Some stays) (Some offers.state)) (ap (λ k. operands + k) (sym same.charged))
+                (way_below p xs ys w.branches.first adds.below (in_front h.list) (bound_of w) (Some stays) (Some offers.state) lies (record { state = offers.state; is = refl; held = offers.state_held })))
+                (stays_below p xs ys w.branches.first adds.below (in_front h.list) (Some stays) lies)
                 (counted_below h.list ys past small less adds.bytes adds.below counted);
           };
       bytes = on.bytes ∙ adds.bytes;
     }
-  where
-    as_done : AddsThree p xs ys w a b c (added.Done v)
-    as_done = subst (AddsThree p xs ys w a b c) e adds
 
 pub walking_three :
-    {p : Program} {xs ys : List ℕ} {w v : Walk} {a b c : MemoryState} {x : Added} → AddsThree p xs ys w a b c x → x ≡ added.Done v →
+    {p : Program} {xs ys : List ℕ} {w v : Walk} {a b c : MemoryState} → AddsThree p xs ys w v a b c (Ok tt) →
     Offering p xs w a → Offering p xs w b → Offering p xs w c → Turning p xs w → Walking p ys v
-walking_three {p} {xs} {ys} {w} {v} {a} {b} {c} adds e oa ob oc t =
+walking_three {ys = ys} {v = v} adds oa ob oc t =
     let h = t.walking.holds in
     let n = t.walking.notes in
-    let d = as_done.says t.walking.given t.walking.blocks t.walking.cols t.walking.waiting n.remembered n.space n.counted t.past oa.state ob.state oc.state h.list oa.holds ob.holds oc.holds t.counted in
+    let d = adds.says t.walking.given t.walking.blocks t.walking.cols t.walking.waiting n.remembered n.space n.counted t.past oa.state ob.state oc.state h.list oa.holds ob.holds oc.holds t.counted in
     record {
       given = t.walking.given;
       blocks = t.walking.blocks;
       cols = t.walking.cols;
       waiting = d.0.waiting;
       notes = _;
-      holds = noted h ys v v false d.0.waiting d.0.known d.0.left [] none d.1 t.less refl d.0.holds;
+      holds = noted h ys v v false d.0.waiting d.0.known d.0.left [] None d.1 t.less refl d.0.holds;
     }
-  where
-    as_done : AddsThree p xs ys w a b c (added.Done v)
-    as_done = subst (AddsThree p xs ys w a b c) e adds
 
 -- the remembered states begin where they did
 pub first-after : {p : Program} {xs ys : List ℕ} {w v : Walk} → Holding p xs w → Holding p ys v → v.branches.first ≡ w.branches.first

@@ -1,3 +1,4 @@
+pub mod Passed
 pub mod BranchLaws
 pub mod ListLaws
 pub mod TakeLaws

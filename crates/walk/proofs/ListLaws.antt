@@ -2,13 +2,13 @@
 -- stands. Assumes nothing.
 use mathlib.Core.Path.{◌≡◌, refl, sym, ap, subst, ◌∙◌}
 use mathlib.Core.Bool.{Bool, true, false, ◌&&◌, and-eq-true_iff, false≢true}
-use mathlib.Core.Option.{Option, none, some}
+use Rattle.std.specs.Prelude.{Option, None, Some, slice_get}
 use mathlib.Core.List.{List, [], ◌∷◌}
 use Prim.Native.Nat.{ℕ, zero, suc, ◌+◌, ◌-◌, ◌<◌, ◌≤◌}
 use native.Mathlib.Omega.{arith}
 use native.Mathlib.Decide.{dec_lt}
 use lib.Dec.{leb, ltb}
-use lib.ListN.{length, get_or, get_elem?}
+use lib.ListN.{length, get_or}
 use borrow.Author.Tests.{leb-true, ltb-true, le-leb, lt-leb, lt-ltb}
 use Rattle.model.specs.Row.{Row as Listed}
 use Rattle.model.specs.State.{MemoryState as Defined}
@@ -24,10 +24,8 @@ use Rattle.encoding.specs.Holds.{largest}
 use Rattle.branches.specs.Entries.{Remembers}
 use Rattle.branches.proofs.RememberLaws.{Bytes, remembers_kept, remembers_more}
 use Rattle.merge.specs.Columns.{HasColumns}
-use Rattle.counters.specs.Counted.{one_charged, one_repeat}
 use Rattle.counters.specs.declared.Counters.{Counters}
 use Rattle.walk.specs.Walks.{rows_from, counts_from, first_from, in_listing, Given, bound_of, HoldsList}
-use Rattle.walk.specs.Loop.{with_counts, note_repeated, charge_one}
 use Rattle.walk.specs.declared.Walk.{Walk}
 use Rattle.walk.proofs.BranchLaws.{rows_kept}
 use Rattle.walk.specs.declared.Program.{Program}
@@ -79,14 +77,14 @@ module _ {p : Program} {g : Given} {blocks xs cols : List ℕ} {w : Walk} {ls : 
 -- a row of the listing, and one behind it
 pub record Element {A : Type 0} (xs : List A) (k : ℕ) : Type 0 where
   pub element : A
-  pub is : get_elem? xs k ≡ some element
+  pub is : slice_get xs k ≡ Some element
 
 pub element_within : {A : Type 0} (xs : List A) (k : ℕ) → k < length xs → Element xs k
 element_within [] k h = absurd (omega (arith, h))
 element_within (x ∷ xs) zero h = record { element = x; is = refl }
 element_within (x ∷ xs) (suc k) h = let e : Element xs k = element_within xs k (omega (arith, h)) in record { element = e.element; is = e.is }
 
-element_behind : {A : Type 0} (xs : List A) (k : ℕ) → length xs ≤ k → get_elem? xs k ≡ none
+element_behind : {A : Type 0} (xs : List A) (k : ℕ) → length xs ≤ k → slice_get xs k ≡ None
 element_behind [] k h = refl
 element_behind (x ∷ xs) zero h = absurd (omega (arith, h))
 element_behind (x ∷ xs) (suc k) h = element_behind xs k (omega (arith, h))
@@ -97,16 +95,16 @@ module _ (rows : List Listed) (m : Defined) (w : ℕ) (is : int_of w ≡ m.progr
   unfolding row_of
   number o e = ap (number_at m) (sym (ap (row_at rows) is) ∙ e)
 
-  pub stands : offset ≤ w → w - offset < length rows → row_of rows m ≡ some (w - offset)
+  pub stands : offset ≤ w → w - offset < length rows → row_of rows m ≡ Some (w - offset)
   stands h lt =
       let e : Element rows (w - offset) = element_within rows (w - offset) lt in
-      number (some e.element) (row_above w rows h ∙ e.is) ∙ ap some (sym (ap turns is) ∙ int_turns w)
+      number (Some e.element) (row_above w rows h ∙ e.is) ∙ ap Some (sym (ap turns is) ∙ int_turns w)
 
-  pub stands_below : w < offset → row_of rows m ≡ none
-  stands_below h = number none (row_below w rows h)
+  pub stands_below : w < offset → row_of rows m ≡ None
+  stands_below h = number None (row_below w rows h)
 
-  pub stands_behind : offset ≤ w → length rows ≤ w - offset → row_of rows m ≡ none
-  stands_behind h le = number none (row_above w rows h ∙ element_behind rows (w - offset) le)
+  pub stands_behind : offset ≤ w → length rows ≤ w - offset → row_of rows m ≡ None
+  stands_behind h le = number None (row_above w rows h ∙ element_behind rows (w - offset) le)
 
 -- by the test
 pub record Within (p : Program) (w : ℕ) : Type 0 where
@@ -123,10 +121,10 @@ pub listing_in : (p : Program) (w : ℕ) → Within p w → in_listing w p ≡ t
 unfolding in_listing
 listing_in p w h = rw (le-leb offset w h.above, lt-ltb (w - offset) p.size h.below)
 
-pub outside : (p : Program) (rows : List Listed) (m : Defined) (w : ℕ) → length rows ≡ p.size → int_of w ≡ m.program_i → in_listing w p ≡ false → row_of rows m ≡ none
+pub outside : (p : Program) (rows : List Listed) (m : Defined) (w : ℕ) → length rows ≡ p.size → int_of w ≡ m.program_i → in_listing w p ≡ false → row_of rows m ≡ None
 outside p rows m w size is e = go (dec_lt w offset) (dec_lt (w - offset) p.size)
   where
-    go : Dec (w < offset) → Dec (w - offset < p.size) → row_of rows m ≡ none
+    go : Dec (w < offset) → Dec (w - offset < p.size) → row_of rows m ≡ None
     go (yes h) _ = stands_below rows m w is h
     go (no h) (no k) = stands_behind rows m w is (omega arith) (omega (arith, size))
     go (no h) (yes k) = absurd (false≢true (sym e ∙ listing_in p w (record { above = omega arith; below = k })))
@@ -145,17 +143,5 @@ pub row-tested : (p : Program) (row w : ℕ) (b c : Bool) → row ≡ w → b �
 row-tested p row w b c e f h = ap (λ k. in_listing k p) (sym e) ∙ sym f ∙ h
 
 -- other counts
-pub counts_as : (w r : Walk) (c d : Counters) → c ≡ d → r ≡ with_counts w c → r ≡ with_counts w d
-counts_as w r c d e f = f ∙ ap (with_counts w) e
-
-pub charged_as : (w r : Walk) (c : Counters) → c ≡ one_charged w.counts → r ≡ record { gas = w.gas - 1; counts = c; width = w.width; branches = w.branches } → r ≡ charge_one w
-charged_as w r c e f = f ∙ ap (λ (x : Counters). record { gas = w.gas - 1; counts = x; width = w.width; branches = w.branches }) e
-
--- one repeat more, where a test is true
-pub noted_true : (w r : Walk) (b : Bool) (c : Counters) → b ≡ true → c ≡ one_repeat w.counts → r ≡ with_counts w c → r ≡ note_repeated w b
-noted_true w r true c t e f = counts_as w r c _ (e ∙ ap (λ (k : ℕ). record { charged = w.counts.charged; loopstops = w.counts.loopstops; gasstops = w.counts.gasstops; repeats = k }) (omega arith)) f
-noted_true w r false c t e f = absurd (false≢true t)
-
-pub noted_false : (w : Walk) (b : Bool) → b ≡ false → w ≡ note_repeated w b
-noted_false w true t = absurd (false≢true (sym t))
-noted_false w false t = refl
+abbrev pub with_counts : Walk → Counters → Walk
+with_counts w c = record { gas = w.gas; counts = c; width = w.width; branches = w.branches }

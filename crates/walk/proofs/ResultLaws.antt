@@ -1,7 +1,7 @@
 -- A result row: merged into the columns, and its branch offered. Assumes nothing.
-use mathlib.Core.Path.{◌≡◌, refl, sym, ap, subst, ◌∙◌}
+use mathlib.Core.Path.{◌≡◌, refl, ap, ◌∙◌}
 use mathlib.Core.Bool.{false}
-use mathlib.Core.Option.{none, some}
+use Rattle.std.specs.Prelude.{Option, None, Some, Ok, Err}
 use mathlib.Core.List.{List, [], ◌∷◌}
 use Prim.Native.Nat.{ℕ, ◌+◌, ◌≤◌}
 use native.Mathlib.Omega.{arith}
@@ -13,27 +13,32 @@ use Rattle.model.specs.Access.{next, read_columns}
 use Rattle.model.specs.Results.{ResultColumn, ResultRow, result_columns, merge, columns_of}
 use Rattle.model.specs.Offer.{turns}
 use Rattle.model.specs.Explain.{row_of}
+use Rattle.refusal.specs.Numbers.{number_of}
+use Rattle.refusal.specs.declared.Refusal.{Refusal}
 use Rattle.area.specs.Cells.{cells}
 use Rattle.state.specs.Steps.{HoldsState}
 use Rattle.state.specs.declared.MemoryState.{MemoryState}
 use Rattle.merge.specs.Columns.{HasColumns, Merges}
 use Rattle.walk.specs.Walks.{Given, bound_of, HoldsList, Counts}
-use Rattle.walk.specs.Loop.{Walking, Holding, Turning, Offering, SameCounts, AddsBranch, TakesUp, with_width, Resulting, FollowsResult}
+use Rattle.walk.specs.Loop.{Walking, Holding, Turning, Offering, SameCounts, AddsBranch, TakesUp, Resulting, FollowsResult}
 use Rattle.walk.specs.declared.Program.{Program}
 use Rattle.walk.specs.declared.Walk.{Walk}
-use Rattle.walk.specs.declared.Added.{Added}
-use Rattle.walk.specs.declared.Added.TheVariants as added
-use Rattle.walk.specs.declared.Front.{Front}
-use Rattle.walk.specs.declared.Turn.TheVariants as turned
 use Rattle.walk.proofs.UpLaws.{nowhere}
-use Rattle.walk.proofs.FollowLaws.{offers_none, follow_full, follow_offered}
+use Rattle.walk.proofs.FollowLaws.{offers_none, follow_stops, follow_offered}
+
+-- the walk with another width
+abbrev pub with_width : Walk → ℕ → Walk
+with_width w k = record { gas = w.gas; counts = w.counts; width = k; branches = w.branches }
 
 -- the columns with one row more
 has_more : (dols : List ℕ) (k row : ℕ) (columns : List ResultColumn) (counted : List ResultRow) → HasColumns dols k (merge columns (columns_of counted)) → HasColumns dols k (columns_of (record { row = row; columns = columns } ∷ counted))
 unfolding columns_of
 has_more dols k row columns counted h = h
 
-module _ (p : Program) (xs cols dols : List ℕ) (w v : Walk) (s : MemoryState) (first n k : ℕ) (merges : Merges (cells xs) s.map first n cols dols w.width k) (narrow : n ≤ 2000) (e : v ≡ with_width w k) where
+module _ (p : Program) (xs cols dols : List ℕ) (w : Walk) (s : MemoryState) (first n k : ℕ) (merges : Merges (cells xs) s.map first n cols dols w.width k) (narrow : n ≤ 2000) where
+  abbrev v : Walk
+  v = with_width w k
+
   -- the list then, of a state that the branch holds
   list_merged :
       {g : Given} {blocks : List ℕ} {ls : List (Lineage Defined)} {remembered : List Defined} {space : ℕ} {counted : List ResultRow} →
@@ -41,8 +46,7 @@ module _ (p : Program) (xs cols dols : List ℕ) (w v : Walk) (s : MemoryState) 
       (m : Defined) (row : ℕ) (columns : List ColumnType) → HoldsState p.limit (bound_of w) (cells xs) s m → read_columns n (pos first) m ≡ done columns →
       HoldsList p g blocks xs dols v ls remembered space (record { row = row; columns = result_columns columns } ∷ counted)
   list_merged {g} {blocks} {ls} {remembered} {space} {counted} h m row columns held read =
-      subst (λ x. HoldsList p g blocks xs dols x ls remembered space (record { row = row; columns = result_columns columns } ∷ counted)) (sym e)
-      (record {
+      record {
         size = h.size;
         few = h.few;
         rows = h.rows;
@@ -56,7 +60,7 @@ module _ (p : Program) (xs cols dols : List ℕ) (w v : Walk) (s : MemoryState) 
         are = h.are;
         waits = h.waits;
         left = h.left;
-      })
+      }
 
   -- of some walk, with the columns that there are
   list_here : (t : Turning p xs w) (r : Resulting p xs cols w s first n) → HoldsList p t.walking.given t.walking.blocks xs cols w t.walking.waiting t.walking.notes.remembered t.walking.notes.space r.results
@@ -95,30 +99,23 @@ module _ (p : Program) (xs cols dols : List ℕ) (w v : Walk) (s : MemoryState) 
       }
 
   pub result_offering : Offering p xs w s → Offering p xs v s
-  result_offering o = subst (λ x. Offering p xs x s) (sym e) (record { below = o.below; state = o.state; holds = o.holds })
+  result_offering o = record { below = o.below; state = o.state; holds = o.holds }
 
   -- the counts are the same
-  counts_as : {notes : Notes Defined ResultRow} {u : Walk} → Counts w notes → SameCounts v u → (rr : ResultRow) (known : List Defined) (left : ℕ) (branches : List Defined) → Counts u (note_ways (record { branches = branches; stays = none; result = some rr; repeat = false }) known left notes)
+  counts_as : {notes : Notes Defined ResultRow} {u : Walk} → Counts w notes → SameCounts v u → (rr : ResultRow) (known : List Defined) (left : ℕ) (branches : List Defined) → Counts u (note_ways (record { branches = branches; stays = None; result = Some rr; repeat = false }) known left notes)
   counts_as {notes} {u} c same rr known left branches =
-      let v-gas : v.gas ≡ w.gas = ap (λ x. x.gas) e in
-      let v-charged : v.counts.charged ≡ w.counts.charged = ap (λ x. x.counts.charged) e in
-      let v-loopstops : v.counts.loopstops ≡ w.counts.loopstops = ap (λ x. x.counts.loopstops) e in
-      let v-repeats : v.counts.repeats ≡ w.counts.repeats = ap (λ x. x.counts.repeats) e in
       record {
-        charged = same.charged ∙ v-charged ∙ c.charged;
-        loopstops = same.loopstops ∙ v-loopstops ∙ c.loopstops;
-        gasstops = same.gasstops ∙ ap (λ x. x.counts.gasstops) e ∙ c.gasstops;
-        repeats = same.repeats ∙ v-repeats ∙ c.repeats;
-        gas_few = omega (arith, same.charged, v-charged, same.gas, v-gas, c.gas_few);
-        loopstops_few = omega (arith, same.charged, v-charged, same.loopstops, v-loopstops, c.loopstops_few);
-        repeats_few = omega (arith, same.charged, v-charged, same.repeats, v-repeats, c.repeats_few);
+        charged = same.charged ∙ c.charged;
+        loopstops = same.loopstops ∙ c.loopstops;
+        gasstops = same.gasstops ∙ c.gasstops;
+        repeats = same.repeats ∙ c.repeats;
+        gas_few = omega (arith, same.charged, same.gas, c.gas_few);
+        loopstops_few = omega (arith, same.charged, same.loopstops, c.loopstops_few);
+        repeats_few = omega (arith, same.charged, same.repeats, c.repeats_few);
       }
 
   all_as : {u : Walk} {units : ℕ} → SameCounts v u → w.counts.charged + w.gas ≡ units → u.counts.charged + u.gas ≡ units
-  all_as same a =
-      let v-gas : v.gas ≡ w.gas = ap (λ x. x.gas) e in
-      let v-charged : v.counts.charged ≡ w.counts.charged = ap (λ x. x.counts.charged) e in
-      omega (arith, same.charged, same.gas, v-gas, v-charged, a)
+  all_as same a = omega (arith, same.charged, same.gas, a)
 
   -- the same notes with other result rows
   abbrev counting : List ResultRow → Notes Defined ResultRow → Notes Defined ResultRow
@@ -148,57 +145,48 @@ module _ (p : Program) (xs cols dols : List ℕ) (w v : Walk) (s : MemoryState) 
       }
 
   state_as : (m : Defined) → HoldsState p.limit (bound_of w) (cells xs) s m → HoldsState p.limit (bound_of v) (cells xs) s m
-  state_as m held = subst (λ x. HoldsState p.limit (bound_of x) (cells xs) s m) (sym e) held
+  state_as m held = held
 
-  module _ (ys : List ℕ) (a : Added) (adds : AddsBranch p xs ys v s a) (wide : length dols ≡ length cols) where
-    pub result_full : a ≡ added.Full → FollowsResult p xs ys cols dols w s first n (turned.Over 11)
-    result_full f =
+  module _ (ys : List ℕ) (u : Walk) (wide : length dols ≡ length cols) where
+    pub result_refused : (r : Refusal) → AddsBranch p xs ys v u s (Err r) → FollowsResult p xs ys cols dols w u s first n (Err r)
+    result_refused r adds =
         record {
           says = λ g blocks ls notes past m o h counted offers.
-              record {
-                notes = notes;
-                is = follow_full p g past ls notes o _ offers.answer
-                    (as_full.says g blocks dols ls notes.remembered notes.space _ past (next m)
-                    (list_merged h.list (next m) (turns m.program_i) offers.columns offers.held offers.read) (state_as (next m) offers.held) counted []);
-              };
+              let t = adds.says g blocks dols ls notes.remembered notes.space _ past (next m)
+              (list_merged h.list (next m) (turns m.program_i) offers.columns offers.held offers.read) (state_as (next m) offers.held) counted in
+              record { notes = notes; is = follow_stops p g past ls notes o _ offers.answer r (ap number_of t.0) (t.1 []) };
           bytes = adds.bytes;
           columns = wide;
         }
-      where
-        as_full : AddsBranch p xs ys v s added.Full
-        as_full = subst (AddsBranch p xs ys v s) f adds
 
-    module _ (u : Walk) (f : a ≡ added.Done u) where
-      as_done : AddsBranch p xs ys v s (added.Done u)
-      as_done = subst (AddsBranch p xs ys v s) f adds
-
+    module _ (adds : AddsBranch p xs ys v u s (Ok tt)) where
       pub result_walking : Turning p xs w → Resulting p xs cols w s first n → Walking p ys u
       result_walking t r =
           let h = t.walking.holds in
-          let d = as_done.says t.walking.given t.walking.blocks dols t.walking.waiting t.walking.notes.remembered t.walking.notes.space _ t.past r.offering.state
+          let d = adds.says t.walking.given t.walking.blocks dols t.walking.waiting t.walking.notes.remembered t.walking.notes.space _ t.past r.offering.state
           (list_merged (list_here t r) r.offering.state 0 r.row r.offering.holds r.read) (state_as r.offering.state r.offering.holds) t.counted in
           record {
             given = t.walking.given;
             blocks = t.walking.blocks;
             cols = dols;
             waiting = d.0.waiting;
-            notes = note_ways (record { branches = []; stays = none; result = some (record { row = 0; columns = result_columns r.row }); repeat = false }) d.0.known d.0.left (counting r.results t.walking.notes);
+            notes = note_ways (record { branches = []; stays = None; result = Some (record { row = 0; columns = result_columns r.row }); repeat = false }) d.0.known d.0.left (counting r.results t.walking.notes);
             holds = record { list = d.0.holds; counts = counts_as (counting_counts r.results h.counts) d.1 _ d.0.known d.0.left []; all = all_as d.1 h.all };
           }
 
-      pub result_goes : (zs : List ℕ) (r : Front) → TakesUp p ys zs u r → FollowsResult p xs zs cols dols w s first n (turned.Goes r)
-      result_goes zs r takes =
+      pub result_goes : (zs : List ℕ) (z : Walk) (r : Option MemoryState) → TakesUp p ys zs u z r → FollowsResult p xs zs cols dols w z s first n (Ok r)
+      result_goes zs z r takes =
           record {
             says = λ g blocks ls notes past m o h counted offers.
-                let d = as_done.says g blocks dols ls notes.remembered notes.space _ past (next m)
+                let d = adds.says g blocks dols ls notes.remembered notes.space _ past (next m)
                 (list_merged h.list (next m) (turns m.program_i) offers.columns offers.held offers.read) (state_as (next m) offers.held) counted in
                 let of = d.0 in
                 let rr : ResultRow = record { row = turns m.program_i; columns = result_columns offers.columns } in
-                let after : Notes Defined ResultRow = note_ways (record { branches = next m ∷ []; stays = none; result = some rr; repeat = false }) of.known of.left notes in
+                let after : Notes Defined ResultRow = note_ways (record { branches = next m ∷ []; stays = None; result = Some rr; repeat = false }) of.known of.left notes in
                 record {
                   front = take_up (row_of g.rows) of.waiting after;
                   is = follow_offered p g past ls notes o _ offers.answer of.waiting of.known of.left (of.same [] ∙ offers_none p g past of.waiting of.known of.left) ∙
-                      ap goes (nowhere g of.waiting after past none refl);
+                      ap goes (nowhere g of.waiting after past None refl);
                   holds = takes.says g blocks dols of.waiting after (record { list = of.holds; counts = counts_as h.counts d.1 rr of.known of.left (next m ∷ []); all = all_as d.1 h.all });
                 };
             bytes = takes.bytes ∙ adds.bytes;

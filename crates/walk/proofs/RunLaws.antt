@@ -1,8 +1,10 @@
 -- The run: what is still to come from where the walk stands is what the whole run gives. Assumes nothing.
-use mathlib.Core.Path.{◌≡◌, refl, sym, ap, subst, ◌∙◌}
+use Rattle.refusal.specs.Numbers.{number_of}
+use Rattle.refusal.specs.declared.Refusal.{Refusal}
+use mathlib.Core.Path.{◌≡◌, refl, sym, ap, ap₂, subst, ◌∙◌}
 use mathlib.Core.Logic.{inl}
 use mathlib.Core.Bool.{Bool, true, false}
-use mathlib.Core.Option.{Option, none, some}
+use Rattle.std.specs.Prelude.{Option, None, Some, Ok, Err, min}
 use mathlib.Core.List.{List, [], ◌∷◌}
 use Prim.Native.Nat.{ℕ, zero, suc, ◌+◌, ◌-◌, ◌<◌, ◌≤◌}
 use native.Mathlib.Omega.{arith}
@@ -21,14 +23,9 @@ use Rattle.branches.proofs.BlockLaws.{blocks_span}
 use Rattle.state.specs.declared.MemoryState.{MemoryState}
 use Rattle.walk.specs.Walks.{Given, HoldsWalk, HoldsRow, the_following, the_turn, the_run, HoldsNone, Few, Moved}
 use Rattle.explain.specs.Handles.{meaning_of}
-use Rattle.walk.specs.Loop.{Walking, charge_one, Standing, Turns, ClosesCurrent, Running, Runs}
+use Rattle.walk.specs.Loop.{Walking, Standing, Turns, ClosesCurrent, Running, Runs}
 use Rattle.walk.specs.declared.Program.{Program}
 use Rattle.walk.specs.declared.Walk.{Walk}
-use Rattle.walk.specs.declared.Front.{Front}
-use Rattle.walk.specs.declared.Front.TheVariants as front
-use Rattle.walk.specs.declared.Turn.{Turn}
-use Rattle.walk.specs.declared.Turn.TheVariants as turned
-use Rattle.walk.specs.declared.Progress.TheVariants as progress
 use Rattle.walk.proofs.CloseLaws.{SameNotes, up_notes}
 
 -- ---- what a turn notes: one unit more is charged, and no lineage is closed for want of units
@@ -44,12 +41,12 @@ NotedTurn n (goes f) = Noted n (notes_at f)
 module _ (p : Program) (g : Given) where
   on_notes : (o : Option (Lineage Defined)) (ls : List (Lineage Defined)) (n : Notes Defined ResultRow) → SameNotes n (notes_at (go_on (row_of g.rows) o ls n))
   unfolding go_on
-  on_notes none ls n = up_notes g ls n
-  on_notes (some l) ls n = by (row_of g.rows l.mem)
+  on_notes None ls n = up_notes g ls n
+  on_notes (Some l) ls n = by (row_of g.rows l.mem)
     where
-      by : (k : Option ℕ) → SameNotes n (notes_at (elim k [ none ↦ take_up (row_of g.rows) ls n | some row ↦ on_row row l ls n ]))
-      by none = up_notes g ls n
-      by (some row) = record { charged = refl; gasstops = refl }
+      by : (k : Option ℕ) → SameNotes n (notes_at (elim k [ None ↦ take_up (row_of g.rows) ls n | Some row ↦ on_row row l ls n ]))
+      by None = up_notes g ls n
+      by (Some row) = record { charged = refl; gasstops = refl }
 
   module _ (n : Notes Defined ResultRow) (past : List ℕ) (row : ℕ) (l : Lineage Defined) where
     settle_notes : (w : Ways Defined ResultRow) (o : Offered Defined) → NotedTurn n (settle (row_of g.rows) past w (note_handled (add_row row l) (charge n)) o)
@@ -92,29 +89,27 @@ module _ (p : Program) (g : Given) where
   run_waits zero (suc gas) row l ls n e h = refl
   run_waits (suc budget) (suc gas) row l ls n e h = absurd (omega (arith, e))
 
--- ---- where the loop is
+-- ---- where the loop is, after so many turns
 
-pub record Rests (p : Program) (g : Given) (blocks xs cols : List ℕ) (v : Walk) (m : MemoryState) (left budget gas : ℕ) (f : Fronted Defined ResultRow) : Type 0 where
+pub record Rests (p : Program) (g : Given) (blocks xs cols : List ℕ) (v : Walk) (m : MemoryState) (turns budget gas : ℕ) (f : Fronted Defined ResultRow) : Type 0 where
   pub front : Fronted Defined ResultRow
   pub holds : HoldsRow p g blocks xs cols v m front
-  pub same : the_run p g budget gas f ≡ the_run p g left v.gas front
+  pub same : the_run p g budget gas f ≡ the_run p g (budget - turns) v.gas front
+  pub spent : v.gas + turns ≡ gas
   pub stops : (notes_at front).gasstops ≡ 0
 
-pub record RunsTo (p : Program) (blocks xs ys cols dols : List ℕ) (w : Walk) (s : MemoryState) (budget : ℕ) (v : Walk) (m : MemoryState) (left : ℕ) : Type 0 where
-  pub says : (g : Given) (f : Fronted Defined ResultRow) → HoldsRow p g blocks xs cols w s f → (notes_at f).gasstops ≡ 0 → Rests p g blocks ys dols v m left budget w.gas f
+pub record RunsTo (p : Program) (blocks xs ys cols dols : List ℕ) (w : Walk) (s : MemoryState) (budget : ℕ) (v : Walk) (m : MemoryState) (turns : ℕ) : Type 0 where
+  pub says : (g : Given) (f : Fronted Defined ResultRow) → HoldsRow p g blocks xs cols w s f → (notes_at f).gasstops ≡ 0 → Rests p g blocks ys dols v m turns budget w.gas f
   pub bytes : length ys ≡ length xs
   pub columns : length dols ≡ length cols
 
-pub runs-first : (p : Program) (blocks xs cols : List ℕ) (w : Walk) (s : MemoryState) (budget : ℕ) → RunsTo p blocks xs xs cols cols w s budget w s budget
-runs-first p blocks xs cols w s budget = record { says = λ g f h z. record { front = f; holds = h; same = refl; stops = z }; bytes = refl; columns = refl }
-
-module _ {p : Program} {blocks xs ys cols dols : List ℕ} {w v : Walk} {s m : MemoryState} {budget left : ℕ} (r : RunsTo p blocks xs ys cols dols w s budget v m left) where
+module _ {p : Program} {blocks xs ys cols dols : List ℕ} {w v : Walk} {s m : MemoryState} {budget turns : ℕ} (r : RunsTo p blocks xs ys cols dols w s budget v m turns) where
   module _ (a : Running p blocks xs cols w s) where
-    now : Rests p a.given blocks ys dols v m left budget w.gas a.front
+    now : Rests p a.given blocks ys dols v m turns budget w.gas a.front
     now = r.says a.given a.front a.holds a.unclosed
 
-    pub runs_standing : 0 < v.gas → Standing p blocks ys dols v m
-    runs_standing gas = record { given = a.given; front = now.front; holds = now.holds; width = r.columns ∙ a.width; gas = gas }
+    pub runs_standing : turns < min budget w.gas → Standing p blocks ys dols v m
+    runs_standing lt = record { given = a.given; front = now.front; holds = now.holds; width = r.columns ∙ a.width; gas = omega (arith, now.spent) }
 
     none_stopped : v.counts.gasstops ≡ 0
     none_stopped = now.holds.walk.counts.gasstops ∙ ap (λ f. (notes_at f).gasstops) (sym now.holds.is) ∙ now.stops
@@ -135,14 +130,14 @@ module _ {p : Program} {blocks xs ys cols dols : List ℕ} {w v : Walk} {s m : M
             (λ k e. let b = blocks_span (cells ys) p.size v.branches.first v.branches.top h.list.all h.list.remembers.blocks k e in omega (arith, b.1, h.list.remembers.inside, h.list.remembers.small))
 
   -- the budget is used up
-  pub runs_pause : left ≤ 0 → 0 < v.gas → Runs p blocks xs ys cols dols w s budget (progress.Paused v m)
-  runs_pause none_left gas =
+  pub runs_pause : min budget w.gas ≤ turns → 0 < v.gas → Runs p blocks xs ys cols dols w v s budget (Ok (Some m))
+  runs_pause end gas =
       record {
         says = λ g f h z.
             let t = r.says g f h z in
             record {
               front = t.front;
-              is = t.same ∙ ap (the_run p g left v.gas) t.holds.is ∙ run_waits p g left v.gas t.holds.row t.holds.lineage t.holds.waiting t.holds.notes (omega (arith, none_left)) gas ∙ ap (paused v.gas) (sym t.holds.is);
+              is = t.same ∙ ap (the_run p g (budget - turns) v.gas) t.holds.is ∙ run_waits p g (budget - turns) v.gas t.holds.row t.holds.lineage t.holds.waiting t.holds.notes (omega (arith, t.spent)) gas ∙ ap (paused v.gas) (sym t.holds.is);
               holds = t.holds;
             };
         bytes = r.bytes;
@@ -150,14 +145,14 @@ module _ {p : Program} {blocks xs ys cols dols : List ℕ} {w v : Walk} {s m : M
       }
 
   -- no unit is left
-  pub runs_close : (q : Walk) → v.gas ≡ 0 → ClosesCurrent p ys v q → Runs p blocks xs ys cols dols w s budget (progress.Ended q)
+  pub runs_close : (q : Walk) → v.gas ≡ 0 → ClosesCurrent p ys v q → Runs p blocks xs ys cols dols w q s budget (Ok None)
   runs_close q gas closes =
       record {
         says = λ g f h z.
             let t = r.says g f h z in
             record {
               notes = close_all (row_of g.rows) t.holds.waiting (gas_stop t.holds.notes);
-              is = t.same ∙ ap (the_run p g left v.gas) t.holds.is ∙ run_stops p g left v.gas t.holds.row t.holds.lineage t.holds.waiting t.holds.notes gas;
+              is = t.same ∙ ap (the_run p g (budget - turns) v.gas) t.holds.is ∙ run_stops p g (budget - turns) v.gas t.holds.row t.holds.lineage t.holds.waiting t.holds.notes gas;
               end = closes.says g blocks dols t.holds.waiting t.holds.notes t.holds.walk;
             };
         bytes = r.bytes;
@@ -165,90 +160,69 @@ module _ {p : Program} {blocks xs ys cols dols : List ℕ} {w v : Walk} {s m : M
       }
 
   -- a turn
-  module _ (some_left : 0 < left) (gas : 0 < v.gas) (zs eols : List ℕ) (t : Turn) (turns : Turns p blocks ys zs dols eols v m t) where
-    pub runs_refused : (k : ℕ) → t ≡ turned.Over k → Runs p blocks xs zs cols eols w s budget (progress.Refused k)
-    runs_refused k e =
+  module _ (lt : turns < min budget w.gas) (zs eols : List ℕ) (u : Walk) where
+    pub runs_refused : (k : Refusal) → Turns p blocks ys zs dols eols v u m (Err k) → Runs p blocks xs zs cols eols w u s budget (Err k)
+    runs_refused k turn =
         record {
           says = λ g f h z.
               let b = r.says g f h z in
-              let c = as_over.says g b.front b.holds in
-              record { notes = c.notes; is = b.same ∙ run_over p g left v.gas b.front (refused_with k c.notes) some_left gas c.is };
-          bytes = turns.bytes ∙ r.bytes;
-          columns = turns.columns ∙ r.columns;
+              let c = turn.says g b.front b.holds in
+              record { notes = c.notes; is = b.same ∙ run_over p g (budget - turns) v.gas b.front (refused_with (number_of k) c.notes) (omega (arith, lt)) (omega (arith, lt, b.spent)) c.is };
+          bytes = turn.bytes ∙ r.bytes;
+          columns = turn.columns ∙ r.columns;
+        }
+
+    pub runs_ended : (o : Option MemoryState) → Turns p blocks ys zs dols eols v u m (Ok o) → o ≡ None → Runs p blocks xs zs cols eols w u s budget (Ok None)
+    runs_ended o turning is =
+        let turn = subst (λ i. Turns p blocks ys zs dols eols v u m (Ok i)) is turning in
+        record {
+          says = λ g f h z.
+              let b = r.says g f h z in
+              let c = turn.says g b.front b.holds in
+              let n = c.holds in
+              record {
+                notes = n.notes;
+                is = b.same ∙ run_goes p g (budget - turns) v.gas b.front c.front (omega (arith, lt)) (omega (arith, lt, b.spent)) c.is ∙ ap (the_run p g (budget - turns - 1) (v.gas - 1)) n.is ∙ run_none eq_state (row_of g.rows) (ways (meaning_of p.limit g.records) g.rows) (units g.rows) (budget - turns - 1) (v.gas - 1) n.notes;
+                end = record { walk = n.walk; few = few_then n (notes_then g b c n) };
+              };
+          bytes = turn.bytes ∙ r.bytes;
+          columns = turn.columns ∙ r.columns;
         }
       where
-        as_over : Turns p blocks ys zs dols eols v m (turned.Over k)
-        as_over = subst (Turns p blocks ys zs dols eols v m) e turns
+        few_then : {g : Given} {d : Fronted Defined ResultRow} (n : HoldsNone p g blocks zs eols u d) → n.notes.gasstops ≡ 0 → Few u
+        few_then n z =
+            record {
+              charged = omega (arith, n.walk.counts.gas_few);
+              loopstops = omega (arith, n.walk.counts.gas_few, n.walk.counts.loopstops_few);
+              gasstops = omega (arith, n.walk.counts.gasstops, z);
+              repeats = omega (arith, n.walk.counts.gas_few, n.walk.counts.repeats_few);
+              width = n.walk.list.wide;
+            }
 
-    module _ (fr : Front) (e : t ≡ turned.Goes fr) where
-      pub runs_ended : (u : Walk) → fr ≡ front.NoneLeft u → Runs p blocks xs zs cols eols w s budget (progress.Ended u)
-      runs_ended u d =
-          record {
-            says = λ g f h z.
-                let b = r.says g f h z in
-                let c = as_none.says g b.front b.holds in
-                let n = c.holds in
-                record {
-                  notes = n.notes;
-                  is = b.same ∙ run_goes p g left v.gas b.front c.front some_left gas c.is ∙ ap (the_run p g (left - 1) (v.gas - 1)) n.is ∙ run_none eq_state (row_of g.rows) (ways (meaning_of p.limit g.records) g.rows) (units g.rows) (left - 1) (v.gas - 1) n.notes;
-                  end = record { walk = n.walk; few = few_then n (notes_then g b c n) };
-                };
-            bytes = turns.bytes ∙ r.bytes;
-            columns = turns.columns ∙ r.columns;
-          }
-        where
-          few_then : {g : Given} {d : Fronted Defined ResultRow} (n : HoldsNone p g blocks zs eols u d) → n.notes.gasstops ≡ 0 → Few u
-          few_then n z =
-              record {
-                charged = omega (arith, n.walk.counts.gas_few);
-                loopstops = omega (arith, n.walk.counts.gas_few, n.walk.counts.loopstops_few);
-                gasstops = omega (arith, n.walk.counts.gasstops, z);
-                repeats = omega (arith, n.walk.counts.gas_few, n.walk.counts.repeats_few);
-                width = n.walk.list.wide;
-              }
+        notes_then : (g : Given) {f : Fronted Defined ResultRow} (b : Rests p g blocks ys dols v m turns budget w.gas f) (c : Moved p g blocks zs eols u None (the_turn p g b.front)) (n : HoldsNone p g blocks zs eols u c.front) → n.notes.gasstops ≡ 0
+        notes_then g b c n =
+            let noted = subst (NotedTurn b.holds.notes) (sym (ap (the_turn p g) b.holds.is) ∙ c.is) (turn_notes p g b.holds.row b.holds.lineage b.holds.waiting b.holds.notes) in
+            ap (λ x. (notes_at x).gasstops) (sym n.is) ∙ noted.gasstops ∙ ap (λ x. (notes_at x).gasstops) (sym b.holds.is) ∙ b.stops
 
-          notes_then : (g : Given) {f : Fronted Defined ResultRow} (b : Rests p g blocks ys dols v m left budget w.gas f) (c : Moved p g blocks zs eols (front.NoneLeft u) (the_turn p g b.front)) (n : HoldsNone p g blocks zs eols u c.front) → n.notes.gasstops ≡ 0
-          notes_then g b c n =
+    pub runs_next : (o : Option MemoryState) → Turns p blocks ys zs dols eols v u m (Ok o) → (n : MemoryState) → o ≡ Some n → RunsTo p blocks xs zs cols eols w s budget u n (turns + 1)
+    runs_next o turning n is =
+        let turn = subst (λ i. Turns p blocks ys zs dols eols v u m (Ok i)) is turning in
+        record {
+          says = λ g f h z.
+              let b = r.says g f h z in
+              let c = turn.says g b.front b.holds in
               let noted = subst (NotedTurn b.holds.notes) (sym (ap (the_turn p g) b.holds.is) ∙ c.is) (turn_notes p g b.holds.row b.holds.lineage b.holds.waiting b.holds.notes) in
-              ap (λ x. (notes_at x).gasstops) (sym n.is) ∙ noted.gasstops ∙ ap (λ x. (notes_at x).gasstops) (sym b.holds.is) ∙ b.stops
-
-          as_none : Turns p blocks ys zs dols eols v m (turned.Goes (front.NoneLeft u))
-          as_none = subst (Turns p blocks ys zs dols eols v m) (e ∙ ap turned.Goes d) turns
-
-      pub runs_next : (u : Walk) (n : MemoryState) → fr ≡ front.OnRow u n → RunsTo p blocks xs zs cols eols w s budget u n (left - 1)
-      runs_next u n d =
-          record {
-            says = λ g f h z.
-                let b = r.says g f h z in
-                let c = as_row.says g b.front b.holds in
-                let noted = subst (NotedTurn b.holds.notes) (sym (ap (the_turn p g) b.holds.is) ∙ c.is) (turn_notes p g b.holds.row b.holds.lineage b.holds.waiting b.holds.notes) in
-                record {
-                  front = c.front;
-                  holds = c.holds;
-                  same = b.same ∙ run_goes p g left v.gas b.front c.front some_left gas c.is ∙ ap (λ k. the_run p g (left - 1) k c.front) (less_gas g b.holds c.holds (ap (λ x. (notes_at x).charged) (sym c.holds.is) ∙ noted.charged));
-                  stops = noted.gasstops ∙ ap (λ x. (notes_at x).gasstops) (sym b.holds.is) ∙ b.stops;
-                };
-            bytes = turns.bytes ∙ r.bytes;
-            columns = turns.columns ∙ r.columns;
-          }
-        where
-          as_row : Turns p blocks ys zs dols eols v m (turned.Goes (front.OnRow u n))
-          as_row = subst (Turns p blocks ys zs dols eols v m) (e ∙ ap turned.Goes d) turns
-
-          less_gas : (g : Given) {f d : Fronted Defined ResultRow} (b : HoldsRow p g blocks ys dols v m f) (c : HoldsRow p g blocks zs eols u n d) → c.notes.charged ≡ b.notes.charged + 1 → v.gas - 1 ≡ u.gas
-          less_gas g b c e = omega (arith, b.walk.all, c.walk.all, b.walk.counts.charged, c.walk.counts.charged, e)
-
-  -- the state goes on, and the walk is charged
-  pub runs_stays : 0 < left → 0 < v.gas → (zs eols : List ℕ) (t : Turn) → Turns p blocks ys zs dols eols v m t → (n : MemoryState) → t ≡ turned.Stays n → (u : Walk) → u ≡ charge_one v → RunsTo p blocks xs zs cols eols w s budget u n (left - 1)
-  runs_stays some_left gas zs eols t turns n e u f =
-      subst (λ y. RunsTo p blocks xs zs cols eols w s budget y n (left - 1)) (sym f)
-      (runs_next some_left gas zs eols (turned.Goes (front.OnRow (charge_one v) n)) as_goes (front.OnRow (charge_one v) n) refl (charge_one v) n refl)
-    where
-      as_stays : Turns p blocks ys zs dols eols v m (turned.Stays n)
-      as_stays = subst (Turns p blocks ys zs dols eols v m) e turns
-
-      as_goes : Turns p blocks ys zs dols eols v m (turned.Goes (front.OnRow (charge_one v) n))
-      as_goes = record { says = λ g f h. as_stays.says g f h; bytes = as_stays.bytes; columns = as_stays.columns }
-
-  pub runs_as : (zs eols : List ℕ) (u u' : Walk) (n n' : MemoryState) (k : ℕ) → u' ≡ u → n' ≡ n → RunsTo p blocks xs zs cols eols w s budget u n k → RunsTo p blocks xs zs cols eols w s budget u' n' k
-  runs_as zs eols u u' n n' k e f h = subst (λ y. RunsTo p blocks xs zs cols eols w s budget y n' k) (sym e) (subst (λ y. RunsTo p blocks xs zs cols eols w s budget u y k) (sym f) h)
+              let less : u.gas + 1 ≡ v.gas = less_gas g b.holds c.holds (ap (λ x. (notes_at x).charged) (sym c.holds.is) ∙ noted.charged) in
+              record {
+                front = c.front;
+                holds = c.holds;
+                same = b.same ∙ run_goes p g (budget - turns) v.gas b.front c.front (omega (arith, lt)) (omega (arith, lt, b.spent)) c.is ∙ ap₂ (λ k i. the_run p g k i c.front) (omega arith) (omega (arith, less));
+                spent = omega (arith, less, b.spent);
+                stops = noted.gasstops ∙ ap (λ x. (notes_at x).gasstops) (sym b.holds.is) ∙ b.stops;
+              };
+          bytes = turn.bytes ∙ r.bytes;
+          columns = turn.columns ∙ r.columns;
+        }
+      where
+        less_gas : (g : Given) {f d : Fronted Defined ResultRow} (b : HoldsRow p g blocks ys dols v m f) (c : HoldsRow p g blocks zs eols u n d) → c.notes.charged ≡ b.notes.charged + 1 → u.gas + 1 ≡ v.gas
+        less_gas g b c e = omega (arith, b.walk.all, c.walk.all, b.walk.counts.charged, c.walk.counts.charged, e)

@@ -2,7 +2,7 @@
 use mathlib.Core.Path.{◌≡◌, refl, sym, ap, subst, ◌∙◌}
 use mathlib.Core.Logic.{inl}
 use mathlib.Core.Bool.{true, false}
-use mathlib.Core.Option.{none, some}
+use Rattle.std.specs.Prelude.{None, Some}
 use mathlib.Core.List.{List, [], ◌∷◌}
 use Prim.Native.Nat.{ℕ, ◌+◌, ◌-◌, ◌<◌, ◌≤◌}
 use native.Mathlib.Omega.{arith}
@@ -12,36 +12,30 @@ use Rattle.model.specs.State.{MemoryState as Defined}
 use Rattle.model.specs.Results.{ResultRow}
 use Rattle.model.specs.Explain.{row_of}
 use Rattle.area.specs.Cells.{cells, Inside}
-use Rattle.area.specs.declared.Cell.{Cell}
 use Rattle.intmap.specs.Signed.{offset, int_of}
 use Rattle.branches.specs.Header.{row_at}
 use Rattle.branches.specs.Entries.{Kept, lineages, Waiting, IsKept}
 use Rattle.branches.specs.Lists.{Taken}
 use Rattle.branches.specs.declared.BranchList.{BranchList}
-use Rattle.branches.specs.declared.Popped.{Popped}
-use Rattle.branches.specs.declared.Popped.TheVariants as popped
 use Rattle.walk.specs.Walks.{in_listing, Given, bound_of, HoldsWalk}
-use Rattle.walk.specs.Loop.{Walking, with_branches, Takes}
+use Rattle.walk.specs.Loop.{Walking, Takes}
 use Rattle.branches.specs.Changes.{Latest, PopsAny}
 use Rattle.walk.specs.declared.Program.{Program}
 use Rattle.walk.specs.declared.Walk.{Walk}
-use Rattle.walk.specs.declared.Taken.TheVariants as taken
 use Rattle.branches.proofs.BlockLaws.{blocks_span}
+use Rattle.walk.proofs.BranchLaws.{with_branches}
 use Rattle.walk.proofs.ListLaws.{in_listing_lem, outside, stands}
 
--- with these branches left, the front is still the one of the whole
-pub record Reached (p : Program) (g : Given) (blocks xs cols : List ℕ) (w : Walk) (b : BranchList) (ls : List (Lineage Defined)) (n : Notes Defined ResultRow) : Type 0 where
+-- of this walk, with what is left of the branches, the front is still the one of the whole
+pub record Reached (p : Program) (g : Given) (blocks xs cols : List ℕ) (v : Walk) (ls : List (Lineage Defined)) (n : Notes Defined ResultRow) : Type 0 where
   pub waiting : List (Lineage Defined)
   pub notes : Notes Defined ResultRow
   pub same : take_up (row_of g.rows) ls n ≡ take_up (row_of g.rows) waiting notes
-  pub holds : HoldsWalk p g blocks xs cols (with_branches w b) waiting notes
+  pub holds : HoldsWalk p g blocks xs cols v waiting notes
 
-pub record Reaching (p : Program) (xs : List ℕ) (w : Walk) (b : BranchList) : Type 0 where
-  pub says : (g : Given) (blocks cols : List ℕ) (ls : List (Lineage Defined)) (n : Notes Defined ResultRow) → HoldsWalk p g blocks xs cols w ls n → Reached p g blocks xs cols w b ls n
-  pub few : b.last ≤ w.branches.last
-
-pub reach_first : (p : Program) (xs : List ℕ) (w : Walk) → Reaching p xs w w.branches
-reach_first p xs w = record { says = λ g blocks cols ls n h. record { waiting = ls; notes = n; same = refl; holds = h }; few = omega arith }
+pub record Reaching (p : Program) (xs : List ℕ) (w v : Walk) : Type 0 where
+  pub says : (g : Given) (blocks cols : List ℕ) (ls : List (Lineage Defined)) (n : Notes Defined ResultRow) → HoldsWalk p g blocks xs cols w ls n → Reached p g blocks xs cols v ls n
+  pub few : v.branches.last ≤ w.branches.last
 
 -- a turn of the definition
 module _ (g : Given) where
@@ -49,11 +43,11 @@ module _ (g : Given) where
   unfolding take_up
   ended n = refl
 
-  passed : (l : Lineage Defined) (ls : List (Lineage Defined)) (n : Notes Defined ResultRow) → row_of g.rows l.mem ≡ none → take_up (row_of g.rows) (l ∷ ls) n ≡ take_up (row_of g.rows) ls (note_taken l.mem n)
+  passed : (l : Lineage Defined) (ls : List (Lineage Defined)) (n : Notes Defined ResultRow) → row_of g.rows l.mem ≡ None → take_up (row_of g.rows) (l ∷ ls) n ≡ take_up (row_of g.rows) ls (note_taken l.mem n)
   unfolding take_up
   passed l ls n e = rw (e, take_up)
 
-  taken_up_lem : (l : Lineage Defined) (ls : List (Lineage Defined)) (n : Notes Defined ResultRow) (row : ℕ) → row_of g.rows l.mem ≡ some row → take_up (row_of g.rows) (l ∷ ls) n ≡ on_row row l ls (note_taken l.mem n)
+  taken_up_lem : (l : Lineage Defined) (ls : List (Lineage Defined)) (n : Notes Defined ResultRow) (row : ℕ) → row_of g.rows l.mem ≡ Some row → take_up (row_of g.rows) (l ∷ ls) n ≡ on_row row l ls (note_taken l.mem n)
   unfolding take_up
   taken_up_lem l ls n row e = rw (e, take_up)
 
@@ -105,120 +99,95 @@ module _ {p : Program} {g : Given} {blocks xs cols : List ℕ} {w : Walk} {ls : 
   its_row = subst (λ q. int_of (row_at (cells xs) q) ≡ t.taken.mem.program_i) t.at is_kept.holds.row
 
 -- what is asked of the next turn
-module _ {p : Program} {xs : List ℕ} {w : Walk} {b : BranchList} (r : Reaching p xs w b) where
-  now : Walking p xs w → Walking p xs (with_branches w b)
+module _ {p : Program} {xs : List ℕ} {w v : Walk} (r : Reaching p xs w v) where
+  now : Walking p xs w → Walking p xs v
   now a =
       let h = r.says a.given a.blocks a.cols a.waiting a.notes a.holds in
       record { given = a.given; blocks = a.blocks; cols = a.cols; waiting = h.waiting; notes = h.notes; holds = h.holds }
 
-  -- nothing waits: no lineage is left
-  module _ (e : b.last ≡ 0) where
-    none_wait : (cs : List Cell) (link : ℕ) (ws : List Kept) → link ≡ 0 → Waiting cs link ws → lineages ws ≡ []
-    none_wait cs link [] z h = refl
-    none_wait cs link (k ∷ ks) z h = absurd (omega (arith, h.0, h.1, z))
-
-    pub reach_end : (v : Walk) → v ≡ with_branches w b → Takes p xs w (taken.Nothing v)
-    reach_end v f = subst (λ u. Takes p xs w (taken.Nothing u)) (sym f)
-        (record {
-          says = λ g blocks cols ls n h.
-              let a = r.says g blocks cols ls n h in
-              let empty : a.waiting ≡ [] = sym a.holds.list.waits ∙ none_wait (cells xs) b.last a.holds.list.wait e a.holds.list.remembers.waiting in
-              record {
-                notes = a.notes;
-                is = a.same ∙ ap (λ l. take_up (row_of g.rows) l a.notes) empty ∙ ended g a.notes;
-                holds = subst (λ l. HoldsWalk p g blocks xs cols (with_branches w b) l a.notes) empty a.holds;
-              };
-          less = tt;
-        })
-
-  module _ (x : Popped) (pops : PopsAny xs b x) where
-    -- nothing waits, by the answer
-    pub reach_nothing : x ≡ popped.Nothing → (v : Walk) → v ≡ with_branches w b → Takes p xs w (taken.Nothing v)
-    reach_nothing e v f = subst (λ u. Takes p xs w (taken.Nothing u)) (sym f)
-        (record {
-          says = λ g blocks cols ls n h.
-              let a = r.says g blocks cols ls n h in
-              let empty : a.waiting ≡ [] = sym a.holds.list.waits ∙ ap lineages ((as_nothing.pops p.limit p.size).says (bound_of w) a.holds.list.all a.holds.list.wait a.holds.list.remembers) in
-              record {
-                notes = a.notes;
-                is = a.same ∙ ap (λ l. take_up (row_of g.rows) l a.notes) empty ∙ ended g a.notes;
-                holds = subst (λ l. HoldsWalk p g blocks xs cols (with_branches w b) l a.notes) empty a.holds;
-              };
-          less = tt;
-        })
-      where
-        as_nothing : PopsAny xs b popped.Nothing
-        as_nothing = subst (PopsAny xs b) e pops
-
-    module _ (c : BranchList) (at : ℕ) (e : x ≡ popped.At c at) where
-      as_at : PopsAny xs b (popped.At c at)
-      as_at = subst (PopsAny xs b) e pops
-
-      -- what was taken, of a walk that is held
-      one : {g : Given} {blocks cols : List ℕ} {ls : List (Lineage Defined)} {n : Notes Defined ResultRow} (h : HoldsWalk p g blocks xs cols (with_branches w b) ls n) → Taken p.limit (bound_of w) p.size xs h.list.all h.list.wait b c at
-      one h = (as_at.pops p.limit p.size).says (bound_of w) h.list.all h.list.wait h.list.remembers
-
-      -- it stands on no row
-      pub reach_next : Walking p xs w → in_listing (row_at (cells xs) at) p ≡ false → Reaching p xs w c
-      reach_next walking out =
-          record {
-            says = λ g blocks cols ls n h.
-                let a = r.says g blocks cols ls n h in
-                let t = one a.holds in
-                record {
-                  waiting = lineages t.rest;
-                  notes = note_taken t.taken.mem a.notes;
-                  same = a.same ∙ ap (λ l. take_up (row_of g.rows) l a.notes) (waits_as a.holds c at t) ∙
-                      passed g (lineage_of a.holds c at t) (lineages t.rest) a.notes
-                      (outside p g.rows t.taken.mem (row_at (cells xs) at) a.holds.list.size (its_row a.holds c at t) out);
-                  holds = without a.holds c at t;
-                };
-            few = omega (arith, r.few, (one (now walking).holds).last);
-          }
-
-      -- or on one
-      pub reach_row : Walking p xs w → in_listing (row_at (cells xs) at) p ≡ true → (v : Walk) → v ≡ with_branches w c → Takes p xs w (taken.At v at)
-      reach_row walking in-it v f = subst (λ u. Takes p xs w (taken.At u at)) (sym f)
-          (record {
-            says = λ g blocks cols ls n h.
-                let a = r.says g blocks cols ls n h in
-                let t = one a.holds in
-                let i = in_listing_lem p (row_at (cells xs) at) in-it in
-                record {
-                  waiting = lineages t.rest;
-                  notes = note_taken t.taken.mem a.notes;
-                  holds = without a.holds c at t;
-                  one = t.taken;
-                  among = among_all a.holds c at t;
-                  place = t.at;
-                  above = i.above;
-                  within = i.below;
-                  is = a.same ∙ ap (λ l. take_up (row_of g.rows) l a.notes) (waits_as a.holds c at t) ∙
-                      taken_up_lem g (lineage_of a.holds c at t) (lineages t.rest) a.notes (row_at (cells xs) at - offset)
-                      (stands g.rows t.taken.mem (row_at (cells xs) at) (its_row a.holds c at t) i.above (omega (arith, i.below, a.holds.list.size)));
-                };
-            less = omega (arith, r.few, (one (now walking).holds).last);
-          })
-
-      -- what is asked of the read of its row, and that fewer wait
-      module _ (a : Walking p xs w) where
-        some_taken : Taken p.limit (bound_of w) p.size xs (now a).holds.list.all (now a).holds.list.wait b c at
-        some_taken = one (now a).holds
-
-        pub reach_less : c.last < b.last
-        reach_less = some_taken.last
-
-        pub reach_inside : Inside xs at 1
-        reach_inside =
-            let span = blocks_span (cells xs) p.size b.first b.top (now a).holds.list.all (now a).holds.list.remembers.blocks some_taken.taken (among_all (now a).holds c at some_taken) in
-            record { within = omega (arith, span.1, some_taken.at, (now a).holds.list.remembers.inside); small = (now a).holds.list.remembers.small }
-
-  -- and of taking one
-  pub reach_latest : Walking p xs w → Latest xs b
+  -- that one can be taken
+  pub reach_latest : Walking p xs w → Latest xs v.branches
   reach_latest a = record { header = λ ne. there (now a).holds.list.wait ne (now a).holds.list.remembers.waiting (now a).holds.list.remembers.among; small = (now a).holds.list.remembers.small }
     where
-      there : (ws : List Kept) → (b.last ≡ 0 → ⊥) → Waiting (cells xs) b.last ws → ((k : Kept) → k ∈ ws → k ∈ (now a).holds.list.all) → b.last + 2 ≤ length (cells xs)
+      there : (ws : List Kept) → (v.branches.last ≡ 0 → ⊥) → Waiting (cells xs) v.branches.last ws → ((k : Kept) → k ∈ ws → k ∈ (now a).holds.list.all) → v.branches.last + 2 ≤ length (cells xs)
       there [] ne h among = absurd (ne h)
       there (k ∷ ks) ne h among =
-          let span = blocks_span (cells xs) p.size b.first b.top (now a).holds.list.all (now a).holds.list.remembers.blocks k (among k (inl refl)) in
+          let span = blocks_span (cells xs) p.size v.branches.first v.branches.top (now a).holds.list.all (now a).holds.list.remembers.blocks k (among k (inl refl)) in
           omega (arith, span.1, h.0, (now a).holds.list.remembers.inside)
+
+  -- nothing waits: no lineage is left
+  pub reach_end : (c : BranchList) → PopsAny xs v.branches c None → Takes p xs w (with_branches v c) None
+  reach_end c pops =
+      record {
+        says = λ g blocks cols ls n h.
+            let a = r.says g blocks cols ls n h in
+            let none = (pops.pops p.limit p.size).says (bound_of v) a.holds.list.all a.holds.list.wait a.holds.list.remembers in
+            let empty : a.waiting ≡ [] = sym a.holds.list.waits ∙ ap lineages none in
+            let same : c ≡ v.branches = (pops.none (subst (Waiting (cells xs) v.branches.last) none a.holds.list.remembers.waiting)).1 in
+            record {
+              notes = a.notes;
+              is = a.same ∙ ap (λ l. take_up (row_of g.rows) l a.notes) empty ∙ ended g a.notes;
+              holds = subst (λ b. HoldsWalk p g blocks xs cols (with_branches v b) [] a.notes) (sym same) (subst (λ l. HoldsWalk p g blocks xs cols v l a.notes) empty a.holds);
+            };
+        less = tt;
+      }
+
+  module _ (c : BranchList) (at : ℕ) (pops : PopsAny xs v.branches c (Some at)) where
+    -- what was taken, of a walk that is held
+    one : {g : Given} {blocks cols : List ℕ} {ls : List (Lineage Defined)} {n : Notes Defined ResultRow} (h : HoldsWalk p g blocks xs cols v ls n) → Taken p.limit (bound_of v) p.size xs h.list.all h.list.wait v.branches c at
+    one h = (pops.pops p.limit p.size).says (bound_of v) h.list.all h.list.wait h.list.remembers
+
+    -- it stands on no row
+    pub reach_next : Walking p xs w → in_listing (row_at (cells xs) at) p ≡ false → Reaching p xs w (with_branches v c)
+    reach_next walking out =
+        record {
+          says = λ g blocks cols ls n h.
+              let a = r.says g blocks cols ls n h in
+              let t = one a.holds in
+              record {
+                waiting = lineages t.rest;
+                notes = note_taken t.taken.mem a.notes;
+                same = a.same ∙ ap (λ l. take_up (row_of g.rows) l a.notes) (waits_as a.holds c at t) ∙
+                    passed g (lineage_of a.holds c at t) (lineages t.rest) a.notes
+                    (outside p g.rows t.taken.mem (row_at (cells xs) at) a.holds.list.size (its_row a.holds c at t) out);
+                holds = without a.holds c at t;
+              };
+          few = omega (arith, r.few, (one (now walking).holds).last);
+        }
+
+    -- or on one
+    pub reach_row : Walking p xs w → in_listing (row_at (cells xs) at) p ≡ true → Takes p xs w (with_branches v c) (Some at)
+    reach_row walking in-it =
+        record {
+          says = λ g blocks cols ls n h.
+              let a = r.says g blocks cols ls n h in
+              let t = one a.holds in
+              let i = in_listing_lem p (row_at (cells xs) at) in-it in
+              record {
+                waiting = lineages t.rest;
+                notes = note_taken t.taken.mem a.notes;
+                holds = without a.holds c at t;
+                one = t.taken;
+                among = among_all a.holds c at t;
+                place = t.at;
+                above = i.above;
+                within = i.below;
+                is = a.same ∙ ap (λ l. take_up (row_of g.rows) l a.notes) (waits_as a.holds c at t) ∙
+                    taken_up_lem g (lineage_of a.holds c at t) (lineages t.rest) a.notes (row_at (cells xs) at - offset)
+                    (stands g.rows t.taken.mem (row_at (cells xs) at) (its_row a.holds c at t) i.above (omega (arith, i.below, a.holds.list.size)));
+              };
+          less = omega (arith, r.few, (one (now walking).holds).last);
+        }
+
+    -- what is asked of the read of its row, and that fewer wait
+    module _ (a : Walking p xs w) where
+      some_taken : Taken p.limit (bound_of v) p.size xs (now a).holds.list.all (now a).holds.list.wait v.branches c at
+      some_taken = one (now a).holds
+
+      pub reach_less : c.last < v.branches.last
+      reach_less = some_taken.last
+
+      pub reach_inside : Inside xs at 1
+      reach_inside =
+          let span = blocks_span (cells xs) p.size v.branches.first v.branches.top (now a).holds.list.all (now a).holds.list.remembers.blocks some_taken.taken (among_all (now a).holds c at some_taken) in
+          record { within = omega (arith, span.1, some_taken.at, (now a).holds.list.remembers.inside); small = (now a).holds.list.remembers.small }

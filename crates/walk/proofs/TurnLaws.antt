@@ -2,14 +2,14 @@
 use mathlib.Core.Path.{◌≡◌, refl, sym, ap, subst, ◌∙◌}
 use mathlib.Core.Logic.{◌⊎◌, inl, inr}
 use mathlib.Core.Bool.{Bool, true, false, true≢false}
-use mathlib.Core.Option.{Option, some}
+use Rattle.std.specs.Prelude.{Option, Some, Result, Ok, Err, slice_get, None}
 use mathlib.Core.List.{List, ◌∷◌}
 use Prim.Native.Nat.{ℕ, ◌+◌, ◌-◌, ◌<◌, ◌≤◌}
 use native.Mathlib.Omega.{arith}
 use lib.Dec.{ltb, eqb}
-use lib.ListN.{length, get_or, get_elem?}
+use lib.ListN.{length, get_or}
 use borrow.Author.Tests.{lt-ltb, le-ltb, eqb-true, eq-eqb}
-use Rattle.model.specs.Walk.{count, times, one_if, Lineage, Notes, add_row, charge, loop_stop, note_handled, Front as Fronted, on_row, take_up, Turn as Turned, goes, handled_before, handle_if, turn}
+use Rattle.model.specs.Walk.{count, times, one_if, Lineage, Notes, add_row, charge, loop_stop, note_handled, Front as Fronted, on_row, take_up, goes, handled_before, handle_if, turn}
 use Rattle.model.specs.Row.{Row as Listed}
 use Rattle.model.specs.State.{MemoryState as Defined}
 use Rattle.model.specs.Results.{ResultRow}
@@ -17,6 +17,8 @@ use Rattle.model.specs.Operation.{operation_of}
 use Rattle.model.specs.Access.{next}
 use Rattle.model.specs.Offer.{Offer, row_at}
 use Rattle.model.specs.Explain.{arm, at_row, ways, row_of}
+use Rattle.refusal.specs.Numbers.{number_of}
+use Rattle.refusal.specs.declared.Refusal.{Refusal}
 use Rattle.area.specs.Cells.{blank, cells, Inside}
 use Rattle.area.specs.Counts.{count as count_at, home, Raised}
 use Rattle.area.specs.declared.Cell.{Cell}
@@ -26,35 +28,31 @@ use Rattle.intmap.specs.Signed.{offset}
 use Rattle.intmap.proofs.SignedLaws.{row_above}
 use Rattle.intmap.proofs.SameCells.{size_same, sizes_same}
 use Rattle.intmap.proofs.StoreLaws.{room_map}
-use Rattle.encoding.proofs.Held.{held_elsewhere, held_more}
+use Rattle.encoding.proofs.Held.{held_elsewhere}
 use Rattle.rows.specs.Rows.{row_in}
 use Rattle.rows.specs.Judged.{Judged, SomeRows}
 use Rattle.rows.specs.declared.Row.{Row}
-use Rattle.state.specs.Steps.{HoldsState, TellsWay, Lies, LiesAt, StaysAt}
+use Rattle.state.specs.Steps.{HoldsState, TellsWay, Lies, LiesAt, StaysAt, Way}
 use Rattle.state.specs.declared.MemoryState.{MemoryState}
-use Rattle.state.specs.declared.Way.{Way}
-use Rattle.state.specs.declared.Way.TheVariants as way
 use Rattle.jump_arms.specs.Arms.{Ready}
 use Rattle.branches.specs.Entries.{Counted}
 use Rattle.branches.specs.Lists.{Offers as Below-them}
 use Rattle.branches.proofs.RememberLaws.{Bytes, counted-kept}
 use Rattle.branches.proofs.BlockLaws.{blocks_low}
-use Rattle.walk.specs.Walks.{rows_from, counts_from, first_from, Given, bound_of, HoldsList, Counts, HoldsWalk, HoldsRow, in_listing, TellsTurn, the_following, the_turn}
+use Rattle.walk.specs.Walks.{rows_from, counts_from, first_from, Given, bound_of, HoldsList, Counts, HoldsWalk, HoldsRow, TellsTurn, the_following, the_turn}
 use Rattle.root_block.specs.Blocks.{IsBlocks}
 use Rattle.in_place.specs.InPlace.{ReadyAt, HandlesNear}
-use Rattle.explain.specs.Handles.{row_on, meaning_of, TellsHandling, LeavesHandling, Handles}
-use Rattle.walk.specs.Loop.{Walking, note_repeated, alone, alone_by, settled, Turning, MayOffer, MayFollow, StaysHere, Follows, TakesUp, charge_one, stop_loop, Standing, Turns}
+use Rattle.explain.specs.Handles.{row_on, meaning_of, TellsHandling, LeavesHandling, Handles, Handled}
+use Rattle.counters.specs.Counted.{one_loopstop}
+use Rattle.counters.specs.declared.Counters.{Counters}
+use Rattle.walk.specs.Loop.{Walking, Turning, MayOffer, MayFollow, StaysHere, Follows, TakesUp, charge_one, Standing, Turns}
 use Rattle.explain.specs.declared.Handling.{Handling}
 use Rattle.explain.specs.declared.Handling.TheVariants as handling
 use Rattle.walk.specs.declared.Program.{Program}
 use Rattle.walk.specs.declared.Walk.{Walk}
-use Rattle.walk.specs.declared.Front.{Front}
-use Rattle.walk.specs.declared.Front.TheVariants as front
-use Rattle.walk.specs.declared.Turn.{Turn}
-use Rattle.walk.specs.declared.Turn.TheVariants as turned
-use Rattle.walk.proofs.ListLaws.{Element, element_within, list_as, list_kept, listing_in}
+use Rattle.walk.proofs.ListLaws.{Element, element_within, list_as, list_kept, listing_in, with_counts}
 use Rattle.walk.proofs.UpLaws.{goes_row}
-use Rattle.walk.proofs.FollowLaws.{ways_nowhere}
+use Rattle.walk.proofs.FollowLaws.{follow_refused, way_none, ways_goes}
 use Rattle.walk.proofs.AllLaws.{all_ways}
 
 -- ---- the definition
@@ -69,11 +67,15 @@ module _ (p : Program) (g : Given) (row : ℕ) (l : Lineage Defined) (ls : List 
   turn_handled h = rw (lt-ltb (count row l.past) 3 h)
 
 -- the row's arm
-arm_at : (p : Program) (g : Given) (again : Bool) (m : Defined) (x : Listed) → row_at g.rows m.program_i ≡ some x → ways (meaning_of p.limit g.records) g.rows again m ≡ arm (meaning_of p.limit g.records) g.rows again m x (operation_of x.op)
+arm_at : (p : Program) (g : Given) (again : Bool) (m : Defined) (x : Listed) → row_at g.rows m.program_i ≡ Some x → ways (meaning_of p.limit g.records) g.rows again m ≡ arm (meaning_of p.limit g.records) g.rows again m x (operation_of x.op)
 unfolding ways
 arm_at p g again m x e = ap (at_row (meaning_of p.limit g.records) g.rows again m) e
 
 -- ---- what is charged
+
+-- a loop stop more
+abbrev pub stop_loop : Walk → Walk
+stop_loop w = with_counts w (one_loopstop w.counts)
 
 recount : {w : Walk} {n m : Notes Defined ResultRow} → n.charged ≡ m.charged → n.loopstops ≡ m.loopstops → n.gasstops ≡ m.gasstops → n.repeats ≡ m.repeats → Counts w n → Counts w m
 recount a b c d h =
@@ -119,10 +121,6 @@ module _ {p : Program} {g : Given} {blocks xs cols : List ℕ} {w : Walk} {ls : 
         };
         all = omega (arith, h.all);
       }
-
-  -- one bound more
-  state_charged : (s : MemoryState) (m : Defined) → HoldsState p.limit (bound_of w) (cells xs) s m → HoldsState p.limit (bound_of (charge_one w)) (cells xs) s m
-  state_charged s m held = record { row = held.row; map = held_more p.limit (bound_of w) (cells xs) _ _ _ m held.map (bound_of (charge_one w)) (omega arith) (omega (arith, h.counts.gas_few)) }
 
 -- ---- a count raised
 
@@ -213,8 +211,8 @@ module _ {p : Program} {g : Given} {blocks xs cols : List ℕ} {w : Walk} {s : M
     judged : (x : Row) → x ≡ row_in (get_or (cells ys) (rows_from p + k) blank) → Judged listed.element x
     judged x e = subst (Judged listed.element) (ap (λ i. row_in (get_or (cells ys) (rows_from p + i) blank)) (sym row_is) ∙ sym e) (raised_list.rows r.row listed.element listed.is)
 
-    its_row : row_at g.rows r.lineage.mem.program_i ≡ some listed.element
-    its_row = ap (row_at g.rows) (sym r.current.state.row) ∙ row_above s.row g.rows (omega (arith, r.at)) ∙ ap (get_elem? g.rows) row_is ∙ listed.is
+    its_row : row_at g.rows r.lineage.mem.program_i ≡ Some listed.element
+    its_row = ap (row_at g.rows) (sym r.current.state.row) ∙ row_above s.row g.rows (omega (arith, r.at)) ∙ ap (slice_get g.rows) row_is ∙ listed.is
 
     pub is_ready : (x : Row) → x ≡ row_in (get_or (cells ys) (rows_from p + k) blank) → Ready p.limit (cells ys) s x
     is_ready x e =
@@ -248,7 +246,7 @@ module _ {p : Program} {g : Given} {blocks xs cols : List ℕ} {w : Walk} {s : M
     )
 
     -- ---- and it is handled
-    module _ (zs : List ℕ) (low : Bytes zs) (long : length zs ≡ length ys) (x : Row) (e : x ≡ row_in (get_or (cells ys) (rows_from p + k) blank)) (h : Handling) (again : Bool) (is-again : again ≡ ltb 0 (count_at xs (counts_from p) k)) (gas : 0 < w.gas) (handles : Handles p.limit (rows_from p) p.size (cells ys) (cells zs) blocks s x again h) where
+    module _ (zs : List ℕ) (low : Bytes zs) (long : length zs ≡ length ys) (x : Row) (e : x ≡ row_in (get_or (cells ys) (rows_from p + k) blank)) (q : Handled) (again : Bool) (is-again : again ≡ ltb 0 (count_at xs (counts_from p) k)) (gas : 0 < w.gas) (handles : Handles p.limit (rows_from p) p.size (cells ys) (cells zs) blocks s x again q) where
       untouched : (j : ℕ) → rows_from p ≤ j → get_or (cells zs) j blank ≡ get_or (cells ys) j blank
       untouched j le = handles.frame.above j (omega (arith, r.current.base))
 
@@ -263,9 +261,9 @@ module _ {p : Program} {g : Given} {blocks xs cols : List ℕ} {w : Walk} {s : M
       abbrev offer_here : Offer
       offer_here = arm (meaning_of p.limit g.records) g.rows again r.lineage.mem listed.element (operation_of listed.element.op)
 
-      told : TellsHandling p.limit (bound_of (charge_one w)) (cells zs) r.lineage.mem h offer_here
+      told : TellsHandling p.limit (bound_of (charge_one w)) (cells zs) r.lineage.mem q offer_here
       told =
-          subst (λ b. TellsHandling p.limit b (cells zs) r.lineage.mem h offer_here) (omega arith)
+          subst (λ b. TellsHandling p.limit b (cells zs) r.lineage.mem q offer_here) (omega arith)
           (handles.says g.rows g.records listed.element raised_list.rows r.walk.list.size r.walk.list.records (judged x e) (bound_of w) r.lineage.mem (omega arith) (omega (arith, r.walk.counts.gas_few)) raised_state)
 
       abbrev notes_then : Notes Defined ResultRow
@@ -292,12 +290,11 @@ module _ {p : Program} {g : Given} {blocks xs cols : List ℕ} {w : Walk} {s : M
       below_them t lies = record { map = room_map lies.room; most = lies.room.most; below = omega (arith, lies.below, lies.room.most, r.current.base, r.walk.list.first) }
 
       may_offer : (b : Way) (ms : Option Defined) → TellsWay p.limit (bound_of (charge_one w)) (cells zs) b ms → LiesAt p.limit (cells zs) s.map.base b → MayOffer p zs (charge_one w) b
-      may_offer way.Nowhere ms t lies = tt
-      may_offer (way.To b) ms t lies = record { below = below_them b lies; state = t.state; holds = t.held }
+      may_offer None ms t lies = tt
+      may_offer (Some b) ms t lies = record { below = below_them b lies; state = t.state; holds = t.held }
 
-      may : length cols ≡ 2000 → (i : Handling) → TellsHandling p.limit (bound_of (charge_one w)) (cells zs) r.lineage.mem i offer_here → LeavesHandling p.limit (cells zs) s i → MayFollow p zs cols (charge_one w) i
-      may wide (handling.Refused n) t lies = tt
-      may wide (handling.Ways b c q) t lies = may_offer b t.the_branch t.branches lies.0
+      may : length cols ≡ 2000 → (i : Handling) → TellsHandling p.limit (bound_of (charge_one w)) (cells zs) r.lineage.mem (Ok i) offer_here → LeavesHandling p.limit (cells zs) s (Ok i) → MayFollow p zs cols (charge_one w) i
+      may wide (handling.Ways c b) t lies = may_offer c.branch t.the_branch t.branches lies.0
       may wide (handling.Three a b c d) t lies = (
         record { below = below_them a lies.0; state = t.first; holds = t.first_held },
         record { below = below_them b lies.1; state = t.second; holds = t.second_held },
@@ -315,125 +312,92 @@ module _ {p : Program} {g : Given} {blocks xs cols : List ℕ} {w : Walk} {s : M
             has = r.walk.list.columns;
           }
 
-      pub may_follow : length cols ≡ 2000 → MayFollow p zs cols (charge_one w) h
-      may_follow wide = may wide h told handles.leaves
+      leaves : {h : Handling} → q ≡ Ok h → LeavesHandling p.limit (cells zs) s (Ok h)
+      leaves e = subst (LeavesHandling p.limit (cells zs) s) e handles.leaves
 
-      stays : (i : Handling) → LeavesHandling p.limit (cells zs) s i → StaysHere p zs i
-      stays (handling.Refused n) lies = tt
-      stays (handling.Ways b c q) lies = subst (λ z. StaysAt p.limit (cells zs) z c) r.current.base lies.1
-      stays (handling.Three a b c d) lies = subst (λ z. StaysAt p.limit (cells zs) z (way.To d)) r.current.base lies.3
+      told_ok : {h : Handling} → q ≡ Ok h → TellsHandling p.limit (bound_of (charge_one w)) (cells zs) r.lineage.mem (Ok h) offer_here
+      told_ok e = subst (λ i. TellsHandling p.limit (bound_of (charge_one w)) (cells zs) r.lineage.mem i offer_here) e told
+
+      pub may_follow : length cols ≡ 2000 → (h : Handling) → q ≡ Ok h → MayFollow p zs cols (charge_one w) h
+      may_follow wide h e = may wide h (told_ok e) (leaves e)
+
+      stays : (i : Handling) → LeavesHandling p.limit (cells zs) s (Ok i) → StaysHere p zs i
+      stays (handling.Ways c b) lies = subst (λ z. StaysAt p.limit (cells zs) z c.stays) r.current.base lies.1
+      stays (handling.Three a b c d) lies = subst (λ z. StaysAt p.limit (cells zs) z (Some d)) r.current.base lies.3
       stays (handling.Result b first n) lies = tt
 
       -- what the definition's turn gives
-      pub turn_told : (ts dols : List ℕ) (t : Turn) → count r.row r.lineage.past < 3 → Follows p zs ts cols dols (charge_one w) h t → TellsTurn p g blocks ts dols t (the_turn p g f)
-      turn_told ts dols t few follows =
-          subst (TellsTurn p g blocks ts dols t) (sym (ap (the_turn p g) r.is ∙ turn_handled p g r.row r.lineage r.waiting r.notes few ∙ ap (the_following p g (r.row ∷ r.lineage.past) r.waiting notes_then) same_offer))
-          (follows.says g blocks r.waiting notes_then (r.row ∷ r.lineage.past) r.lineage.mem offer_here handled_walk handled_counts told (stays h handles.leaves))
+      turn_is : count r.row r.lineage.past < 3 → the_turn p g f ≡ the_following p g (r.row ∷ r.lineage.past) r.waiting notes_then offer_here
+      turn_is few = ap (the_turn p g) r.is ∙ turn_handled p g r.row r.lineage r.waiting r.notes few ∙ ap (the_following p g (r.row ∷ r.lineage.past) r.waiting notes_then) same_offer
         where
           same_offer : ways (meaning_of p.limit g.records) g.rows (handled_before r.row r.lineage.past) r.lineage.mem ≡ offer_here
           same_offer =
               arm_at p g (handled_before r.row r.lineage.past) r.lineage.mem listed.element its_row ∙
               ap (λ b. arm (meaning_of p.limit g.records) g.rows b r.lineage.mem listed.element (operation_of listed.element.op)) (sym (is-again ∙ ap (ltb 0) handled_is))
 
+      pub turn_told : (h : Handling) → q ≡ Ok h → (ts dols : List ℕ) (u : Walk) (t : Result (Option MemoryState) Refusal) → count r.row r.lineage.past < 3 → Follows p zs ts cols dols (charge_one w) u h t → TellsTurn p g blocks ts dols u t (the_turn p g f)
+      turn_told h f-ok ts dols u t few follows =
+          subst (TellsTurn p g blocks ts dols u t) (sym (turn_is few))
+          (follows.says g blocks r.waiting notes_then (r.row ∷ r.lineage.past) r.lineage.mem offer_here handled_walk handled_counts (told_ok f-ok) (stays h (leaves f-ok)))
+
+      pub turn_refused : (dols : List ℕ) (u : Walk) (k : Refusal) → count r.row r.lineage.past < 3 → q ≡ Err k → TellsTurn p g blocks zs dols u (Err k) (the_turn p g f)
+      turn_refused dols u k few e =
+          record {
+            notes = notes_then;
+            is = turn_is few ∙ follow_refused p g (r.row ∷ r.lineage.past) r.waiting notes_then offer_here (number_of k) (subst (λ i. TellsHandling p.limit (bound_of (charge_one w)) (cells zs) r.lineage.mem i offer_here) e told);
+          }
+
 -- ---- the turn
 
--- what follows is where the walk stands then
-settled-told : (p : Program) (g : Given) (blocks xs cols : List ℕ) (w : Walk) (t : Turn) (d : Turned Defined ResultRow) → TellsTurn p g blocks xs cols t d → TellsTurn p g blocks xs cols (settled w t) d
-settled-told p g blocks xs cols w (turned.Over k) d h = h
-settled-told p g blocks xs cols w (turned.Stays n) d h = absurd h
-settled-told p g blocks xs cols w (turned.Goes r) d h = h
-
--- a state that goes on alone
-abbrev Off : Way → Type 0
-Off way.Nowhere = Unit {0}
-Off (way.To n) = ⊥
-
-pub alone_repeat : (h : Handling) (b s : Way) (q : Bool) → h ≡ handling.Ways b s q → q ≡ true → way.Nowhere ≡ alone h
-alone_repeat h b s q e f = by b ∙ ap (λ z. alone_by b z s) (sym f) ∙ ap alone (sym e)
-  where
-    by : (b : Way) → way.Nowhere ≡ alone_by b true s
-    by way.Nowhere = refl
-    by (way.To n) = refl
-
-no_way : (n : MemoryState) → way.Nowhere ≡ way.To n → ⊥
-no_way n e = subst Off e tt
-
-alone-ways : (h : Handling) (n : MemoryState) → alone h ≡ way.To n → h ≡ handling.Ways way.Nowhere (way.To n) false
-alone-ways (handling.Refused k) n e = absurd (no_way n e)
-alone-ways (handling.Ways b s q) n e = by b q e
-  where
-    by : (b : Way) (q : Bool) → alone_by b q s ≡ way.To n → handling.Ways b s q ≡ handling.Ways way.Nowhere (way.To n) false
-    by way.Nowhere false e = ap (λ z. handling.Ways way.Nowhere z false) e
-    by way.Nowhere true e = absurd (no_way n e)
-    by (way.To b) q e = absurd (no_way n e)
-alone-ways (handling.Three a b c s) n e = absurd (no_way n e)
-alone-ways (handling.Result b first k) n e = absurd (no_way n e)
-
 module _ {p : Program} {blocks xs cols : List ℕ} {w : Walk} {s : MemoryState} (st : Standing p blocks xs cols w s) where
-  pub may_charge : w.counts.charged < 4294967295
-  may_charge = omega (arith, st.gas, st.holds.walk.counts.gas_few)
-
   pub may_count : Inside xs (home (counts_from p) (s.row - offset)) 1
   may_count = count_inside st.holds
 
   module _ (v : Walk) (e : v ≡ charge_one w) where
-    pub may_stop : v.counts.loopstops < 4294967295
-    may_stop =
-        let same : v.counts.loopstops ≡ w.counts.loopstops = ap (λ x. x.counts.loopstops) e in
-        omega (arith, same, st.gas, st.holds.walk.counts.gas_few, st.holds.walk.counts.loopstops_few)
+    stopped : (k : Counters) → k ≡ one_loopstop v.counts → with_counts v k ≡ stop_loop (charge_one w)
+    stopped k f = ap (with_counts v) f ∙ ap stop_loop e
 
-    pub closed_walking : (u : Walk) → u ≡ stop_loop v → Walking p xs u
-    closed_walking u f =
-        subst (Walking p xs) (sym (f ∙ ap stop_loop e))
+    pub closed_walking : (k : Counters) → k ≡ one_loopstop v.counts → Walking p xs (with_counts v k)
+    closed_walking k f =
+        subst (Walking p xs) (sym (stopped k f))
         (record { given = st.given; blocks = blocks; cols = cols; waiting = st.holds.waiting; notes = loop_stop (charge st.holds.notes); holds = closed_walk st.holds.walk st.gas })
 
-    pub turns_closed : (u : Walk) (ys : List ℕ) (handled : ℕ) (fr : Front) → handled ≡ count_at xs (counts_from p) (s.row - offset) → 3 ≤ handled → u ≡ stop_loop v → TakesUp p xs ys u fr → Turns p blocks xs ys cols cols w s (turned.Goes fr)
-    turns_closed u ys handled fr is many f takes =
+    pub turns_closed : (k : Counters) (u : Walk) (ys : List ℕ) (handled : ℕ) (r : Option MemoryState) → handled ≡ count_at xs (counts_from p) (s.row - offset) → 3 ≤ handled → k ≡ one_loopstop v.counts → TakesUp p xs ys (with_counts v k) u r → Turns p blocks xs ys cols cols w u s (Ok r)
+    turns_closed k u ys handled r is many f takes =
         record {
-          says = λ g fd r.
+          says = λ g fd h.
               record {
-                front = take_up (row_of g.rows) r.waiting (loop_stop (charge r.notes));
-                is = ap (the_turn p g) r.is ∙ turn_closed p g r.row r.lineage r.waiting r.notes (omega (arith, many, is, handled_is r));
-                holds = takes.says g blocks cols r.waiting (loop_stop (charge r.notes))
-                    (subst (λ x. HoldsWalk p g blocks xs cols x r.waiting (loop_stop (charge r.notes))) (sym (f ∙ ap stop_loop e)) (closed_walk r.walk st.gas));
+                front = take_up (row_of g.rows) h.waiting (loop_stop (charge h.notes));
+                is = ap (the_turn p g) h.is ∙ turn_closed p g h.row h.lineage h.waiting h.notes (omega (arith, many, is, handled_is h));
+                holds = takes.says g blocks cols h.waiting (loop_stop (charge h.notes))
+                    (subst (λ x. HoldsWalk p g blocks xs cols x h.waiting (loop_stop (charge h.notes))) (sym (stopped k f)) (closed_walk h.walk st.gas));
               };
           bytes = takes.bytes;
           columns = refl;
         }
 
-    module _ (ys zs : List ℕ) (small : Bytes xs) (less : Bytes ys) (low : Bytes zs) (raised : Raised xs ys (counts_from p) (s.row - offset)) (long : length zs ≡ length ys) (x : Row) (read : x ≡ row_in (get_or (cells ys) (rows_from p + (s.row - offset)) blank)) (h : Handling) (handled : ℕ) (is : handled ≡ count_at xs (counts_from p) (s.row - offset)) (handles : Handles p.limit (rows_from p) p.size (cells ys) (cells zs) blocks s x (ltb 0 handled) h) where
+    module _ (ys zs : List ℕ) (small : Bytes xs) (less : Bytes ys) (low : Bytes zs) (raised : Raised xs ys (counts_from p) (s.row - offset)) (long : length zs ≡ length ys) (x : Row) (read : x ≡ row_in (get_or (cells ys) (rows_from p + (s.row - offset)) blank)) (q : Handled) (handled : ℕ) (is : handled ≡ count_at xs (counts_from p) (s.row - offset)) (handles : Handles p.limit (rows_from p) p.size (cells ys) (cells zs) blocks s x (ltb 0 handled) q) where
       pub handled_turning : Turning p zs v
-      handled_turning = subst (Turning p zs) (sym e) (is_turning st.holds ys small less raised zs low long x read h (ltb 0 handled) (ap (ltb 0) is) st.gas handles)
+      handled_turning = subst (Turning p zs) (sym e) (is_turning st.holds ys small less raised zs low long x read q (ltb 0 handled) (ap (ltb 0) is) st.gas handles)
 
-      pub handled_may : MayFollow p zs cols v h
-      handled_may = subst (λ y. MayFollow p zs cols y h) (sym e) (may_follow st.holds ys small less raised zs low long x read h (ltb 0 handled) (ap (ltb 0) is) st.gas handles st.width)
+      pub handled_may : (h : Handling) → q ≡ Ok h → MayFollow p zs cols v h
+      handled_may h f-ok = subst (λ y. MayFollow p zs cols y h) (sym e) (may_follow st.holds ys small less raised zs low long x read q (ltb 0 handled) (ap (ltb 0) is) st.gas handles st.width h f-ok)
 
-      pub turns_handled : (ts dols : List ℕ) (t : Turn) → handled < 3 → Follows p zs ts cols dols v h t → Turns p blocks xs ts cols dols w s t
-      turns_handled ts dols t few follows =
+      pub turns_handled : (h : Handling) → q ≡ Ok h → (ts dols : List ℕ) (u : Walk) (t : Result (Option MemoryState) Refusal) → handled < 3 → Follows p zs ts cols dols v u h t → Turns p blocks xs ts cols dols w u s t
+      turns_handled h f-ok ts dols u t few follows =
           record {
-            says = λ g fd r. settled-told p g blocks ts dols w t (the_turn p g fd) (turn_told r ys small less raised zs low long x read h (ltb 0 handled) (ap (ltb 0) is) st.gas handles ts dols t (omega (arith, few, is, handled_is r)) (subst (λ y. Follows p zs ts cols dols y h t) e follows));
+            says = λ g fd r. turn_told r ys small less raised zs low long x read q (ltb 0 handled) (ap (ltb 0) is) st.gas handles h f-ok ts dols u t (omega (arith, few, is, handled_is r)) (subst (λ y. Follows p zs ts cols dols y u h t) e follows);
             bytes = follows.bytes ∙ long ∙ raised.bytes;
             columns = follows.columns;
           }
 
-      -- the state that goes on alone is on a row
-      pub turns_stays : (n : MemoryState) (on : Way) → on ≡ alone h → on ≡ way.To n → in_listing n.row p ≡ true → handled < 3 → Turns p blocks xs zs cols cols w s (turned.Stays n)
-      turns_stays n on is-on to in-it few =
-          record { says = λ g fd r. goes.says g fd r; bytes = goes.bytes; columns = goes.columns }
-        where
-          u : Walk
-          u = note_repeated (charge_one w) false
-
-          its : h ≡ handling.Ways way.Nowhere (way.To n) false
-          its = alone-ways h n (sym is-on ∙ to)
-
-          goes : Turns p blocks xs zs cols cols w s (turned.Goes (front.OnRow u n))
-          goes =
-              turns_handled zs cols (turned.Goes (front.OnRow u n)) few
-              (subst (λ y. Follows p zs zs cols cols y h (turned.Goes (front.OnRow u n))) (sym e)
-              (all_ways p zs cols (charge_one w) h way.Nowhere (way.To n) false its zs (turned.Goes (front.OnRow u n))
-              (ways_nowhere p zs zs (charge_one w) u way.Nowhere (way.To n) false (front.OnRow u n) (subst (Turning p zs) e handled_turning).less refl refl
-              (goes_row p zs u (way.To n) n refl in-it))))
+      pub turns_refused : (k : Refusal) → handled < 3 → q ≡ Err k → Turns p blocks xs zs cols cols w v s (Err k)
+      turns_refused k few f =
+          record {
+            says = λ g fd r. turn_refused r ys small less raised zs low long x read q (ltb 0 handled) (ap (ltb 0) is) st.gas handles cols v k (omega (arith, few, is, handled_is r)) f;
+            bytes = long ∙ raised.bytes;
+            columns = refl;
+          }
 
 -- ---- a row that is handled in place
 
@@ -450,17 +414,21 @@ ready_near {limit} {s = s} {x} oe ready =
       stands = record { on = refl; from = refl; to = refl };
     }
 
-pub number_near : {cs ds : List Cell} {row base end op o i j k n r : ℕ} → op ≡ o → HandlesNear cs ds row base end op i j k n r → HandlesNear cs ds row base end o i j k n r
+pub number_near : {cs ds : List Cell} {row base end op o i j k n : ℕ} {r : Option ℕ} → op ≡ o → HandlesNear cs ds row base end op i j k n r → HandlesNear cs ds row base end o i j k n r
 number_near {cs} {ds} {row} {base} {end} {i = i} {j} {k} {n} {r} e near = subst (λ z. HandlesNear cs ds row base end z i j k n r) e near
 
 module _ {p : Program} {blocks xs cols : List ℕ} {w : Walk} {s : MemoryState} (st : Standing p blocks xs cols w s) (v : Walk) (e : v ≡ charge_one w) (ys zs : List ℕ) (small : Bytes xs) (less : Bytes ys) (low : Bytes zs) (raised : Raised xs ys (counts_from p) (s.row - offset)) (long : length zs ≡ length ys) (x : Row) (read : x ≡ row_in (get_or (cells ys) (rows_from p + (s.row - offset)) blank)) (handled : ℕ) (is : handled ≡ count_at xs (counts_from p) (s.row - offset)) where
-  pub turns_in_place : {next : ℕ} → (next ≡ 0 → ⊥) → HandlesNear (cells ys) (cells zs) s.row s.map.base (s.map.base + s.map.used) x.op x.p1 x.p2 x.p3 p.size next → handled < 3 → Turns p blocks xs zs cols cols w s (turned.Stays (record { map = s.map; row = next }))
+  pub turns_in_place : {next : ℕ} {near : Option ℕ} → near ≡ Some next → HandlesNear (cells ys) (cells zs) s.row s.map.base (s.map.base + s.map.used) x.op x.p1 x.p2 x.p3 p.size near → handled < 3 → Turns p blocks xs zs cols cols w v s (Ok (Some (record { map = s.map; row = next })))
   turns_in_place {next} ne near few =
       let n : MemoryState = record { map = s.map; row = next } in
-      turns_stays st v e ys zs small less low raised long x read (handling.Ways way.Nowhere (way.To n) false) handled is
-      (near.yes ne p.limit s x (is_ready st.holds ys small less raised x read) refl (record { first = refl; second = refl; third = refl }) (record { on = refl; from = refl; to = refl }) (rows_from p) p.size blocks (ltb 0 handled) (is_blocks st.holds))
-      n (way.To n) refl refl (listing_in p next (record { above = (near.within ne).0; below = omega (arith, (near.within ne).0, (near.within ne).1) })) few
+      let h : Handling = handling.Ways (record { branch = None; stays = Some n }) false in
+      let handles : Handles p.limit (rows_from p) p.size (cells ys) (cells zs) blocks s x (ltb 0 handled) (Ok h) =
+      near.yes next ne p.limit s x (is_ready st.holds ys small less raised x read) refl (record { first = refl; second = refl; third = refl }) (record { on = refl; from = refl; to = refl }) (rows_from p) p.size blocks (ltb 0 handled) (is_blocks st.holds) in
+      turns_handled st v e ys zs small less low raised long x read (Ok h) handled is handles h refl zs cols v (Ok (Some n)) few
+      (all_ways p zs cols v v (record { branch = None; stays = Some n }) false zs (Ok (Some n))
+      (ways_goes low low (handled_turning st v e ys zs small less low raised long x read (Ok h) handled is handles).less (way_none p zs v) refl
+      (goes_row p zs v (Some n) n refl (listing_in p next (record { above = (near.within next ne).0; below = omega (arith, (near.within next ne).0, (near.within next ne).1) })))))
 
 -- where it was not, nothing has changed, and the row that was read then is this one
-pub handles_then : {limit from n : ℕ} {cs es ds : List Cell} {blocks : List ℕ} {s : MemoryState} {again : Bool} {h : Handling} → es ≡ cs → Handles limit from n es ds blocks s (row_on es from s.row) again h → Handles limit from n cs ds blocks s (row_on cs from s.row) again h
+pub handles_then : {limit from n : ℕ} {cs es ds : List Cell} {blocks : List ℕ} {s : MemoryState} {again : Bool} {h : Handled} → es ≡ cs → Handles limit from n es ds blocks s (row_on es from s.row) again h → Handles limit from n cs ds blocks s (row_on cs from s.row) again h
 handles_then {limit} {from} {n} {ds = ds} {blocks} {s} {again} {h} same handles = subst (λ l. Handles limit from n l ds blocks s (row_on l from s.row) again h) same handles

@@ -1,41 +1,29 @@
 -- What the functions of the walk's loop say. Each speaks of every walk of the definition that the area and the struct hold; what is asked is
--- that they hold one. Assumes nothing.
-use Rattle.std.specs.Prelude.{◌≡◌, Bool, true, false, List, [], ◌∷◌, ◌++◌, ℕ, ◌+◌, ◌-◌, ◌<◌, ◌≤◌, pos, length}
-use Rattle.std.proofs.Math.Option.{Option}
+-- that they hold one. A walk w before a call is v after it, and the bytes xs of the area are ys. Assumes nothing.
+use Rattle.std.specs.Prelude.{◌≡◌, Bool, List, [], ◌∷◌, ◌++◌, ℕ, ◌+◌, ◌-◌, ◌<◌, ◌≤◌, pos, length, Option, None, Some, Result, Ok, Err}
 use Rattle.model.specs.Walk.{done, Lineage, Notes, ◌∈◌, Front as Fronted, none_left, on_row, notes_at, full, onward, gas_stop, note_repeat, take_up, go_on, close_all}
 use Rattle.model.specs.State.{ColumnType, MemoryState as Defined}
 use Rattle.model.specs.Access.{read_columns}
 use Rattle.model.specs.Results.{ResultRow, columns_of}
 use Rattle.model.specs.Offer.{Offer}
 use Rattle.model.specs.Explain.{row_of}
+use Rattle.refusal.specs.declared.Refusal.{Refusal}
+use Rattle.refusal.specs.declared.Refusal.TheVariants.{NoSpace}
 use Rattle.area.specs.Cells.{cells}
 use Rattle.intmap.specs.Signed.{offset}
-use Rattle.state.specs.Steps.{HoldsState, TellsWay, StaysAt}
+use Rattle.state.specs.Steps.{HoldsState, TellsWay, StaysAt, branch_of, Way}
 use Rattle.state.specs.declared.MemoryState.{MemoryState}
-use Rattle.state.specs.declared.Way.{Way}
-use Rattle.state.specs.declared.Way.TheVariants as way
 use Rattle.merge.specs.Columns.{HasColumns}
 use Rattle.branches.specs.Header.{row_at}
 use Rattle.branches.specs.Entries.{Kept, Counted}
 use Rattle.branches.specs.Lists.{Below, Offers as Below-them}
-use Rattle.branches.specs.declared.BranchList.{BranchList}
-use Rattle.counters.specs.Counted.{one_charged, one_loopstop, one_gasstop}
-use Rattle.counters.specs.declared.Counters.{Counters}
+use Rattle.counters.specs.Counted.{one_charged}
 use Rattle.explain.specs.Handles.{OffersWays, OffersThree, OffersResult, TellsHandling}
 use Rattle.walk.specs.Walks.{counts_from, Given, bound_of, HoldsList, HoldsWalk, HoldsRow, HoldsFront, HoldsEnd, TellsTurn, TellsRun, the_offer, the_following, the_turn, the_run}
 use Rattle.explain.specs.declared.Handling.{Handling}
 use Rattle.explain.specs.declared.Handling.TheVariants as handling
 use Rattle.walk.specs.declared.Program.{Program}
 use Rattle.walk.specs.declared.Walk.{Walk}
-use Rattle.walk.specs.declared.Front.{Front}
-use Rattle.walk.specs.declared.Front.TheVariants as front
-use Rattle.walk.specs.declared.Taken.{Taken}
-use Rattle.walk.specs.declared.Taken.TheVariants as taken
-use Rattle.walk.specs.declared.Added.{Added}
-use Rattle.walk.specs.declared.Added.TheVariants as added
-use Rattle.walk.specs.declared.Turn.{Turn}
-use Rattle.walk.specs.declared.Turn.TheVariants as turned
-use Rattle.walk.specs.declared.Progress.{Progress}
 
 -- ---- what is asked
 
@@ -74,16 +62,8 @@ pub record Offering (p : Program) (xs : List ℕ) (w : Walk) (s : MemoryState) :
   pub holds : HoldsState p.limit (bound_of w) (cells xs) s state
 
 abbrev pub MayOffer : Program → List ℕ → Walk → Way → Type 0
-MayOffer p xs w way.Nowhere = Unit {0}
-MayOffer p xs w (way.To s) = Offering p xs w s
-
--- the walk with other branches
-abbrev pub with_branches : Walk → BranchList → Walk
-with_branches w b = record { gas = w.gas; counts = w.counts; width = w.width; branches = b }
-
--- other counts
-abbrev pub with_counts : Walk → Counters → Walk
-with_counts w c = record { gas = w.gas; counts = c; width = w.width; branches = w.branches }
+MayOffer p xs w None = Unit {0}
+MayOffer p xs w (Some s) = Offering p xs w s
 
 -- ---- taking up
 
@@ -105,34 +85,34 @@ pub record OneAt (p : Program) (g : Given) (blocks xs cols : List ℕ) (w : Walk
   pub within : row_at (cells xs) at - offset < p.size
   pub is : f ≡ on_row (row_at (cells xs) at - offset) (record { mem = one.mem; past = one.past }) waiting notes
 
-abbrev pub TellsTaken : Program → Given → List ℕ → List ℕ → List ℕ → Taken → Fronted Defined ResultRow → Type 0
-TellsTaken p g blocks xs cols (taken.Nothing w) f = Nothing p g blocks xs cols w f
-TellsTaken p g blocks xs cols (taken.At w at) f = OneAt p g blocks xs cols w at f
+abbrev pub TellsTaken : Program → Given → List ℕ → List ℕ → List ℕ → Walk → Option ℕ → Fronted Defined ResultRow → Type 0
+TellsTaken p g blocks xs cols w None f = Nothing p g blocks xs cols w f
+TellsTaken p g blocks xs cols w (Some at) f = OneAt p g blocks xs cols w at f
 
 -- fewer wait
-abbrev pub Shorter : Walk → Taken → Type 0
-Shorter w (taken.Nothing v) = Unit {0}
-Shorter w (taken.At v at) = v.branches.last < w.branches.last
+abbrev pub Shorter : Walk → Walk → Option ℕ → Type 0
+Shorter w v None = Unit {0}
+Shorter w v (Some at) = v.branches.last < w.branches.last
 
 -- it is taken from those that wait
-pub record Takes (p : Program) (xs : List ℕ) (w : Walk) (r : Taken) : Type 0 where
-  pub says : (g : Given) (blocks cols : List ℕ) (ls : List (Lineage Defined)) (n : Notes Defined ResultRow) → HoldsWalk p g blocks xs cols w ls n → TellsTaken p g blocks xs cols r (take_up (row_of g.rows) ls n)
-  pub less : Shorter w r
+pub record Takes (p : Program) (xs : List ℕ) (w v : Walk) (r : Option ℕ) : Type 0 where
+  pub says : (g : Given) (blocks cols : List ℕ) (ls : List (Lineage Defined)) (n : Notes Defined ResultRow) → HoldsWalk p g blocks xs cols w ls n → TellsTaken p g blocks xs cols v r (take_up (row_of g.rows) ls n)
+  pub less : Shorter w v r
 
 -- and is current
-pub record TakesUp (p : Program) (xs ys : List ℕ) (w : Walk) (r : Front) : Type 0 where
-  pub says : (g : Given) (blocks cols : List ℕ) (ls : List (Lineage Defined)) (n : Notes Defined ResultRow) → HoldsWalk p g blocks xs cols w ls n → HoldsFront p g blocks ys cols r (take_up (row_of g.rows) ls n)
+pub record TakesUp (p : Program) (xs ys : List ℕ) (w v : Walk) (r : Option MemoryState) : Type 0 where
+  pub says : (g : Given) (blocks cols : List ℕ) (ls : List (Lineage Defined)) (n : Notes Defined ResultRow) → HoldsWalk p g blocks xs cols w ls n → HoldsFront p g blocks ys cols v r (take_up (row_of g.rows) ls n)
   pub bytes : length ys ≡ length xs
 
 -- the state that goes on is current, if it stands on a row
-pub record GoesOn (p : Program) (xs ys : List ℕ) (w : Walk) (stays : Way) (r : Front) : Type 0 where
+pub record GoesOn (p : Program) (xs ys : List ℕ) (w v : Walk) (stays : Way) (r : Option MemoryState) : Type 0 where
   pub says :
       (g : Given) (blocks cols : List ℕ) (ls : List (Lineage Defined)) (n : Notes Defined ResultRow) (past : List ℕ) (ms : Option Defined) →
       HoldsWalk p g blocks xs cols w ls n →
       TellsWay p.limit (bound_of w) (cells xs) stays ms →
       StaysAt p.limit (cells xs) 0 stays →
       Counted xs p.size (counts_from p) past →
-      HoldsFront p g blocks ys cols r (go_on (row_of g.rows) (onward ms past) ls n)
+      HoldsFront p g blocks ys cols v r (go_on (row_of g.rows) (onward ms past) ls n)
   pub bytes : length ys ≡ length xs
 
 -- ---- a branch offered
@@ -154,22 +134,33 @@ pub record SameCounts (w v : Walk) : Type 0 where
   pub repeats : v.counts.repeats ≡ w.counts.repeats
   pub width : v.width ≡ w.width
 
-abbrev pub TellsOffers : Program → Given → List ℕ → List ℕ → List ℕ → Walk → Added → List ℕ → List Defined → List (Lineage Defined) → List Defined → ℕ → List ResultRow → Type 0
-TellsOffers p g blocks ys cols w added.Full past ms ls remembered space counted = (more : List Defined) → the_offer p g past (ms ++ more) ls remembered space ≡ full
-TellsOffers p g blocks ys cols w (added.Done v) past ms ls remembered space counted = Offers p g blocks ys cols v past ms ls remembered space counted × SameCounts w v
+abbrev pub TellsOffers : Program → Given → List ℕ → List ℕ → List ℕ → Walk → Walk → Result (Unit {0}) Refusal → List ℕ → List Defined → List (Lineage Defined) → List Defined → ℕ → List ResultRow → Type 0
+TellsOffers p g blocks ys cols w v (Err e) past ms ls remembered space counted = (e ≡ NoSpace) × ((more : List Defined) → the_offer p g past (ms ++ more) ls remembered space ≡ full)
+TellsOffers p g blocks ys cols w v (Ok u) past ms ls remembered space counted = Offers p g blocks ys cols v past ms ls remembered space counted × SameCounts w v
 
-pub record AddsBranch (p : Program) (xs ys : List ℕ) (w : Walk) (s : MemoryState) (r : Added) : Type 0 where
+pub record AddsBranch (p : Program) (xs ys : List ℕ) (w v : Walk) (s : MemoryState) (r : Result (Unit {0}) Refusal) : Type 0 where
   pub says :
       (g : Given) (blocks cols : List ℕ) (ls : List (Lineage Defined)) (remembered : List Defined) (space : ℕ) (counted : List ResultRow) (past : List ℕ) (m : Defined) →
       HoldsList p g blocks xs cols w ls remembered space counted →
       HoldsState p.limit (bound_of w) (cells xs) s m →
       Counted xs p.size (counts_from p) past →
-      TellsOffers p g blocks ys cols w r past (m ∷ []) ls remembered space counted
+      TellsOffers p g blocks ys cols w v r past (m ∷ []) ls remembered space counted
+  pub below : Below (cells xs) (cells ys) w.branches.first
+  pub bytes : length ys ≡ length xs
+
+-- at most one
+pub record AddsWay (p : Program) (xs ys : List ℕ) (w v : Walk) (branch : Way) (r : Result (Unit {0}) Refusal) : Type 0 where
+  pub says :
+      (g : Given) (blocks cols : List ℕ) (ls : List (Lineage Defined)) (remembered : List Defined) (space : ℕ) (counted : List ResultRow) (past : List ℕ) (ms : Option Defined) →
+      HoldsList p g blocks xs cols w ls remembered space counted →
+      TellsWay p.limit (bound_of w) (cells xs) branch ms →
+      Counted xs p.size (counts_from p) past →
+      TellsOffers p g blocks ys cols w v r past (branch_of ms) ls remembered space counted
   pub below : Below (cells xs) (cells ys) w.branches.first
   pub bytes : length ys ≡ length xs
 
 -- three of them
-pub record AddsThree (p : Program) (xs ys : List ℕ) (w : Walk) (a b c : MemoryState) (r : Added) : Type 0 where
+pub record AddsThree (p : Program) (xs ys : List ℕ) (w v : Walk) (a b c : MemoryState) (r : Result (Unit {0}) Refusal) : Type 0 where
   pub says :
       (g : Given) (blocks cols : List ℕ) (ls : List (Lineage Defined)) (remembered : List Defined) (space : ℕ) (counted : List ResultRow) (past : List ℕ) (m₁ m₂ m₃ : Defined) →
       HoldsList p g blocks xs cols w ls remembered space counted →
@@ -177,37 +168,40 @@ pub record AddsThree (p : Program) (xs ys : List ℕ) (w : Walk) (a b c : Memory
       HoldsState p.limit (bound_of w) (cells xs) b m₂ →
       HoldsState p.limit (bound_of w) (cells xs) c m₃ →
       Counted xs p.size (counts_from p) past →
-      TellsOffers p g blocks ys cols w r past (m₁ ∷ m₂ ∷ m₃ ∷ []) ls remembered space counted
+      TellsOffers p g blocks ys cols w v r past (m₁ ∷ m₂ ∷ m₃ ∷ []) ls remembered space counted
   pub below : Below (cells xs) (cells ys) w.branches.first
   pub bytes : length ys ≡ length xs
 
 -- ---- what follows the handling of a row
 
 abbrev pub note_repeated : Walk → Bool → Walk
-note_repeated w b = with_counts w (record { charged = w.counts.charged; loopstops = w.counts.loopstops; gasstops = w.counts.gasstops; repeats = note_repeat b w.counts.repeats })
+note_repeated w b =
+    record {
+      gas = w.gas;
+      counts = record { charged = w.counts.charged; loopstops = w.counts.loopstops; gasstops = w.counts.gasstops; repeats = note_repeat b w.counts.repeats };
+      width = w.width;
+      branches = w.branches;
+    }
 
-pub record FollowsWays (p : Program) (xs ys : List ℕ) (w : Walk) (branch stays : Way) (repeat : Bool) (r : Turn) : Type 0 where
+pub record FollowsWays (p : Program) (xs ys : List ℕ) (w v : Walk) (branch stays : Way) (repeat : Bool) (r : Result (Option MemoryState) Refusal) : Type 0 where
   pub says :
       (g : Given) (blocks cols : List ℕ) (ls : List (Lineage Defined)) (n : Notes Defined ResultRow) (past : List ℕ) (o : Offer) →
       HoldsWalk p g blocks xs cols w ls n →
       Counted xs p.size (counts_from p) past →
       OffersWays p.limit (bound_of w) (cells xs) branch stays repeat o →
       StaysAt p.limit (cells xs) 0 stays →
-      TellsTurn p g blocks ys cols r (the_following p g past ls n o)
+      TellsTurn p g blocks ys cols v r (the_following p g past ls n o)
   pub bytes : length ys ≡ length xs
 
-pub record FollowsThree (p : Program) (xs ys : List ℕ) (w : Walk) (a b c stays : MemoryState) (r : Turn) : Type 0 where
+pub record FollowsThree (p : Program) (xs ys : List ℕ) (w v : Walk) (a b c stays : MemoryState) (r : Result (Option MemoryState) Refusal) : Type 0 where
   pub says :
       (g : Given) (blocks cols : List ℕ) (ls : List (Lineage Defined)) (n : Notes Defined ResultRow) (past : List ℕ) (o : Offer) →
       HoldsWalk p g blocks xs cols w ls n →
       Counted xs p.size (counts_from p) past →
       OffersThree p.limit (bound_of w) (cells xs) a b c stays o →
-      StaysAt p.limit (cells xs) 0 (way.To stays) →
-      TellsTurn p g blocks ys cols r (the_following p g past ls n o)
+      StaysAt p.limit (cells xs) 0 (Some stays) →
+      TellsTurn p g blocks ys cols v r (the_following p g past ls n o)
   pub bytes : length ys ≡ length xs
-
-abbrev pub with_width : Walk → ℕ → Walk
-with_width w k = record { gas = w.gas; counts = w.counts; width = k; branches = w.branches }
 
 -- n registers of a state make a result row
 pub record Resulting (p : Program) (xs cols : List ℕ) (w : Walk) (branch : MemoryState) (first n : ℕ) : Type 0 where
@@ -220,39 +214,37 @@ pub record Resulting (p : Program) (xs cols : List ℕ) (w : Walk) (branch : Mem
   pub results : List ResultRow
   pub has : HasColumns cols w.width (columns_of results)
 
-pub record FollowsResult (p : Program) (xs ys cols dols : List ℕ) (w : Walk) (branch : MemoryState) (first n : ℕ) (r : Turn) : Type 0 where
+pub record FollowsResult (p : Program) (xs ys cols dols : List ℕ) (w v : Walk) (branch : MemoryState) (first n : ℕ) (r : Result (Option MemoryState) Refusal) : Type 0 where
   pub says :
       (g : Given) (blocks : List ℕ) (ls : List (Lineage Defined)) (notes : Notes Defined ResultRow) (past : List ℕ) (m : Defined) (o : Offer) →
       HoldsWalk p g blocks xs cols w ls notes →
       Counted xs p.size (counts_from p) past →
       OffersResult p.limit (bound_of w) (cells xs) m branch first n o →
-      TellsTurn p g blocks ys dols r (the_following p g past ls notes o)
+      TellsTurn p g blocks ys dols v r (the_following p g past ls notes o)
   pub bytes : length ys ≡ length xs
   pub columns : length dols ≡ length cols
 
 -- ---- all of them
 
 abbrev pub MayFollow : Program → List ℕ → List ℕ → Walk → Handling → Type 0
-MayFollow p xs cols w (handling.Refused k) = Unit {0}
-MayFollow p xs cols w (handling.Ways b s r) = MayOffer p xs w b
+MayFollow p xs cols w (handling.Ways ways r) = MayOffer p xs w ways.branch
 MayFollow p xs cols w (handling.Three a b c s) = Offering p xs w a × Offering p xs w b × Offering p xs w c
 MayFollow p xs cols w (handling.Result b first n) = Resulting p xs cols w b first n
 
 -- the state that goes on lies where the current one did
 abbrev pub StaysHere : Program → List ℕ → Handling → Type 0
-StaysHere p xs (handling.Refused k) = Unit {0}
-StaysHere p xs (handling.Ways b s r) = StaysAt p.limit (cells xs) 0 s
-StaysHere p xs (handling.Three a b c s) = StaysAt p.limit (cells xs) 0 (way.To s)
+StaysHere p xs (handling.Ways ways r) = StaysAt p.limit (cells xs) 0 ways.stays
+StaysHere p xs (handling.Three a b c s) = StaysAt p.limit (cells xs) 0 (Some s)
 StaysHere p xs (handling.Result b first n) = Unit {0}
 
-pub record Follows (p : Program) (xs ys cols dols : List ℕ) (w : Walk) (h : Handling) (r : Turn) : Type 0 where
+pub record Follows (p : Program) (xs ys cols dols : List ℕ) (w v : Walk) (h : Handling) (r : Result (Option MemoryState) Refusal) : Type 0 where
   pub says :
       (g : Given) (blocks : List ℕ) (ls : List (Lineage Defined)) (n : Notes Defined ResultRow) (past : List ℕ) (m : Defined) (o : Offer) →
       HoldsWalk p g blocks xs cols w ls n →
       Counted xs p.size (counts_from p) past →
-      TellsHandling p.limit (bound_of w) (cells xs) m h o →
+      TellsHandling p.limit (bound_of w) (cells xs) m (Ok h) o →
       StaysHere p xs h →
-      TellsTurn p g blocks ys dols r (the_following p g past ls n o)
+      TellsTurn p g blocks ys dols v r (the_following p g past ls n o)
   pub bytes : length ys ≡ length xs
   pub columns : length dols ≡ length cols
 
@@ -260,12 +252,6 @@ pub record Follows (p : Program) (xs ys cols dols : List ℕ) (w : Walk) (h : Ha
 
 abbrev pub charge_one : Walk → Walk
 charge_one w = record { gas = w.gas - 1; counts = one_charged w.counts; width = w.width; branches = w.branches }
-
-abbrev pub stop_loop : Walk → Walk
-stop_loop w = with_counts w (one_loopstop w.counts)
-
-abbrev pub stop_gas : Walk → Walk
-stop_gas w = with_counts w (one_gasstop w.counts)
 
 -- a lineage is on a row, with a unit left
 pub record Standing (p : Program) (blocks xs cols : List ℕ) (w : Walk) (s : MemoryState) : Type 0 where
@@ -275,36 +261,18 @@ pub record Standing (p : Program) (blocks xs cols : List ℕ) (w : Walk) (s : Me
   pub width : length cols ≡ 2000
   pub gas : 0 < w.gas
 
--- the state that goes on, if no branch is offered with it and no repeat is counted
-abbrev pub alone_by : Way → Bool → Way → Way
-alone_by way.Nowhere false s = s
-alone_by way.Nowhere true s = way.Nowhere
-alone_by (way.To b) repeat s = way.Nowhere
-
-abbrev pub alone : Handling → Way
-alone (handling.Refused k) = way.Nowhere
-alone (handling.Ways b s repeat) = alone_by b repeat s
-alone (handling.Three a b c s) = way.Nowhere
-alone (handling.Result b first n) = way.Nowhere
-
--- where a state goes on, the walk is as it was but for the charge
-abbrev pub settled : Walk → Turn → Turn
-settled w (turned.Over k) = turned.Over k
-settled w (turned.Stays s) = turned.Goes (front.OnRow (charge_one w) s)
-settled w (turned.Goes f) = turned.Goes f
-
-pub record Turns (p : Program) (blocks xs ys cols dols : List ℕ) (w : Walk) (s : MemoryState) (r : Turn) : Type 0 where
-  pub says : (g : Given) (f : Fronted Defined ResultRow) → HoldsRow p g blocks xs cols w s f → TellsTurn p g blocks ys dols (settled w r) (the_turn p g f)
+pub record Turns (p : Program) (blocks xs ys cols dols : List ℕ) (w v : Walk) (s : MemoryState) (r : Result (Option MemoryState) Refusal) : Type 0 where
+  pub says : (g : Given) (f : Fronted Defined ResultRow) → HoldsRow p g blocks xs cols w s f → TellsTurn p g blocks ys dols v r (the_turn p g f)
   pub bytes : length ys ≡ length xs
   pub columns : length dols ≡ length cols
 
 -- with no unit left, the lineages that wait on a row are closed
-pub record Closes (p : Program) (xs : List ℕ) (w r : Walk) : Type 0 where
-  pub says : (g : Given) (blocks cols : List ℕ) (ls : List (Lineage Defined)) (n : Notes Defined ResultRow) → HoldsWalk p g blocks xs cols w ls n → HoldsEnd p g blocks xs cols r (close_all (row_of g.rows) ls n)
+pub record Closes (p : Program) (xs : List ℕ) (w v : Walk) : Type 0 where
+  pub says : (g : Given) (blocks cols : List ℕ) (ls : List (Lineage Defined)) (n : Notes Defined ResultRow) → HoldsWalk p g blocks xs cols w ls n → HoldsEnd p g blocks xs cols v (close_all (row_of g.rows) ls n)
 
 -- the current one first
-pub record ClosesCurrent (p : Program) (xs : List ℕ) (w r : Walk) : Type 0 where
-  pub says : (g : Given) (blocks cols : List ℕ) (ls : List (Lineage Defined)) (n : Notes Defined ResultRow) → HoldsWalk p g blocks xs cols w ls n → HoldsEnd p g blocks xs cols r (close_all (row_of g.rows) ls (gas_stop n))
+pub record ClosesCurrent (p : Program) (xs : List ℕ) (w v : Walk) : Type 0 where
+  pub says : (g : Given) (blocks cols : List ℕ) (ls : List (Lineage Defined)) (n : Notes Defined ResultRow) → HoldsWalk p g blocks xs cols w ls n → HoldsEnd p g blocks xs cols v (close_all (row_of g.rows) ls (gas_stop n))
 
 -- a lineage is on a row, and no lineage was closed for want of units
 pub record Running (p : Program) (blocks xs cols : List ℕ) (w : Walk) (s : MemoryState) : Type 0 where
@@ -315,7 +283,7 @@ pub record Running (p : Program) (blocks xs cols : List ℕ) (w : Walk) (s : Mem
   pub unclosed : (notes_at front).gasstops ≡ 0
 
 -- the run is the definition's, with this budget and the units that are left
-pub record Runs (p : Program) (blocks xs ys cols dols : List ℕ) (w : Walk) (s : MemoryState) (budget : ℕ) (r : Progress) : Type 0 where
-  pub says : (g : Given) (f : Fronted Defined ResultRow) → HoldsRow p g blocks xs cols w s f → (notes_at f).gasstops ≡ 0 → TellsRun p g blocks ys dols r (the_run p g budget w.gas f)
+pub record Runs (p : Program) (blocks xs ys cols dols : List ℕ) (w v : Walk) (s : MemoryState) (budget : ℕ) (r : Result (Option MemoryState) Refusal) : Type 0 where
+  pub says : (g : Given) (f : Fronted Defined ResultRow) → HoldsRow p g blocks xs cols w s f → (notes_at f).gasstops ≡ 0 → TellsRun p g blocks ys dols v r (the_run p g budget w.gas f)
   pub bytes : length ys ≡ length xs
   pub columns : length dols ≡ length cols

@@ -2,13 +2,15 @@
 -- counts, and the current lineage. In cells: the current state from 0 on, as much for a branch or a value on its way, the rows, the
 -- current lineage's handled counts, and from `first_from` on the remembered states. What each part of the loop says of the definition's walk.
 -- Assumes nothing.
-use Rattle.std.specs.Prelude.{◌≡◌, Bool, ◌&&◌, List, [], ℕ, ◌+◌, ◌-◌, ◌<◌, ◌≤◌, leb, ltb, length}
+use Rattle.std.specs.Prelude.{◌≡◌, Bool, ◌&&◌, List, [], ℕ, ◌+◌, ◌-◌, ◌<◌, ◌≤◌, leb, ltb, length, Option, None, Some, Result, Ok, Err}
 use Rattle.model.specs.Walk.{Lineage, Notes, refused_with, answered, Turn as Turned, over, goes, Progress as Progressed, paused, ended, Offered, offer, follow_ways, turn, run}
 use Rattle.model.specs.Walk.{Front as Fronted, none_left, on_row}
 use Rattle.model.specs.Row.{Row as Listed}
 use Rattle.model.specs.State.{MemoryState as Defined}
 use Rattle.model.specs.Equality.{eq_state}
 use Rattle.model.specs.Catalogue.{CatalogueRecord}
+use Rattle.refusal.specs.Numbers.{number_of}
+use Rattle.refusal.specs.declared.Refusal.{Refusal}
 use Rattle.root_block.specs.Blocks.{HasBlocks}
 use Rattle.model.specs.Results.{ResultRow, columns_of}
 use Rattle.model.specs.Offer.{Offer}
@@ -21,16 +23,11 @@ use Rattle.state.specs.Leads.{operands}
 use Rattle.state.specs.Steps.{HoldsState}
 use Rattle.state.specs.declared.MemoryState.{MemoryState}
 use Rattle.branches.specs.Entries.{Kept, states, lineages, Counted, Remembers}
+use Rattle.branches.specs.declared.Layout.{Layout}
 use Rattle.merge.specs.Columns.{HasColumns}
 use Rattle.explain.specs.Handles.{meaning_of}
 use Rattle.walk.specs.declared.Program.{Program}
 use Rattle.walk.specs.declared.Walk.{Walk}
-use Rattle.walk.specs.declared.Front.{Front}
-use Rattle.walk.specs.declared.Front.TheVariants as front
-use Rattle.walk.specs.declared.Turn.{Turn}
-use Rattle.walk.specs.declared.Turn.TheVariants as turned
-use Rattle.walk.specs.declared.Progress.{Progress}
-use Rattle.walk.specs.declared.Progress.TheVariants as progress
 
 -- where the rows, the current counts and the remembered states begin
 abbrev pub rows_from : Program → ℕ
@@ -41,6 +38,10 @@ counts_from p = p.limit + p.limit + p.size
 
 abbrev pub first_from : Program → ℕ
 first_from p = p.limit + p.limit + p.size + p.size
+
+-- what the remembered states are told of it
+abbrev pub layout_of : Program → Layout
+layout_of p = record { counts = counts_from p; rows = p.size; limit = p.limit }
 
 -- a row's word is that of a row of the listing
 unfoldable pub in_listing : ℕ → Program → Bool
@@ -112,24 +113,24 @@ pub record HoldsRow (p : Program) (g : Given) (blocks xs cols : List ℕ) (w : W
   pub at : s.row ≡ offset + row
   pub within : row < p.size
 
-abbrev pub HoldsFront : Program → Given → List ℕ → List ℕ → List ℕ → Front → Fronted Defined ResultRow → Type 0
-HoldsFront p g blocks xs cols (front.NoneLeft w) f = HoldsNone p g blocks xs cols w f
-HoldsFront p g blocks xs cols (front.OnRow w s) f = HoldsRow p g blocks xs cols w s f
+-- either, by the state that is current
+abbrev pub HoldsFront : Program → Given → List ℕ → List ℕ → List ℕ → Walk → Option MemoryState → Fronted Defined ResultRow → Type 0
+HoldsFront p g blocks xs cols w None f = HoldsNone p g blocks xs cols w f
+HoldsFront p g blocks xs cols w (Some s) f = HoldsRow p g blocks xs cols w s f
 
 -- the walk is refused, or stands elsewhere
 pub record Stopped (k : ℕ) (t : Turned Defined ResultRow) : Type 0 where
   pub notes : Notes Defined ResultRow
   pub is : t ≡ over (refused_with k notes)
 
-pub record Moved (p : Program) (g : Given) (blocks xs cols : List ℕ) (r : Front) (t : Turned Defined ResultRow) : Type 0 where
+pub record Moved (p : Program) (g : Given) (blocks xs cols : List ℕ) (w : Walk) (r : Option MemoryState) (t : Turned Defined ResultRow) : Type 0 where
   pub front : Fronted Defined ResultRow
   pub is : t ≡ goes front
-  pub holds : HoldsFront p g blocks xs cols r front
+  pub holds : HoldsFront p g blocks xs cols w r front
 
-abbrev pub TellsTurn : Program → Given → List ℕ → List ℕ → List ℕ → Turn → Turned Defined ResultRow → Type 0
-TellsTurn p g blocks xs cols (turned.Over k) t = Stopped k t
-TellsTurn p g blocks xs cols (turned.Stays s) t = ⊥
-TellsTurn p g blocks xs cols (turned.Goes r) t = Moved p g blocks xs cols r t
+abbrev pub TellsTurn : Program → Given → List ℕ → List ℕ → List ℕ → Walk → Result (Option MemoryState) Refusal → Turned Defined ResultRow → Type 0
+TellsTurn p g blocks xs cols w (Err e) t = Stopped (number_of e) t
+TellsTurn p g blocks xs cols w (Ok r) t = Moved p g blocks xs cols w r t
 
 -- a run is paused, refused or answered
 pub record Paused (p : Program) (g : Given) (blocks xs cols : List ℕ) (w : Walk) (s : MemoryState) (t : Progressed Defined ResultRow) : Type 0 where
@@ -159,10 +160,10 @@ pub record Answered (p : Program) (g : Given) (blocks xs cols : List ℕ) (w : W
   pub is : t ≡ ended (answered notes)
   pub end : HoldsEnd p g blocks xs cols w notes
 
-abbrev pub TellsRun : Program → Given → List ℕ → List ℕ → List ℕ → Progress → Progressed Defined ResultRow → Type 0
-TellsRun p g blocks xs cols (progress.Paused w s) t = Paused p g blocks xs cols w s t
-TellsRun p g blocks xs cols (progress.Refused k) t = Refused k t
-TellsRun p g blocks xs cols (progress.Ended w) t = Answered p g blocks xs cols w t
+abbrev pub TellsRun : Program → Given → List ℕ → List ℕ → List ℕ → Walk → Result (Option MemoryState) Refusal → Progressed Defined ResultRow → Type 0
+TellsRun p g blocks xs cols w (Err e) t = Refused (number_of e) t
+TellsRun p g blocks xs cols w (Ok (Some s)) t = Paused p g blocks xs cols w s t
+TellsRun p g blocks xs cols w (Ok None) t = Answered p g blocks xs cols w t
 
 -- the definition's walk over what is given
 module _ (p : Program) (g : Given) where

@@ -1,14 +1,14 @@
--- `answer::write_answer` writes the columns that the first bytes stand for. Assumes nothing.
-use mathlib.Core.Path.{sym}
-use lib.Seq.{length-take-le}
-use Rattle.answer.proofs.AnswerLaws.{writes, part_small}
+-- `answer::write_answer` finds the length, refuses what is longer than the buffer, and writes the rest. Assumes nothing.
+use Rattle.std.proofs.Common.{refl, rules}
+use Rattle.answer.proofs.AnswerLaws.{writes_long, columns_fit, writes_fits}
 use Rattle.answer.proofs.write_answer.Goals as goal
 
-pub slice_bounds-write-end : goal.slice_bounds-write-end
-slice_bounds-write-end c = sym (length-take-le c.args.width c.args.columns.now c.requires.1)
+pub returns-then-answer-head : goal.returns-then-answer-head
+returns-then-answer-head c = writes_long _ _ c.head_len-head.ensures c.columns_len.ensures c.if-answer-head.true
 
-pub write-requires : goal.write-requires
-write-requires c = part_small _ _ _ _ _ _ c.requires.1 c.requires.0
+pub put_columns-requires : goal.put_columns-requires
+put_columns-requires c = (c.requires.width_small, columns_fit _ _ c.head_len-head.ensures c.columns_len.ensures c.if-answer-head.false refl refl c.put_head.ensures)
 
 pub returns : goal.returns
-returns c = writes _ _ _ _ _ _ _ _ _ c.requires.1 c.write.ensures
+returns c =
+    writes_fits _ _ c.head_len-head.ensures c.columns_len.ensures c.if-answer-head.false refl refl c.put_head.ensures c.put_columns.ensures (search rules)

@@ -1,5 +1,4 @@
 -- What is left of `move_down`, by the invariant of Invariants.antt. Assumes nothing.
-use mathlib.Core.Path.{◌≡◌}
 use native.Mathlib.Omega.{arith}
 use Rattle.area.proofs.MoveLaws.{turn-first, turn_down}
 use Rattle.area.proofs.move_down.Goals as goal
@@ -9,6 +8,3 @@ loop-i-init c = (omega arith, turn-first _ _ _ _ (omega arith))
 
 pub loop-i-preserved : goal.loop-i-preserved
 loop-i-preserved c = (omega arith, turn_down _ _ _ _ _ _ _ c.requires.0 c.loop-i.invariant.1 c.cell_at-c.ensures c.put_cell.ensures)
-
-pub returns : goal.returns
-returns c = let e : c.args.n ≡ c.loop-i.i = omega arith in rw e c.loop-i.invariant.1

@@ -1,11 +1,7 @@
 -- `branches::fold`: both sums wrap as the definition's do, and the product of two halves fits a word. Assumes nothing.
 use Rattle.std.proofs.Common.{ap, ◌∙◌}
 use Rattle.branches.specs.Hash.{bend, fold}
-use Rattle.branches.proofs.HashLaws.{product_fits}
 use Rattle.branches.proofs.fold.Goals as goal
-
-pub overflow_mul-s : goal.overflow_mul-s
-overflow_mul-s c = record { fits = product_fits _ _ c.wrapping_add_u64-s.ensures.value }
 
 pub returns : goal.returns
 unfolding fold

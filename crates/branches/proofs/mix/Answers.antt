@@ -2,11 +2,7 @@
 use Rattle.std.proofs.Common.{◌+◌, ◌*◌, ◌/◌, ◌%◌, ap}
 use Rattle.branches.specs.Header.{half}
 use Rattle.branches.specs.Hash.{mix}
-use Rattle.branches.proofs.HashLaws.{stir_fits}
 use Rattle.branches.proofs.mix.Goals as goal
-
-pub overflow_add-result : goal.overflow_add-result
-overflow_add-result c = record { fits = stir_fits _ _ c.wrapping_add_u64-s.ensures.value }
 
 pub returns : goal.returns
 unfolding mix

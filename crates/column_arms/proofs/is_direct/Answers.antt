@@ -1,24 +1,14 @@
 -- `column_arms::is_direct` tests the number, what is behind the columns, and the cell. Assumes nothing.
 use native.Mathlib.Omega.{arith}
 use mathlib.Core.Path.{sym, ◌∙◌}
-use mathlib.Core.Bool.{true≢false}
 use Rattle.column_arms.proofs.ColumnLaws.{direct_place, direct_at}
 use Rattle.column_arms.proofs.is_direct.Goals as goal
-
-pub returns-then-n-key : goal.returns-then-n-key
-returns-then-n-key c = λ e. absurd (true≢false (sym e))
-
-pub returns-then-not-is_flat : goal.returns-then-not-is_flat
-returns-then-not-is_flat c = λ e. absurd (true≢false (sym e))
 
 pub overflow_add-at-2 : goal.overflow_add-at-2
 overflow_add-at-2 c = let flat = c.if-not-is_flat.false in let h = direct_place _ _ _ _ _ (sym c.is_flat.ensures ∙ flat) c.if-n-key.false in omega (arith, h, c.requires.0.inside, c.requires.0.small)
 
 pub cell_at-c-requires : goal.cell_at-c-requires
 cell_at-c-requires c = let flat = c.if-not-is_flat.false in let h = direct_place _ _ _ _ _ (sym c.is_flat.ensures ∙ flat) c.if-n-key.false in omega (arith, h, c.requires.0.inside, c.requires.0.small)
-
-pub returns-then-tag_of-eq-RECORD : goal.returns-then-tag_of-eq-RECORD
-returns-then-tag_of-eq-RECORD c = λ e. absurd (true≢false (sym e))
 
 pub has_key-requires : goal.has_key-requires
 has_key-requires c = let flat = c.if-not-is_flat.false in let h = direct_place _ _ _ _ _ (sym c.is_flat.ensures ∙ flat) c.if-n-key.false in omega (arith, h, c.requires.0.inside, c.requires.0.small)

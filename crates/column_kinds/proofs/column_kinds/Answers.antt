@@ -4,10 +4,10 @@ use Rattle.column_kinds.proofs.CallLaws.{refusal_small, calls_refused, calls_ans
 use Rattle.column_kinds.proofs.column_kinds.Goals as goal
 
 pub overflow_mul-result : goal.overflow_mul-result
-overflow_mul-result c = record { fits = omega (arith, refusal_small _ _ _ _ _ _ _ c.call-x.ensures _ c.in-Refused.is) }
+overflow_mul-result c = record { fits = omega (arith, c.number.ensures, refusal_small _ _ _ _ _ _ _ c.call-answered.ensures _ c.in-Err.is) }
 
-pub returns-in-Refused : goal.returns-in-Refused
-returns-in-Refused c = calls_refused _ _ _ _ _ _ _ c.call-x.ensures _ c.clear.ensures _ c.in-Refused.is
+pub returns-in-Err : goal.returns-in-Err
+returns-in-Err c = calls_refused _ _ _ _ _ _ _ c.call-answered.ensures _ c.clear.ensures _ _ c.number.ensures c.in-Err.is
 
-pub returns-in-Length : goal.returns-in-Length
-returns-in-Length c = calls_answered _ _ _ _ _ _ _ c.call-x.ensures _ c.clear.ensures _ c.in-Length.is
+pub returns-in-Ok : goal.returns-in-Ok
+returns-in-Ok c = calls_answered _ _ _ _ _ _ _ c.call-answered.ensures _ c.clear.ensures _ c.in-Ok.is

@@ -1,29 +1,26 @@
 -- `copy_arms::carry_register` looks for the register, and stores its entry once more, and then null in its place, if it moves. Assumes nothing.
+use Rattle.std.specs.Prelude.{Ok}
+use Rattle.std.proofs.lemmas.Result.{err_from_is_err_and}
+use mathlib.Core.Path.{ap, ◌∙◌}
 use native.Mathlib.Omega.{arith}
-use Rattle.state.proofs.LeadsLaws.{reached_last, current_held}
-use Rattle.copy_arms.proofs.CopyLaws.{found_place, carry_bad, carry_absent, carry_copies, carry_stop, carry_next}
+use Rattle.state.proofs.LeadsLaws.{reached_last}
+use Rattle.copy_arms.proofs.CopyLaws.{carry_bad, carry_absent, carry_copies, carry_stop, carry_next}
 use Rattle.copy_arms.proofs.carry_register.Goals as goal
 
-pub get-x-requires : goal.get-x-requires
-get-x-requires c = (current_held c.requires, omega arith)
+pub returns-in_err-at : goal.returns-in_err-at
+returns-in_err-at c = let p = err_from_is_err_and c.from_residual.result c.from_residual.ensures.1 in rw (p.1, p.2) (carry_bad _ _ _ _ c.requires _ c.get.ensures _ _ _ c.in_err-at.was)
 
-pub store_from-y-requires : goal.store_from-y-requires
-store_from-y-requires c = let place = found_place _ _ _ _ c.requires _ c.get-x.ensures _ c.in-At.is in (c.requires, place.0, place.1)
+pub returns-in_default : goal.returns-in_default
+returns-in_default c = carry_absent _ _ _ _ c.requires _ c.get.ensures _ _ (c.in_ok-at.was ∙ ap Ok c.in_default.is)
+
+pub returns-in_err-b : goal.returns-in_err-b
+returns-in_err-b c = let p = err_from_is_err_and c.from_residual-in_err-b.result c.from_residual-in_err-b.ensures.1 in rw (p.1, p.2) (carry_stop _ _ _ _ c.requires _ c.get.ensures _ _ _ (c.in_ok-at.was ∙ ap Ok c.in-Some.is) _ _ c.store_from.ensures _ c.in_err-b.was)
 
 pub returns-then-not-moves : goal.returns-then-not-moves
-returns-then-not-moves c = carry_copies _ _ _ _ c.requires _ c.get-x.ensures _ _ _ c.in-At.is _ _ c.store_from-y.ensures c.if-not-moves.true
+returns-then-not-moves c = carry_copies _ _ _ _ c.requires _ c.get.ensures _ _ _ (c.in_ok-at.was ∙ ap Ok c.in-Some.is) _ _ c.in_ok-b.ensures c.if-not-moves.true
 
 pub store_single-requires : goal.store_single-requires
-store_single-requires c = ((carry_next _ _ _ _ c.requires _ c.get-x.ensures _ _ _ c.in-At.is _ _ c.store_from-y.ensures c.if-not-moves.false _ c.in-Done.is).current, omega arith)
+store_single-requires c = ((carry_next _ _ _ _ c.requires _ c.get.ensures _ _ _ (c.in_ok-at.was ∙ ap Ok c.in-Some.is) _ _ c.store_from.ensures c.if-not-moves.false _ c.in_ok-b.was).current, omega arith)
 
-pub returns-in-Bad : goal.returns-in-Bad
-returns-in-Bad c = carry_bad _ _ _ _ c.requires _ c.get-x.ensures _ _ _ c.in-Bad.is
-
-pub returns-in-Absent : goal.returns-in-Absent
-returns-in-Absent c = carry_absent _ _ _ _ c.requires _ c.get-x.ensures _ _ c.in-Absent.is
-
-pub returns-in-Refused : goal.returns-in-Refused
-returns-in-Refused c = carry_stop _ _ _ _ c.requires _ c.get-x.ensures _ _ _ c.in-At.is _ _ c.store_from-y.ensures c.if-not-moves.false _ c.in-Refused.is
-
-pub returns-in-Done : goal.returns-in-Done
-returns-in-Done c = reached_last (carry_next _ _ _ _ c.requires _ c.get-x.ensures _ _ _ c.in-At.is _ _ c.store_from-y.ensures c.if-not-moves.false _ c.in-Done.is) _ _ c.store_single.ensures
+pub returns : goal.returns
+returns c = reached_last (carry_next _ _ _ _ c.requires _ c.get.ensures _ _ _ (c.in_ok-at.was ∙ ap Ok c.in-Some.is) _ _ c.store_from.ensures c.if-not-moves.false _ c.in_ok-b.was) _ _ c.store_single.ensures

@@ -1,6 +1,5 @@
 -- `copy_arms::carry_run` looks for both registers, and carries from there. Assumes nothing.
 use mathlib.Core.Path.{subst}
-use native.Mathlib.Omega.{arith}
 use Rattle.intmap.specs.Get.{Within}
 use Rattle.copy_arms.proofs.PlaceLaws.{leading_entry}
 use Rattle.copy_arms.proofs.TurnLaws.{run_none, run_of}
@@ -9,23 +8,17 @@ use Rattle.copy_arms.proofs.carry_run.Goals as goal
 pub returns-in_default : goal.returns-in_default
 returns-in_default c = run_none _ _ _ _ _ _
 
-pub returns-in_default-y : goal.returns-in_default-y
-returns-in_default-y c = run_none _ _ _ _ _ _
+pub returns-in_default-judge_index : goal.returns-in_default-judge_index
+returns-in_default-judge_index c = run_none _ _ _ _ _ _
 
-pub entry_at-target-requires : goal.entry_at-target-requires
-entry_at-target-requires c = (c.requires, omega arith, subst Within c.in-At-y.is c.judge_index-y.ensures.small)
+pub returns-in_default-entry_at : goal.returns-in_default-entry_at
+returns-in_default-entry_at c = run_none _ _ _ _ _ _
 
-pub returns-in_default-target : goal.returns-in_default-target
-returns-in_default-target c = run_none _ _ _ _ _ _
-
-pub entry_at-source-requires : goal.entry_at-source-requires
-entry_at-source-requires c = (c.requires, omega arith, subst Within c.in-At.is c.judge_index-x.ensures.small)
-
-pub returns-in_default-source : goal.returns-in_default-source
-returns-in_default-source c = run_none _ _ _ _ _ _
+pub returns-in_default-entry_at-2 : goal.returns-in_default-entry_at-2
+returns-in_default-entry_at-2 c = run_none _ _ _ _ _ _
 
 pub carry_cells-requires : goal.carry_cells-requires
-carry_cells-requires c = (c.requires.map, leading_entry c.requires.map c.entry_at-source.ensures c.in-At-source.is, leading_entry c.requires.map c.entry_at-target.ensures c.in-At-target.is, subst Within c.in-At.is c.judge_index-x.ensures.small, subst Within c.in-At-y.is c.judge_index-y.ensures.small)
+carry_cells-requires c = (c.requires.map, leading_entry c.requires.map c.entry_at-2.ensures c.in-Some-entry_at.is, leading_entry c.requires.map c.entry_at.ensures c.in-Some.is, subst Within c.in-Ok.is c.judge_index.ensures.small, subst Within c.in-Ok-judge_index.is c.judge_index-2.ensures.small)
 
 pub returns : goal.returns
-returns c = run_of _ _ _ c.judge_index-x.ensures c.in-At.is _ _ _ c.judge_index-y.ensures c.in-At-y.is c.carry_cells.ensures
+returns c = run_of _ _ _ c.judge_index.ensures c.in-Ok.is _ _ _ c.judge_index-2.ensures c.in-Ok-judge_index.is c.carry_cells.ensures

@@ -4,4 +4,4 @@ use Rattle.copy_arms.proofs.CopyLaws.{arm_move}
 use Rattle.copy_arms.proofs.move_.Goals as goal
 
 pub returns : goal.returns
-returns c = record { leads = λ meaning l s j. leads_as _ (arm_move _ meaning l _ s j _ c.turns.ensures) c.carry_many.ensures }
+returns c = record { leads = λ meaning l s j. leads_as _ (arm_move _ meaning l _ s j _ c.saturating_sub-n.ensures) c.carry_many.ensures }

@@ -1,22 +1,24 @@
 -- `coroutine_arms::end_coroutine` reads the register, and removes it where it names a Yield row. Assumes nothing.
-use mathlib.Core.Path.{sym, subst}
+use Rattle.std.proofs.lemmas.Result.{err_from_is_err_and}
+use Rattle.std.specs.Prelude.{Ok}
+use mathlib.Core.Path.{sym, ap, subst, ◌∙◌}
 use Rattle.jump_arms.specs.Arms.{Knows}
 use Rattle.state.proofs.LeadsLaws.{current_held}
 use Rattle.coroutine_arms.specs.Arms.{RowsArm}
 use Rattle.coroutine_arms.proofs.CoroutineLaws.{end_coroutine_arm_lem, number_bad, number_unknown, end_here, end_to}
 use Rattle.coroutine_arms.proofs.end_coroutine.Goals as goal
 
-pub known_int-v-requires : goal.known_int-v-requires
-known_int-v-requires c = current_held c.requires.0.current
+pub known_int-requires : goal.known_int-requires
+known_int-requires c = current_held c.requires.0.current
 
-pub returns-in-Bad : goal.returns-in-Bad
-returns-in-Bad c = number_bad _ _ _ _ _ _ _ (end_coroutine_arm_lem _) _ (subst (Knows _ _ _) c.in-Bad.is c.known_int-v.ensures)
+pub returns-in_err-w : goal.returns-in_err-w
+returns-in_err-w c = let p = err_from_is_err_and c.from_residual.result c.from_residual.ensures.1 in rw (p.1, p.2) (number_bad _ _ _ _ _ _ _ (end_coroutine_arm_lem _) _ (subst (Knows _ _ _) c.in_err-w.was c.known_int.ensures))
 
-pub returns-in-Unknown : goal.returns-in-Unknown
-returns-in-Unknown c = number_unknown _ _ _ _ _ _ _ (end_coroutine_arm_lem _) (subst (Knows _ _ _) c.in-Unknown.is c.known_int-v.ensures)
+pub returns-in_default : goal.returns-in_default
+returns-in_default c = number_unknown _ _ _ _ _ _ _ (end_coroutine_arm_lem _) (subst (Knows _ _ _) (c.in_ok-w.was ∙ ap Ok c.in_default.is) c.known_int.ensures)
 
-pub returns-in-NoYield : goal.returns-in-NoYield
-returns-in-NoYield c = end_here _ _ _ _ _ _ _ (subst (Knows _ _ _) c.in-Int.is c.known_int-v.ensures) _ c.yield_target-t.ensures c.in-NoYield.is
+pub returns-in_default-yield_target : goal.returns-in_default-yield_target
+returns-in_default-yield_target c = end_here _ _ _ _ _ _ _ (subst (Knows _ _ _) (c.in_ok-w.was ∙ ap Ok c.in-Some.is) c.known_int.ensures) _ c.yield_target.ensures c.in_default-yield_target.is
 
-pub returns-in-To : goal.returns-in-To
-returns-in-To c = subst (RowsArm _ _ _ _ _ _ _ _) (sym c.go_on.ensures) (end_to _ _ _ _ _ _ _ (subst (Knows _ _ _) c.in-Int.is c.known_int-v.ensures) _ _ c.yield_target-t.ensures c.in-To.is _ _ c.remove_register.ensures)
+pub returns : goal.returns
+returns c = subst (RowsArm _ _ _ _ _ _ _ _) (sym c.go_on.ensures) (end_to _ _ _ _ _ _ _ (subst (Knows _ _ _) (c.in_ok-w.was ∙ ap Ok c.in-Some.is) c.known_int.ensures) _ _ c.yield_target.ensures c.in-Some-yield_target.is _ _ c.remove_register.ensures)

@@ -7,14 +7,14 @@ use Rattle.in_place.proofs.column.Goals as goal
 pub returns-in_default : goal.returns-in_default
 returns-in_default c = cursor-not
 
-pub returns-then-end-register_near : goal.returns-then-end-register_near
-returns-then-end-register_near c = cursor-not
+pub returns-then-is_none : goal.returns-then-is_none
+returns-then-is_none c = cursor-not
 
-pub returns-then-end-p : goal.returns-then-end-p
-returns-then-end-p c = cursor-not
+pub returns-in_default-table : goal.returns-in_default-table
+returns-in_default-table c = cursor-not
 
 pub column_at-requires : goal.column_at-requires
-column_at-requires c = (c.requires, c.table-p.ensures.low, c.if-end-p.false, subst Within c.in-At.is c.judge_index-x.ensures.small)
+column_at-requires c = (c.requires, c.table.ensures.low _ c.in-Some.is, c.table.ensures.inside _ c.in-Some.is, subst Within c.in-Ok.is c.judge_index.ensures.small)
 
 pub returns : goal.returns
-returns c = column_near c.judge_index-x.ensures c.in-At.is c.table-p.ensures c.if-end-p.false c.column_at.ensures
+returns c = column_near c.judge_index.ensures c.in-Ok.is c.table.ensures c.in-Some.is c.column_at.ensures

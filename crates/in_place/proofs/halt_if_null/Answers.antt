@@ -2,20 +2,14 @@
 use Rattle.in_place.proofs.NearLaws.{arm-not, halt_near, halt_at_record, halt_at_int}
 use Rattle.in_place.proofs.halt_if_null.Goals as goal
 
-pub returns-then-end-p : goal.returns-then-end-p
-returns-then-end-p c = λ i j. arm-not
-
-pub returns-in-Bad : goal.returns-in-Bad
-returns-in-Bad c = λ i j. arm-not
-
-pub returns-in-Absent : goal.returns-in-Absent
-returns-in-Absent c = λ i j. arm-not
+pub returns-in_default : goal.returns-in_default
+returns-in_default c = λ i j. arm-not
 
 pub returns-in-Single : goal.returns-in-Single
-returns-in-Single c = λ i j. halt_near c.register_near-p.ensures c.if-end-p.false c.cell_at.ensures _ c.register_in-v.ensures _ _ _ c.in-Single.is c.datatype.ensures c.single_near.ensures
+returns-in-Single c = λ i j. halt_near c.register_near.ensures c.in-Some.is c.cell_at.ensures _ c.register_in-v.ensures _ _ _ c.in-Single.is c.datatype.ensures c.single_near.ensures
 
 pub returns-in-Record : goal.returns-in-Record
-returns-in-Record c = λ i j. halt_at_record c.register_near-p.ensures c.if-end-p.false c.cell_at.ensures _ c.register_in-v.ensures _ c.in-Record.is
+returns-in-Record c = λ i j. halt_at_record c.register_near.ensures c.in-Some.is c.cell_at.ensures _ c.register_in-v.ensures _ c.in-Record.is
 
 pub returns-in-Int : goal.returns-in-Int
-returns-in-Int c = λ i j. halt_at_int c.register_near-p.ensures c.if-end-p.false c.cell_at.ensures _ c.register_in-v.ensures _ c.in-Int.is
+returns-in-Int c = λ i j. halt_at_int c.register_near.ensures c.in-Some.is c.cell_at.ensures _ c.register_in-v.ensures _ c.in-Int.is

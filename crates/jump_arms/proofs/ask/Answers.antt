@@ -1,27 +1,21 @@
 -- `jump_arms::ask` reads the register. Assumes nothing.
-use Rattle.jump_arms.proofs.NullLaws.{asks_bad, asks_absent, asks_record, asks_int, asks_neither, asks_kind, asks_null, asks_either}
+use Rattle.std.proofs.lemmas.Result.{err_from_is_err_and}
+use mathlib.Core.Path.{ap, ◌∙◌}
+use Rattle.std.specs.Prelude.{Ok, Some}
+use Rattle.jump_arms.proofs.NullLaws.{asks_bad, asks_absent, asks_record, asks_int, asks_single}
 use Rattle.jump_arms.proofs.ask.Goals as goal
 
-pub returns-then-kind-eq0 : goal.returns-then-kind-eq0
-returns-then-kind-eq0 c = asks_neither _ _ _ _ c.read_register-v.ensures _ _ c.in-Single.is c.if-nullable-eq-NEVER.true c.if-kind-eq0.true
+pub returns-in_err-read_register : goal.returns-in_err-read_register
+returns-in_err-read_register c = let p = err_from_is_err_and c.from_residual.result c.from_residual.ensures.1 in rw (p.1, p.2) (asks_bad _ _ _ _ c.read_register.ensures _ c.in_err-read_register.was)
 
-pub returns-then-nullable-eq-NEVER : goal.returns-then-nullable-eq-NEVER
-returns-then-nullable-eq-NEVER c = asks_kind _ _ _ _ c.read_register-v.ensures _ _ c.in-Single.is c.if-nullable-eq-NEVER.true c.if-kind-eq0.false
+pub returns-in-None : goal.returns-in-None
+returns-in-None c = asks_absent _ _ _ _ c.read_register.ensures (c.in_ok-read_register.was ∙ ap Ok c.in-None.is)
 
-pub returns-then-kind-eq0-2 : goal.returns-then-kind-eq0-2
-returns-then-kind-eq0-2 c = asks_null _ _ _ _ c.read_register-v.ensures _ _ c.in-Single.is c.if-nullable-eq-NEVER.false c.if-kind-eq0-2.true
+pub returns-in-Some-Single : goal.returns-in-Some-Single
+returns-in-Some-Single c = asks_single _ _ _ _ c.read_register.ensures _ _ (c.in_ok-read_register.was ∙ ap Ok (c.in-Some-Single.is ∙ ap Some c.in-Some-Single.field-0-is))
 
-pub returns-in-Bad : goal.returns-in-Bad
-returns-in-Bad c = asks_bad _ _ _ _ c.read_register-v.ensures _ c.in-Bad.is
+pub returns-in-Some-Record : goal.returns-in-Some-Record
+returns-in-Some-Record c = asks_record _ _ _ _ c.read_register.ensures _ (c.in_ok-read_register.was ∙ ap Ok (c.in-Some-Record.is ∙ ap Some c.in-Some-Record.field-0-is))
 
-pub returns-in-Absent : goal.returns-in-Absent
-returns-in-Absent c = asks_absent _ _ _ _ c.read_register-v.ensures c.in-Absent.is
-
-pub returns-else-kind-eq0-2 : goal.returns-else-kind-eq0-2
-returns-else-kind-eq0-2 c = asks_either _ _ _ _ c.read_register-v.ensures _ _ c.in-Single.is c.if-nullable-eq-NEVER.false c.if-kind-eq0-2.false
-
-pub returns-in-Record : goal.returns-in-Record
-returns-in-Record c = asks_record _ _ _ _ c.read_register-v.ensures _ c.in-Record.is
-
-pub returns-in-Int : goal.returns-in-Int
-returns-in-Int c = asks_int _ _ _ _ c.read_register-v.ensures _ c.in-Int.is
+pub returns-in-Some-Int : goal.returns-in-Some-Int
+returns-in-Some-Int c = asks_int _ _ _ _ c.read_register.ensures _ (c.in_ok-read_register.was ∙ ap Ok (c.in-Some-Int.is ∙ ap Some c.in-Some-Int.field-0-is))

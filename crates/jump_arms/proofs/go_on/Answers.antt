@@ -1,10 +1,11 @@
 -- `jump_arms::go_on` gives the step after an access. Assumes nothing.
+use Rattle.std.proofs.lemmas.Result.{err_from_is_err_and}
 use mathlib.Core.Path.{sym, ap}
 use Rattle.jump_arms.specs.Arms.{step_after}
 use Rattle.jump_arms.proofs.go_on.Goals as goal
 
-pub returns-in-Refused : goal.returns-in-Refused
-returns-in-Refused c = ap (step_after _) (sym c.in-Refused.is)
+pub returns-in_err-map : goal.returns-in_err-map
+returns-in_err-map c = let p = err_from_is_err_and c.from_residual.result c.from_residual.ensures.1 in rw (p.1, p.2) (ap (step_after _) (sym c.in_err-map.was))
 
-pub returns-in-Done : goal.returns-in-Done
-returns-in-Done c = ap (step_after _) (sym c.in-Done.is)
+pub returns : goal.returns
+returns c = ap (step_after _) (sym c.in_ok-map.was)

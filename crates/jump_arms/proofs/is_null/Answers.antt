@@ -1,24 +1,19 @@
 -- `jump_arms::is_null` asks the register. Assumes nothing.
+use Rattle.std.proofs.lemmas.Result.{err_from_is_err_and}
 use mathlib.Core.Path.{subst}
 use Rattle.state.proofs.LeadsLaws.{current_held}
 use Rattle.jump_arms.specs.Arms.{Asks}
 use Rattle.jump_arms.proofs.NullLaws.{change_bad, change_ends, change_both, is-null-arm, decided_null}
 use Rattle.jump_arms.proofs.is_null.Goals as goal
 
-pub ask-v-requires : goal.ask-v-requires
-ask-v-requires c = current_held c.requires.current
+pub ask-requires : goal.ask-requires
+ask-requires c = current_held c.requires.current
 
-pub returns-in-Bad : goal.returns-in-Bad
-returns-in-Bad c = change_bad _ _ _ _ _ _ _ (is-null-arm _) _ (subst (Asks _ _ _) c.in-Bad.is c.ask-v.ensures)
+pub returns-in_err-asked : goal.returns-in_err-asked
+returns-in_err-asked c = let p = err_from_is_err_and c.from_residual.result c.from_residual.ensures.1 in rw (p.1, p.2) (change_bad _ _ _ _ _ _ _ (is-null-arm _) _ (subst (Asks _ _ _) c.in_err-asked.was c.ask.ensures))
 
-pub returns-in-Neither : goal.returns-in-Neither
-returns-in-Neither c = change_ends _ _ _ _ _ _ _ (is-null-arm _) (λ bound m h. decided_null ((subst (Asks _ _ _) c.in-Neither.is c.ask-v.ensures).says _ bound m h.map))
+pub returns : goal.returns
+returns c = change_ends _ _ _ _ _ _ _ (is-null-arm _) (λ bound m h. decided_null ((subst (Asks _ _ _) c.in_ok-asked.was c.ask.ensures).says _ bound m h.map) c.if-asked.false)
 
-pub returns-in-Kind : goal.returns-in-Kind
-returns-in-Kind c = change_ends _ _ _ _ _ _ _ (is-null-arm _) (λ bound m h. decided_null ((subst (Asks _ _ _) c.in-Kind.is c.ask-v.ensures).says _ bound m h.map))
-
-pub returns-in-Null : goal.returns-in-Null
-returns-in-Null c = change_both _ _ _ _ _ _ _ (is-null-arm _) (λ bound m h. decided_null ((subst (Asks _ _ _) c.in-Null.is c.ask-v.ensures).says _ bound m h.map)) _ _ c.change_both.ensures
-
-pub returns-in-Either : goal.returns-in-Either
-returns-in-Either c = change_both _ _ _ _ _ _ _ (is-null-arm _) (λ bound m h. decided_null ((subst (Asks _ _ _) c.in-Either.is c.ask-v.ensures).says _ bound m h.map)) _ _ c.change_both-in-Either.ensures
+pub returns-then-asked : goal.returns-then-asked
+returns-then-asked c = change_both _ _ _ _ _ _ _ (is-null-arm _) (λ bound m h. decided_null ((subst (Asks _ _ _) c.in_ok-asked.was c.ask.ensures).says _ bound m h.map) c.if-asked.true) _ _ c.change_both.ensures

@@ -1,18 +1,21 @@
 -- `jump_arms::known_int` reads the register. Assumes nothing.
+use Rattle.std.proofs.lemmas.Result.{err_from_is_err_and}
+use mathlib.Core.Path.{ap, ◌∙◌}
+use Rattle.std.specs.Prelude.{Ok, Some}
 use Rattle.jump_arms.proofs.ReturnLaws.{knows_bad, knows_absent, knows_single, knows_record, knows_int}
 use Rattle.jump_arms.proofs.known_int.Goals as goal
 
-pub returns-in-Bad : goal.returns-in-Bad
-returns-in-Bad c = knows_bad _ _ _ _ c.read_register-x.ensures _ c.in-Bad.is
+pub returns-in_err-read_register : goal.returns-in_err-read_register
+returns-in_err-read_register c = let p = err_from_is_err_and c.from_residual.result c.from_residual.ensures.1 in rw (p.1, p.2) (knows_bad _ _ _ _ c.read_register.ensures _ c.in_err-read_register.was)
 
-pub returns-in-Absent : goal.returns-in-Absent
-returns-in-Absent c = knows_absent _ _ _ _ c.read_register-x.ensures c.in-Absent.is
+pub returns-in-None : goal.returns-in-None
+returns-in-None c = knows_absent _ _ _ _ c.read_register.ensures (c.in_ok-read_register.was ∙ ap Ok c.in-None.is)
 
-pub returns-in-Single : goal.returns-in-Single
-returns-in-Single c = knows_single _ _ _ _ c.read_register-x.ensures _ _ c.in-Single.is
+pub returns-in-Some-Single : goal.returns-in-Some-Single
+returns-in-Some-Single c = knows_single _ _ _ _ c.read_register.ensures _ _ (c.in_ok-read_register.was ∙ ap Ok (c.in-Some-Single.is ∙ ap Some c.in-Some-Single.field-0-is))
 
-pub returns-in-Record : goal.returns-in-Record
-returns-in-Record c = knows_record _ _ _ _ c.read_register-x.ensures _ c.in-Record.is
+pub returns-in-Some-Record : goal.returns-in-Some-Record
+returns-in-Some-Record c = knows_record _ _ _ _ c.read_register.ensures _ (c.in_ok-read_register.was ∙ ap Ok (c.in-Some-Record.is ∙ ap Some c.in-Some-Record.field-0-is))
 
-pub returns-in-Int : goal.returns-in-Int
-returns-in-Int c = knows_int _ _ _ _ c.read_register-x.ensures _ c.in-Int.is
+pub returns-in-Some-Int : goal.returns-in-Some-Int
+returns-in-Some-Int c = knows_int _ _ _ _ c.read_register.ensures _ (c.in_ok-read_register.was ∙ ap Ok (c.in-Some-Int.is ∙ ap Some c.in-Some-Int.field-0-is))

@@ -1,28 +1,19 @@
 -- `jump_arms::put_default` stores the default where something is. Assumes nothing.
-use Rattle.jump_arms.proofs.NullLaws.{put_bad, put_absent, default_single, default_record, default_int}
+use Rattle.std.specs.Prelude.{Ok}
+use Rattle.std.proofs.lemmas.Result.{err_from_is_err_and}
+use mathlib.Core.Path.{ap, ◌∙◌}
 use native.Mathlib.Omega.{arith}
+use Rattle.jump_arms.proofs.NullLaws.{put_bad, put_absent, default_some}
 use Rattle.jump_arms.proofs.put_default.Goals as goal
 
 pub put_single-requires : goal.put_single-requires
 put_single-requires c = (c.requires.0, omega arith, c.requires.1)
 
-pub put_single-requires-in-Record : goal.put_single-requires-in-Record
-put_single-requires-in-Record c = (c.requires.0, omega arith, c.requires.1)
+pub returns-in_err-read_register : goal.returns-in_err-read_register
+returns-in_err-read_register c = let p = err_from_is_err_and c.from_residual.result c.from_residual.ensures.1 in rw (p.1, p.2) (put_bad _ _ _ _ _ c.read_register.ensures _ _ c.in_err-read_register.was)
 
-pub put_single-requires-in-Int : goal.put_single-requires-in-Int
-put_single-requires-in-Int c = (c.requires.0, omega arith, c.requires.1)
+pub returns-in-None : goal.returns-in-None
+returns-in-None c = put_absent _ _ _ _ _ c.read_register.ensures c.requires.0 _ (c.in_ok-read_register.was ∙ ap Ok c.in-None.is)
 
-pub returns-in-Bad : goal.returns-in-Bad
-returns-in-Bad c = put_bad _ _ _ _ _ c.read_register-v.ensures _ _ c.in-Bad.is
-
-pub returns-in-Absent : goal.returns-in-Absent
-returns-in-Absent c = put_absent _ _ _ _ _ c.read_register-v.ensures c.requires.0 _ c.in-Absent.is
-
-pub returns-in-Single : goal.returns-in-Single
-returns-in-Single c = default_single _ _ _ _ _ c.read_register-v.ensures _ _ c.put_single.ensures _ _ c.in-Single.is
-
-pub returns-in-Record : goal.returns-in-Record
-returns-in-Record c = default_record _ _ _ _ _ c.read_register-v.ensures _ _ c.put_single-in-Record.ensures _ c.in-Record.is
-
-pub returns-in-Int : goal.returns-in-Int
-returns-in-Int c = default_int _ _ _ _ _ c.read_register-v.ensures _ _ c.put_single-in-Int.ensures _ c.in-Int.is
+pub returns-in-Some : goal.returns-in-Some
+returns-in-Some c = default_some _ _ _ _ _ c.read_register.ensures _ _ c.put_single.ensures _ (c.in_ok-read_register.was ∙ ap Ok c.in-Some.is)

@@ -7,7 +7,7 @@ use Rattle.jump_arms.proofs.NullLaws.{put-single}
 use Rattle.jump_arms.proofs.put_single.Goals as goal
 
 pub store_cell-requires : goal.store_cell-requires
-store_cell-requires c = (c.requires.0, omega arith, omega (arith, ap (λ x. tag_of x) c.single.ensures, code_small c.args.d))
+store_cell-requires c = (c.requires.0, omega (arith, ap (λ x. tag_of x) c.single.ensures, code_small c.args.d))
 
 pub returns : goal.returns
 returns c = put-single _ _ _ _ _ _ _ _ _ c.requires.1 c.single.ensures c.store_cell.ensures

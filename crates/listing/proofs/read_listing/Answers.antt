@@ -1,46 +1,34 @@
 -- What is left of `read_listing`, by the invariant of Invariants.antt. Assumes nothing.
-use mathlib.Core.Path.{refl}
-use native.Mathlib.Omega.{arith}
-use Rattle.text.proofs.ReadLaws.{read_ends}
-use Rattle.listing.proofs.LoadLaws.{load_start, load_next, load_refused, load_over, load_count, room_kept, judged_bad, judged-row}
+use mathlib.Core.Path.{◌≡◌, refl, sym, ◌∙◌}
+use borrow.Author.Tests.{eqb-true, eqb-false}
+use borrow.Author.Rules.{rules}
+use Rattle.std.specs.Prelude.{None, Some, Err}
+use Rattle.refusal.specs.declared.Refusal.TheVariants.{IllFormedListing}
+use Rattle.listing.proofs.LoadLaws.{load_start, load_next, load_refused, load_over, load_count, room_kept, row_none, row_some}
 use Rattle.listing.proofs.read_listing.Goals as goal
 
-pub loop-at-init : goal.loop-at-init
-loop-at-init c = (refl, load_start _ _ _ _)
+pub loop-reader-init : goal.loop-reader-init
+loop-reader-init c = (refl, load_start _ _ _ _)
 
-pub judge_row-requires : goal.judge_row-requires
-judge_row-requires c = c.loop-at.invariant.1.read.inside
-
-pub shape_of-area-in_default : goal.shape_of-area-in_default
-shape_of-area-in_default c = c.loop-at.invariant.0
-
-pub returns-in_default : goal.returns-in_default
-returns-in_default c = load_refused c.loop-at.invariant.1 c.loop-at-test.true (judged_bad c.judge_row.ensures c.in_default.is)
+pub returns-in_err-row : goal.returns-in_err-row
+returns-in_err-row c =
+    let e : c.from_residual.result ≡ Err IllFormedListing = search rules in
+    let none : c.read_row.result ≡ None = search rules in
+    rw e (load_refused c.loop-reader.invariant.1 (eqb-false _ _ (sym c.is_empty.ensures ∙ c.loop-reader-test.true)) (row_none _ _ _ c.read_row.ensures none))
 
 pub put_where-requires : goal.put_where-requires
-put_where-requires c = record {
-  room = room_kept c.loop-at.invariant.0 c.requires;
-  fits = (judged-row c.judge_row.ensures c.in-Is.is).judged.fits;
-}
+put_where-requires c =
+    let some : c.read_row.result ≡ Some c.in_ok-row.row = search rules in
+    record { room = room_kept c.loop-reader.invariant.0 c.requires; fits = (row_some _ _ _ c.read_row.ensures some).judged.fits }
 
-pub overflow_add-k : goal.overflow_add-k
-overflow_add-k c = omega (arith, c.loop-at.invariant.1.read.each, c.loop-at-test)
-
-pub loop-at-smaller : goal.loop-at-smaller
-loop-at-smaller c = omega (arith, read_ends (judged-row c.judge_row.ensures c.in-Is.is).reads refl, c.loop-at-test)
-
-pub loop-at-preserved : goal.loop-at-preserved
-loop-at-preserved c = let next = load_next c.loop-at.invariant.1 c.requires c.loop-at-test.true (judged-row c.judge_row.ensures c.in-Is.is) c.put_where.ensures in
+pub loop-reader-preserved : goal.loop-reader-preserved
+loop-reader-preserved c =
+    let some : c.read_row.result ≡ Some c.in_ok-row.row = search rules in
+    let next = load_next c.loop-reader.invariant.1 c.requires (eqb-false _ _ (sym c.is_empty.ensures ∙ c.loop-reader-test.true)) (row_some _ _ _ c.read_row.ensures some) c.put_where.ensures in
     (next.bytes, next)
 
-pub shape_of-area-then-k-gt-MOST : goal.shape_of-area-then-k-gt-MOST
-shape_of-area-then-k-gt-MOST c = c.loop-at.invariant.0
-
 pub returns-then-k-gt-MOST : goal.returns-then-k-gt-MOST
-returns-then-k-gt-MOST c = load_over c.loop-at.invariant.1 c.loop-at-test.false c.if-k-gt-MOST.true
-
-pub shape_of-area : goal.shape_of-area
-shape_of-area c = c.loop-at.invariant.0
+returns-then-k-gt-MOST c = load_over c.loop-reader.invariant.1 (eqb-true _ _ (sym c.is_empty.ensures ∙ c.loop-reader-test.false)) c.if-k-gt-MOST.true
 
 pub returns : goal.returns
-returns c = load_count c.loop-at.invariant.1 c.loop-at-test.false c.if-k-gt-MOST.false
+returns c = load_count c.loop-reader.invariant.1 (eqb-true _ _ (sym c.is_empty.ensures ∙ c.loop-reader-test.false)) c.if-k-gt-MOST.false

@@ -12,4 +12,4 @@ merge_entries-requires c =
 
 pub returns : goal.returns
 returns c =
-    merged_row _ _ _ _ _ _ _ _ _ _ (ap (λ k. k + c.args.i) c.class_key.ensures) c.requires.1 c.requires.2 c.find-found.ensures c.merge_entries.ensures c.wider.ensures
+    merged_row _ _ _ _ _ _ _ _ _ _ (ap (λ k. k + c.args.i) c.class_key.ensures) c.requires.1 c.requires.2 c.find-found.ensures c.merge_entries.ensures c.max.ensures

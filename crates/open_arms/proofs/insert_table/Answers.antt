@@ -2,13 +2,9 @@
 use mathlib.Core.Path.{sym, ap, ◌∙◌}
 use native.Mathlib.Omega.{arith}
 use Rattle.intmap.proofs.StoreLaws.{room_map, behind_new}
-use Rattle.state.proofs.LeadsLaws.{current_held}
 use Rattle.state.proofs.OwnLaws.{key_as}
 use Rattle.open_arms.proofs.OpenLaws.{stored_as}
 use Rattle.open_arms.proofs.insert_table.Goals as goal
-
-pub place_of-found-requires : goal.place_of-found-requires
-place_of-found-requires c = (current_held c.requires.0, omega arith, c.requires.1)
 
 pub append_run-requires : goal.append_run-requires
 append_run-requires c = let key = c.class_key-key.ensures in

@@ -1,19 +1,19 @@
 -- `record_arms::judge_range` goes by where the first index and the last lie. Assumes nothing.
+use Rattle.std.proofs.lemmas.Result.{err_from_is_err_and}
+use mathlib.Core.Path.{refl, subst}
 use native.Mathlib.Omega.{arith}
-use Rattle.record_arms.proofs.RangeLaws.{range_none, range_low, range_high, range_within}
+use Rattle.intmap.specs.Get.{Within}
+use Rattle.record_arms.proofs.RangeLaws.{range_none, range_bad, range_high, range_within}
 use Rattle.record_arms.proofs.judge_range.Goals as goal
 
 pub returns-then-n-eq0 : goal.returns-then-n-eq0
-returns-then-n-eq0 c = range_none _ _ c.if-n-eq0.true
+returns-then-n-eq0 c = range_none _ _ c.if-n-eq0.true _ refl refl
 
-pub returns-then-i-lt-ZERO : goal.returns-then-i-lt-ZERO
-returns-then-i-lt-ZERO c = range_low _ _ c.if-n-eq0.false c.if-i-lt-ZERO.true
-
-pub returns-then-first-gt65535 : goal.returns-then-first-gt65535
-returns-then-first-gt65535 c = range_high _ _ c.if-n-eq0.false (omega arith) (omega (arith, c.if-n-eq0.false))
+pub returns-in_err-first : goal.returns-in_err-first
+returns-in_err-first c = let p = err_from_is_err_and c.from_residual.result c.from_residual.ensures.1 in rw (p.1, p.2) (range_bad _ _ c.if-n-eq0.false _ c.judge_index.ensures _ c.in_err-first.was)
 
 pub returns-then-first-n : goal.returns-then-first-n
-returns-then-first-n c = range_high _ _ c.if-n-eq0.false (omega arith) (omega arith)
+returns-then-first-n c = let few = subst Within c.in_ok-first.was c.judge_index.ensures.small in range_high _ _ c.if-n-eq0.false _ c.judge_index.ensures _ c.in_ok-first.was (omega (arith, few))
 
 pub returns : goal.returns
-returns c = range_within _ _ c.if-n-eq0.false (omega arith) (omega arith)
+returns c = range_within _ _ c.if-n-eq0.false _ c.judge_index.ensures _ c.in_ok-first.was _ refl refl

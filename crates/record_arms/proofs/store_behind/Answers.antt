@@ -1,31 +1,30 @@
 -- `record_arms::store_behind` judges index, depth and cells, and stores what it built. Assumes nothing.
-use mathlib.Core.Path.{refl, sym, ap, subst, ◌∙◌}
+use Rattle.std.proofs.lemmas.Result.{err_from_is_err_and}
+use mathlib.Core.Path.{refl, sym, subst, ◌∙◌}
 use native.Mathlib.Omega.{arith}
-use Rattle.intmap.specs.Get.{index_of}
 use Rattle.record_arms.specs.Records.{BuildsRecord}
 use Rattle.record_arms.proofs.DeepLaws.{flat_registers}
 use Rattle.record_arms.proofs.RecordLaws.{record_index, record_deep, record_many, record_full, built_room, built_fits, record_stored}
 use Rattle.record_arms.proofs.store_behind.Goals as goal
 
-pub returns-in-Bad : goal.returns-in-Bad
-returns-in-Bad c = record_index _ _ _ _ _ _ c.requires.1 _ (ap index_of (sym c.in-Bad.is) ∙ c.judge_index-x.ensures.answer)
+pub returns-in_err-judge_index : goal.returns-in_err-judge_index
+returns-in_err-judge_index c = let p = err_from_is_err_and c.from_residual.result c.from_residual.ensures.1 in rw (p.1, p.2) (record_index _ _ _ _ _ _ c.args.registers.within _ c.judge_index.ensures _ c.in_err-judge_index.was)
 
 pub returns-then-too_deep : goal.returns-then-too_deep
-returns-then-too_deep c = record_deep _ _ _ _ _ _ c.requires.1 _ (ap index_of (sym c.in_default.is) ∙ c.judge_index-x.ensures.answer) (sym c.too_deep.ensures ∙ c.if-too_deep.true)
+returns-then-too_deep c = record_deep _ _ _ _ _ _ c.args.registers.within _ c.judge_index.ensures _ c.in_ok-judge_index.was (sym c.too_deep.ensures ∙ c.if-too_deep.true)
 
-pub returns-then-limit-n : goal.returns-then-limit-n
-returns-then-limit-n c = record_many _ _ _ _ _ _ c.requires.1 _ (ap index_of (sym c.in_default.is) ∙ c.judge_index-x.ensures.answer) (sym c.too_deep.ensures ∙ c.if-too_deep.false) c.if-limit-n.true
+pub returns-then-limit-registers : goal.returns-then-limit-registers
+returns-then-limit-registers c = record_many _ _ _ _ _ _ c.args.registers.within _ c.judge_index.ensures _ c.in_ok-judge_index.was (sym c.too_deep.ensures ∙ c.if-too_deep.false) c.if-limit-registers.true
 
-pub build_record-y-requires : goal.build_record-y-requires
-build_record-y-requires c = (c.requires.0, c.requires.1, omega (arith, c.if-limit-n.false), flat_registers _ c.args.map _ _ (sym c.too_deep.ensures ∙ c.if-too_deep.false))
+pub build_record-requires : goal.build_record-requires
+build_record-requires c = (c.requires, omega (arith, c.if-limit-registers.false), flat_registers _ c.args.map _ _ (sym c.too_deep.ensures ∙ c.if-too_deep.false))
 
 pub store_run-requires : goal.store_run-requires
-store_run-requires c = let built = subst (BuildsRecord _ _ _ _ _ _) c.in-At.is c.build_record-y.ensures in
-    let at = ap index_of (sym c.in_default.is) ∙ c.judge_index-x.ensures.answer in
-    (built_room _ _ _ _ _ _ c.requires.1 _ at (sym c.too_deep.ensures ∙ c.if-too_deep.false) _ _ built c.requires.0, omega arith, record { whole = refl; above = built.answer.above; fits = built_fits _ _ _ _ _ _ c.requires.1 _ at (sym c.too_deep.ensures ∙ c.if-too_deep.false) _ _ built c.requires.0 })
+store_run-requires c = let built = subst (BuildsRecord _ _ _ _ _ _) c.in-Some.is c.build_record.ensures in
+    (built_room _ _ _ _ _ _ c.args.registers.within _ c.judge_index.ensures _ c.in_ok-judge_index.was (sym c.too_deep.ensures ∙ c.if-too_deep.false) _ _ built c.requires, record { whole = refl; above = built.answer.above; fits = built_fits _ _ _ _ _ _ c.args.registers.within _ c.judge_index.ensures _ c.in_ok-judge_index.was (sym c.too_deep.ensures ∙ c.if-too_deep.false) _ _ built c.requires })
 
-pub returns-in-Full : goal.returns-in-Full
-returns-in-Full c = record_full _ _ _ _ _ _ c.requires.1 _ (ap index_of (sym c.in_default.is) ∙ c.judge_index-x.ensures.answer) (sym c.too_deep.ensures ∙ c.if-too_deep.false) _ (subst (BuildsRecord _ _ _ _ _ _) c.in-Full.is c.build_record-y.ensures)
+pub returns-in_default : goal.returns-in_default
+returns-in_default c = record_full _ _ _ _ _ _ c.args.registers.within _ c.judge_index.ensures _ c.in_ok-judge_index.was (sym c.too_deep.ensures ∙ c.if-too_deep.false) _ (subst (BuildsRecord _ _ _ _ _ _) c.in_default.is c.build_record.ensures)
 
-pub returns-in-At : goal.returns-in-At
-returns-in-At c = record_stored _ _ _ _ _ _ c.requires.1 _ (ap index_of (sym c.in_default.is) ∙ c.judge_index-x.ensures.answer) (sym c.too_deep.ensures ∙ c.if-too_deep.false) _ _ (subst (BuildsRecord _ _ _ _ _ _) c.in-At.is c.build_record-y.ensures) c.requires.0 _ _ c.store_run.ensures
+pub returns : goal.returns
+returns c = record_stored _ _ _ _ _ _ c.args.registers.within _ c.judge_index.ensures _ c.in_ok-judge_index.was (sym c.too_deep.ensures ∙ c.if-too_deep.false) _ _ (subst (BuildsRecord _ _ _ _ _ _) c.in-Some.is c.build_record.ensures) c.requires _ _ c.store_run.ensures

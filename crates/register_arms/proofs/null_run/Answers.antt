@@ -1,5 +1,6 @@
 -- What is left of `null_run`, by the invariant of Invariants.antt. Assumes nothing.
-use mathlib.Core.Path.{refl, ap}
+use Rattle.std.specs.Prelude.{Ok}
+use mathlib.Core.Path.{refl, ap, ◌∙◌}
 use native.Mathlib.Omega.{arith}
 use borrow.Author.Rules.{rules}
 use Rattle.intmap.specs.Pack.{tag_of}
@@ -7,14 +8,17 @@ use Rattle.state.proofs.LeadsLaws.{current_held}
 use Rattle.register_arms.proofs.RunLaws.{run_none, nulling_first, nulling_stop, nulling_on}
 use Rattle.register_arms.proofs.null_run.Goals as goal
 
-pub get-x-requires : goal.get-x-requires
-get-x-requires c = (current_held c.requires.0, omega arith)
+pub get-requires : goal.get-requires
+get-requires c = current_held c.requires.0
 
 pub returns-in_default : goal.returns-in_default
 returns-in_default c = run_none _ _ _ _ _ c.requires.0
 
+pub returns-in_default-2 : goal.returns-in_default-2
+returns-in_default-2 c = run_none _ _ _ _ _ c.requires.0
+
 pub loop-done-init : goal.loop-done-init
-loop-done-init c = (refl, nulling_first _ _ _ _ _ _ c.requires.0 _ c.get-x.ensures c.in-At.is)
+loop-done-init c = (refl, nulling_first _ _ _ _ _ _ c.requires.0 _ c.get.ensures (c.in-Ok-Some.is ∙ ap Ok c.in-Ok-Some.field-0-is))
 
 pub overflow_add-p : goal.overflow_add-p
 overflow_add-p c = omega (arith, c.loop-done.invariant.1.most, c.loop-done.invariant.1.current.room.most, c.loop-done.invariant.1.current.room.room, c.loop-done.invariant.1.current.room.small)

@@ -3,4 +3,4 @@ use Rattle.root_block.proofs.ColumnLaws.{block_made}
 use Rattle.root_block.proofs.block_of.Goals as goal
 
 pub returns : goal.returns
-returns c = block_made c.args.catalogue.now c.args.r _ c.column_of-c.ensures c.requires.1 c.requires.2 c.requires.3
+returns c = block_made c.args.r _ c.column_of-c.ensures c.requires.0 c.requires.1 c.requires.2

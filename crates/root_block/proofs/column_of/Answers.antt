@@ -8,4 +8,4 @@ pub single-requires : goal.single-requires
 single-requires c = omega (arith, c.nullable.ensures, code_few (not c.args.r.notnull))
 
 pub returns : goal.returns
-returns c = column_made c.args.catalogue.now c.args.r _ _ _ _ c.from_str-d.ensures c.nullable.ensures c.single.ensures c.with_key.ensures
+returns c = column_made c.args.r _ _ _ _ c.from_str-d.ensures c.nullable.ensures c.single.ensures c.with_key.ensures

@@ -1,14 +1,15 @@
 -- `state::entry_at` takes what was located. Assumes nothing.
 use mathlib.Core.Path.{refl}
 use native.Mathlib.Omega.{arith}
+use Rattle.intmap.proofs.PackLaws.{class_small}
 use Rattle.state.proofs.OwnLaws.{held-among, located_key, located_nowhere, entry_none, entry_hinted}
 use Rattle.state.proofs.entry_at.Goals as goal
 
-pub locate-p-requires : goal.locate-p-requires
-locate-p-requires c = (held-among c.requires.0, omega (arith, c.class_key-key.ensures), omega (arith, c.class_key-key.ensures, c.requires.1, c.requires.2))
+pub locate-requires : goal.locate-requires
+locate-requires c = (held-among c.requires.0, omega (arith, c.class_key-key.ensures), omega (arith, c.class_key-key.ensures, class_small c.args.class, c.requires.1))
 
-pub returns-then-p-end : goal.returns-then-p-end
-returns-then-p-end c = entry_hinted _ _ _ _ _ c.class_key-key.ensures c.requires.0 _ (located_key c.locate-p.ensures c.if-p-end.true)
+pub returns-in-Ok : goal.returns-in-Ok
+returns-in-Ok c = entry_hinted _ _ _ _ _ c.class_key-key.ensures c.requires.0 _ (located_key c.locate.ensures c.in-Ok.is)
 
-pub returns : goal.returns
-returns c = entry_none _ _ _ _ _ c.class_key-key.ensures _ refl (located_nowhere c.requires.0 (omega (arith, c.class_key-key.ensures)) c.locate-p.ensures c.if-p-end.false).none
+pub returns-in-Err : goal.returns-in-Err
+returns-in-Err c = entry_none _ _ _ _ _ c.class_key-key.ensures _ refl (located_nowhere c.requires.0 (omega (arith, c.class_key-key.ensures)) c.locate.ensures c.in-Err.is).none

@@ -1,6 +1,5 @@
 -- `state::far` tests the cell where the key belongs. Assumes nothing.
 use mathlib.Core.Path.{sym, ◌∙◌}
-use native.Mathlib.Omega.{arith}
 use Rattle.state.proofs.OwnLaws.{among_inside, located_here, located_new}
 use Rattle.state.proofs.far.Goals as goal
 
@@ -13,8 +12,5 @@ is_at-requires c = let i = among_inside c.requires.0 in (i.0, i.1, c.requires.2)
 pub returns-then-is_at : goal.returns-then-is_at
 returns-then-is_at c = located_here c.place-p.ensures.low (sym c.is_at.ensures ∙ c.if-is_at.true)
 
-pub overflow_add-result : goal.overflow_add-result
-overflow_add-result c = let i = among_inside c.requires.0 in omega (arith, i.0, i.1, c.place-p.ensures.high)
-
 pub returns : goal.returns
-returns c = located_new c.requires.0.ordered c.place-p.ensures (sym c.is_at.ensures ∙ c.if-is_at.false)
+returns c = located_new c.place-p.ensures (sym c.is_at.ensures ∙ c.if-is_at.false)

@@ -6,13 +6,10 @@ use Rattle.state.proofs.OverLaws.{entry-not, entry_column, entry_over}
 use Rattle.state.proofs.over_entry.Goals as goal
 
 pub copy_over-requires : goal.copy_over-requires
-copy_over-requires c = (c.requires.1.column, entry_column _ _ _ _ _ _ c.entry_at-x.ensures c.in-At.is c.requires.0.map, c.requires.1.tag, c.requires.1.number)
+copy_over-requires c = (c.requires.1.column, entry_column _ _ _ _ _ _ c.entry_at.ensures c.in-Some.is c.requires.0.map, c.requires.1.tag, c.requires.1.number)
 
-pub returns-in-Bad : goal.returns-in-Bad
-returns-in-Bad c = entry-not c.entry_at-x.ensures (λ e. let t = sym (ap case c.in-Bad.is) ∙ e in omega (arith, t))
+pub returns-in-None : goal.returns-in-None
+returns-in-None c = entry-not c.entry_at.ensures (λ e. let t = sym (ap case c.in-None.is) ∙ e in omega (arith, t))
 
-pub returns-in-Absent : goal.returns-in-Absent
-returns-in-Absent c = entry-not c.entry_at-x.ensures (λ e. let t = sym (ap case c.in-Absent.is) ∙ e in omega (arith, t))
-
-pub returns-in-At : goal.returns-in-At
-returns-in-At c = entry_over _ _ _ _ _ _ c.entry_at-x.ensures c.in-At.is c.copy_over.ensures
+pub returns-in-Some : goal.returns-in-Some
+returns-in-Some c = entry_over _ _ _ _ _ _ c.entry_at.ensures c.in-Some.is c.copy_over.ensures

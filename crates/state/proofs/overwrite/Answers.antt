@@ -6,19 +6,19 @@ use Rattle.state.proofs.OwnLaws.{bad_own, other_own, has_key, overwrites_bad, ov
 use Rattle.state.proofs.overwrite.Goals as goal
 
 pub returns-in_default : goal.returns-in_default
-returns-in_default c = overwrites_bad _ (bad_own c.judge_index-x.ensures _ c.in_default.is _)
+returns-in_default c = overwrites_bad _ (bad_own c.judge_index.ensures _ c.in_default.is _)
 
 pub class_key-key-requires : goal.class_key-key-requires
-class_key-key-requires c = (omega arith, subst Within c.in-At.is c.judge_index-x.ensures.small)
+class_key-key-requires c = subst Within c.in-Ok.is c.judge_index.ensures.small
 
 pub is_at-requires : goal.is_at-requires
-is_at-requires c = (c.requires.0.map.inside, c.requires.0.map.small, let w = subst Within c.in-At.is c.judge_index-x.ensures.small in omega (arith, c.class_key-key.ensures, w))
+is_at-requires c = (c.requires.0.map.inside, c.requires.0.map.small, let w = subst Within c.in-Ok.is c.judge_index.ensures.small in omega (arith, c.class_key-key.ensures, w))
 
 pub returns-then-not-is_at : goal.returns-then-not-is_at
-returns-then-not-is_at c = overwrites_bad _ (other_own c.judge_index-x.ensures c.in-At.is c.class_key-key.ensures c.is_at.ensures c.if-not-is_at.true)
+returns-then-not-is_at c = overwrites_bad _ (other_own c.judge_index.ensures c.in-Ok.is c.class_key-key.ensures c.is_at.ensures c.if-not-is_at.true)
 
 pub put_plain-requires : goal.put_plain-requires
-put_plain-requires c = let has = has_key _ c.args.map _ _ c.requires.1 (sym c.is_at.ensures ∙ c.if-not-is_at.false) in let w = subst Within c.in-At.is c.judge_index-x.ensures.small in (omega (arith, has.inside, c.requires.0.map.inside, c.requires.0.map.small), omega (arith, c.class_key-key.ensures, w))
+put_plain-requires c = let has = has_key _ c.args.map _ _ c.requires.1 (sym c.is_at.ensures ∙ c.if-not-is_at.false) in let w = subst Within c.in-Ok.is c.judge_index.ensures.small in (omega (arith, has.inside, c.requires.0.map.inside, c.requires.0.map.small), omega (arith, c.class_key-key.ensures, w))
 
 pub returns : goal.returns
-returns c = overwrites_at c.judge_index-x.ensures c.in-At.is c.class_key-key.ensures (has_key _ c.args.map _ _ c.requires.1 (sym c.is_at.ensures ∙ c.if-not-is_at.false)) c.requires.2 c.put_plain.ensures
+returns c = overwrites_at c.judge_index.ensures c.in-Ok.is c.class_key-key.ensures (has_key _ c.args.map _ _ c.requires.1 (sym c.is_at.ensures ∙ c.if-not-is_at.false)) c.requires.2 c.put_plain.ensures

@@ -9,10 +9,10 @@ pub returns-in_default : goal.returns-in_default
 returns-in_default c = gets_nowhere
 
 pub class_key-requires : goal.class_key-requires
-class_key-requires c = (omega arith, subst Within c.in-At.is c.judge_index-x.ensures.small)
+class_key-requires c = subst Within c.in-Ok.is c.judge_index.ensures.small
 
 pub near_first-requires : goal.near_first-requires
-near_first-requires c = (c.requires, let w = subst Within c.in-At.is c.judge_index-x.ensures.small in omega (arith, c.class_key.ensures, w))
+near_first-requires c = (c.requires, let w = subst Within c.in-Ok.is c.judge_index.ensures.small in omega (arith, c.class_key.ensures, w))
 
 pub returns : goal.returns
-returns c = gets_near c.judge_index-x.ensures c.in-At.is c.class_key.ensures c.near_first.ensures
+returns c = gets_near c.judge_index.ensures c.in-Ok.is c.class_key.ensures c.near_first.ensures

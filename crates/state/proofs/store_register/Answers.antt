@@ -14,7 +14,7 @@ pub returns-then-write_near : goal.returns-then-write_near
 returns-then-write_near c = c.write_near.ensures.yes c.if-write_near.true c.args.map refl refl _ c.requires.0
 
 pub store_cell-requires : goal.store_cell-requires
-store_cell-requires c = let same = c.write_near.ensures.no c.if-write_near.false in (still_room same c.requires.0, still_held same c.requires.1, omega arith, c.requires.2)
+store_cell-requires c = let same = c.write_near.ensures.no c.if-write_near.false in (still_room same c.requires.0, still_held same c.requires.1, c.requires.2)
 
 pub returns : goal.returns
 returns c = stored_then (c.write_near.ensures.no c.if-write_near.false) c.store_cell.ensures

@@ -9,16 +9,16 @@ pub returns-in_default : goal.returns-in_default
 returns-in_default c = near_not
 
 pub class_key-key-requires : goal.class_key-key-requires
-class_key-key-requires c = (omega arith, subst Within c.in-At.is c.judge_index-x.ensures.small)
+class_key-key-requires c = subst Within c.in-Ok.is c.judge_index.ensures.small
 
-pub near_first-p-requires : goal.near_first-p-requires
-near_first-p-requires c = (c.requires.0, let w = subst Within c.in-At.is c.judge_index-x.ensures.small in omega (arith, c.class_key-key.ensures, w))
+pub near_first-requires : goal.near_first-requires
+near_first-requires c = (c.requires.0, let w = subst Within c.in-Ok.is c.judge_index.ensures.small in omega (arith, c.class_key-key.ensures, w))
 
-pub returns-then-end-p : goal.returns-then-end-p
-returns-then-end-p c = near_not
+pub returns-in_default-near_first : goal.returns-in_default-near_first
+returns-in_default-near_first c = near_not
 
 pub put_plain-requires : goal.put_plain-requires
-put_plain-requires c = let w = subst Within c.in-At.is c.judge_index-x.ensures.small in let i = among_inside c.requires.0 in (omega (arith, i.0, i.1, c.if-end-p.false), omega (arith, c.class_key-key.ensures, w))
+put_plain-requires c = let w = subst Within c.in-Ok.is c.judge_index.ensures.small in let i = among_inside c.requires.0 in (let h = c.near_first.ensures.is _ c.in-Some.is in omega (arith, i.0, i.1, h.inside), omega (arith, c.class_key-key.ensures, w))
 
 pub returns : goal.returns
-returns c = near_written c.judge_index-x.ensures c.in-At.is c.class_key-key.ensures c.near_first-p.ensures c.if-end-p.false c.requires.1 c.put_plain.ensures
+returns c = near_written c.judge_index.ensures c.in-Ok.is c.class_key-key.ensures c.near_first.ensures c.in-Some.is c.requires.1 c.put_plain.ensures

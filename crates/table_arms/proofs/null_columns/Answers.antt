@@ -1,14 +1,11 @@
 -- What is left of `null_columns`, by the invariant of Invariants.antt. Assumes nothing.
-use mathlib.Core.Path.{refl, ◌∙◌}
+use mathlib.Core.Path.{◌∙◌}
 use native.Mathlib.Omega.{arith}
 use Rattle.area.specs.Cells.{cells}
 use Rattle.intmap.specs.Runs.{size}
 use Rattle.intmap.proofs.RunLaws.{size-pos, sizes_step}
 use Rattle.table_arms.proofs.NullLaws.{null-turn, null_room, null-done}
 use Rattle.table_arms.proofs.null_columns.Goals as goal
-
-pub loop-left-init : goal.loop-left-init
-loop-left-init c = (refl, refl, refl, c.requires.fits)
 
 pub cell_at-c-requires : goal.cell_at-c-requires
 cell_at-c-requires c = let l = c.loop-left in omega (arith, l.invariant.1, l.invariant.3, sizes_step (size (cells l.area) 8) l.left l.p c.loop-left-test.true, size-pos (cells l.area) 8 l.p, c.requires.small)
@@ -29,9 +26,6 @@ loop-left-preserved c = let l = c.loop-left in (
   null-turn _ _ _ _ _ _ _ c.loop-left-test.true c.cell_at-c.ensures c.count_from-size.ensures c.as_nullable.ensures c.put_cell.ensures.cells _ l.invariant.2,
   null_room _ _ _ _ _ _ _ c.loop-left-test.true c.cell_at-c.ensures c.count_from-size.ensures c.as_nullable.ensures c.put_cell.ensures.cells _ l.invariant.3,
 )
-
-pub shape_of-area : goal.shape_of-area
-shape_of-area c = c.loop-left.invariant.0
 
 pub returns : goal.returns
 returns c = null-done _ _ _ _ _ _ c.loop-left-test.false c.loop-left.invariant.2

@@ -1,44 +1,40 @@
 -- `table_arms::null_row` reads the cursor and changes its columns. Assumes nothing.
-use Rattle.intmap.proofs.StoreLaws.{room_map}
-use Rattle.table_arms.proofs.NullLaws.{null_bad, null_absent, head_within, columns_within, null_there}
+use Rattle.std.specs.Prelude.{Ok}
+use Rattle.std.proofs.lemmas.Result.{err_from_is_err_and}
+use mathlib.Core.Path.{sym, ap, ◌∙◌}
 use native.Mathlib.Omega.{arith}
+use Rattle.intmap.proofs.StoreLaws.{room_map}
 use Rattle.state.proofs.LeadsLaws.{current_held}
-use mathlib.Core.Path.{sym, ◌∙◌}
-use Rattle.cursor_arms.proofs.StandsLaws.{columns_led, flat_there}
+use Rattle.cursor_arms.proofs.StandsLaws.{cursor_led, flat_there}
+use Rattle.table_arms.proofs.NullLaws.{null_bad, null_absent, head_within, columns_within, null_there}
 use Rattle.table_arms.proofs.null_row.Goals as goal
 
-pub read_cursor-p-requires : goal.read_cursor-p-requires
-read_cursor-p-requires c = current_held c.requires.0.current
-
-pub columns-columns-requires : goal.columns-columns-requires
-columns-columns-requires c = (current_held c.requires.0.current, c.read_cursor-p.ensures.within)
-
 pub cell_at-c-requires : goal.cell_at-c-requires
-cell_at-c-requires c = let is = room_map c.requires.0.current.room in let h = head_within _ _ is _ _ c.columns-columns.ensures _ c.in-At.is in record { within = omega (arith, h); small = is.small }
+cell_at-c-requires c = let is = room_map c.requires.0.current.room in let h = head_within _ _ is _ _ c.columns_of.ensures _ (c.in_ok-at.was ∙ ap Ok c.in-Some.is) in record { within = omega (arith, h); small = is.small }
 
 pub is_flat-requires : goal.is_flat-requires
-is_flat-requires c = let is = room_map c.requires.0.current.room in let led = columns_led _ _ is _ _ _ c.columns-columns.ensures c.in-At.is in (is, led.above, omega (arith, led.below))
+is_flat-requires c = let is = room_map c.requires.0.current.room in let led = cursor_led _ _ is _ _ _ c.columns_of.ensures (c.in_ok-at.was ∙ ap Ok c.in-Some.is) in (is, led.above, omega (arith, led.below))
 
 pub overflow_add-at : goal.overflow_add-at
-overflow_add-at c = let is = room_map c.requires.0.current.room in let h = head_within _ _ is _ _ c.columns-columns.ensures _ c.in-At.is in omega (arith, h, is.small)
+overflow_add-at c = let is = room_map c.requires.0.current.room in let h = head_within _ _ is _ _ c.columns_of.ensures _ (c.in_ok-at.was ∙ ap Ok c.in-Some.is) in omega (arith, h, is.small)
 
 pub null_cells-requires : goal.null_cells-requires
-null_cells-requires c = let is = room_map c.requires.0.current.room in (columns_within _ _ is _ _ c.columns-columns.ensures _ c.in-At.is _ c.cell_at-c.ensures, flat_there _ _ (current_held c.requires.0.current) _ _ c.read_cursor-p.ensures _ c.columns-columns.ensures _ c.in-At.is _ c.cell_at-c.ensures (sym c.is_flat.ensures ∙ c.if-is_flat.true))
+null_cells-requires c = let is = room_map c.requires.0.current.room in (columns_within _ _ is _ _ c.columns_of.ensures _ (c.in_ok-at.was ∙ ap Ok c.in-Some.is) _ c.cell_at-c.ensures, flat_there _ _ (current_held c.requires.0.current) _ _ c.columns_of.ensures _ (c.in_ok-at.was ∙ ap Ok c.in-Some.is) _ c.cell_at-c.ensures (sym c.is_flat.ensures ∙ c.if-is_flat.true))
 
 pub returns-then-is_flat : goal.returns-then-is_flat
-returns-then-is_flat c = null_there _ _ (room_map c.requires.0.current.room) _ _ c.read_cursor-p.ensures _ c.columns-columns.ensures _ c.in-At.is _ _ c.cell_at-c.ensures c.null_cells.ensures
+returns-then-is_flat c = null_there _ _ (room_map c.requires.0.current.room) _ _ c.columns_of.ensures _ (c.in_ok-at.was ∙ ap Ok c.in-Some.is) _ _ c.cell_at-c.ensures c.null_cells.ensures
 
-pub overflow_add-at-in-At : goal.overflow_add-at-in-At
-overflow_add-at-in-At c = let is = room_map c.requires.0.current.room in let h = head_within _ _ is _ _ c.columns-columns.ensures _ c.in-At.is in omega (arith, h, is.small)
+pub overflow_add-at-2 : goal.overflow_add-at-2
+overflow_add-at-2 c = let is = room_map c.requires.0.current.room in let h = head_within _ _ is _ _ c.columns_of.ensures _ (c.in_ok-at.was ∙ ap Ok c.in-Some.is) in omega (arith, h, is.small)
 
 pub null_columns-requires : goal.null_columns-requires
-null_columns-requires c = let is = room_map c.requires.0.current.room in columns_within _ _ is _ _ c.columns-columns.ensures _ c.in-At.is _ c.cell_at-c.ensures
+null_columns-requires c = let is = room_map c.requires.0.current.room in columns_within _ _ is _ _ c.columns_of.ensures _ (c.in_ok-at.was ∙ ap Ok c.in-Some.is) _ c.cell_at-c.ensures
 
-pub returns-in-Bad : goal.returns-in-Bad
-returns-in-Bad c = null_bad _ _ (room_map c.requires.0.current.room) _ _ c.read_cursor-p.ensures _ c.columns-columns.ensures _ c.in-Bad.is
+pub returns-in_err-at : goal.returns-in_err-at
+returns-in_err-at c = let p = err_from_is_err_and c.from_residual.result c.from_residual.ensures.1 in rw (p.1, p.2) (null_bad _ _ (room_map c.requires.0.current.room) _ _ c.columns_of.ensures _ c.in_err-at.was)
 
-pub returns-in-Absent : goal.returns-in-Absent
-returns-in-Absent c = null_absent _ _ (room_map c.requires.0.current.room) _ _ c.read_cursor-p.ensures _ c.columns-columns.ensures c.in-Absent.is
+pub returns-in_default : goal.returns-in_default
+returns-in_default c = null_absent _ _ (room_map c.requires.0.current.room) _ _ c.columns_of.ensures (c.in_ok-at.was ∙ ap Ok c.in_default.is)
 
-pub returns-else-is_flat : goal.returns-else-is_flat
-returns-else-is_flat c = null_there _ _ (room_map c.requires.0.current.room) _ _ c.read_cursor-p.ensures _ c.columns-columns.ensures _ c.in-At.is _ _ c.cell_at-c.ensures c.null_columns.ensures
+pub returns : goal.returns
+returns c = null_there _ _ (room_map c.requires.0.current.room) _ _ c.columns_of.ensures _ (c.in_ok-at.was ∙ ap Ok c.in-Some.is) _ _ c.cell_at-c.ensures c.null_columns.ensures

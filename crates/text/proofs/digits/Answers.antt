@@ -1,28 +1,23 @@
 -- What is left of `digits`, by the invariant of Invariants.antt. Assumes nothing.
-use Rattle.text.proofs.NumberLaws.{byte_low, byte_high, digit_on, digit_over, digits_end}
-use lib.ListN.{get_or}
+use mathlib.Core.Path.{◌∙◌, sym}
 use native.Mathlib.Omega.{arith}
-use Prim.Native.Nat.{◌-◌}
-use mathlib.Core.Path.{refl, ◌∙◌}
+use Rattle.text.proofs.NumberLaws.{byte_other, digit_on, digit_over, number_over, digits_end}
 use Rattle.text.proofs.digits.Goals as goal
 
-pub loop-i-init : goal.loop-i-init
-loop-i-init c = (omega arith, omega arith, refl)
+pub returns-in_err-checked_mul : goal.returns-in_err-checked_mul
+returns-in_err-checked_mul c = rw c.from_residual.ensures (number_over _ _ _ _ c.loop-b-test.true (omega arith) ∙ c.loop-b.invariant.1)
 
-pub returns-then-b-lt48 : goal.returns-then-b-lt48
-returns-then-b-lt48 c = byte_low _ _ _ _ c.loop-i-test.true c.if-b-lt48.true ∙ c.loop-i.invariant.2
+pub returns-in_err-digit : goal.returns-in_err-digit
+returns-in_err-digit c = rw c.from_residual-in_err-digit.ensures (byte_other _ _ _ _ c.loop-b-test.true (sym c.in_err-digit.was ∙ c.digit.ensures) ∙ c.loop-b.invariant.1)
 
-pub returns-then-b-gt57 : goal.returns-then-b-gt57
-returns-then-b-gt57 c = byte_high _ _ _ _ c.loop-i-test.true c.if-b-gt57.true ∙ c.loop-i.invariant.2
-
-pub returns-then-tenth-n : goal.returns-then-tenth-n
-returns-then-tenth-n c = digit_over _ _ _ _ {d = get_or c.args.t.now c.loop-i.i 0 - 48} c.loop-i-test.true c.if-b-lt48.false c.if-b-gt57.false refl (omega arith) ∙ c.loop-i.invariant.2
+pub returns-in_err-n : goal.returns-in_err-n
+returns-in_err-n c = rw c.from_residual-in_err-n.ensures (digit_over _ _ _ _ c.loop-b-test.true (sym c.in_ok-digit.was ∙ c.digit.ensures) (omega arith) ∙ c.loop-b.invariant.1)
 
 pub returns-then-most-n : goal.returns-then-most-n
-returns-then-most-n c = digit_over _ _ _ _ c.loop-i-test.true c.if-b-lt48.false c.if-b-gt57.false c.wide-d.ensures (omega arith) ∙ c.loop-i.invariant.2
+returns-then-most-n c = digit_over _ _ _ _ c.loop-b-test.true (sym c.in_ok-digit.was ∙ c.digit.ensures) (omega arith) ∙ c.loop-b.invariant.1
 
-pub loop-i-preserved : goal.loop-i-preserved
-loop-i-preserved c = (omega arith, omega arith, digit_on _ _ _ _ c.loop-i-test.true c.if-b-lt48.false c.if-b-gt57.false c.wide-d.ensures ∙ c.loop-i.invariant.2)
+pub loop-b-preserved : goal.loop-b-preserved
+loop-b-preserved c = (omega arith, rw (c.in_ok-n.ensures.1, c.in_ok-checked_mul.ensures.1) (digit_on _ _ _ _ c.loop-b-test.true (sym c.in_ok-digit.was ∙ c.digit.ensures) ∙ c.loop-b.invariant.1))
 
 pub returns : goal.returns
-returns c = digits_end _ _ _ _ c.loop-i-test.false c.loop-i.invariant.1 ∙ c.loop-i.invariant.2
+returns c = digits_end _ c.loop-b.b-index _ _ (omega arith) c.loop-b.invariant.0 ∙ c.loop-b.invariant.1

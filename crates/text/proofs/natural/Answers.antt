@@ -1,16 +1,16 @@
 -- `text::natural`: a number that begins with 0 is that digit alone. Assumes nothing.
-use Rattle.text.proofs.NumberLaws.{empty-number, one_byte, leading_zero, other_digit}
 use mathlib.Core.Path.{◌∙◌}
+use native.Mathlib.Omega.{arith}
+use borrow.Author.Tests.{ltb-true, ltb-false}
+use Rattle.text.proofs.NumberLaws.{empty-number, one-digit, leading_zero, other_digit}
 use Rattle.text.proofs.natural.Goals as goal
+use Rattle.text.proofs.natural.Goals.{in_default-via-then-t-lt2, in_default-via-else-t-lt2+in_default-1}
 
-pub returns-then-t-eq0 : goal.returns-then-t-eq0
-returns-then-t-eq0 c = empty-number _ _ c.if-t-eq0.true
+pub returns-in-empty : goal.returns-in-empty
+returns-in-empty c = empty-number _ _ (omega arith)
 
-pub returns-then-t-eq1 : goal.returns-then-t-eq1
-returns-then-t-eq1 c = c.digit.ensures ∙ one_byte _ _ c.if-t-eq1.true
+pub returns-in-48 : goal.returns-in-48
+returns-in-48 c = leading_zero _ _ (omega arith) (omega arith) (omega arith)
 
-pub returns-then-t-eq48 : goal.returns-then-t-eq48
-returns-then-t-eq48 c = leading_zero _ _ c.if-t-eq0.false c.if-t-eq1.false c.if-t-eq48.true
-
-pub returns : goal.returns
-returns c = c.digits.ensures ∙ other_digit _ _ c.if-t-eq0.false c.if-t-eq48.false
+pub returns-in_default : goal.returns-in_default
+returns-in_default c = c.digits.ensures ∙ elim c.in_default.branch [ in_default-via-then-t-lt2 w ↦ one-digit _ _ (omega (arith, ltb-true, ltb-false)) | in_default-via-else-t-lt2+in_default-1 w ↦ other_digit _ _ (omega (arith, ltb-true, ltb-false)) (omega (arith, ltb-true, ltb-false)) ]

@@ -1,17 +1,16 @@
--- What is left of `has_word`, by the invariant of Invariants.antt. Assumes nothing.
-use mathlib.Core.Path.{refl, sym, ◌∙◌}
-use native.Mathlib.Omega.{arith}
-use Rattle.type_info.proofs.Words.{contains_here, contains_later, contains_end}
+-- `type_info::has_word`: what `any` says of the windows, in the words of the text.
+-- Assumes nothing.
+use Rattle.std.proofs.Common.{rules, ◌≡◌, false, true, map, ℕ, length}
+use Rattle.std.specs.Char.{to_ascii_lowercase}
+use Rattle.std.specs.Option.{IfSome}
+use Rattle.std.specs.Iterator.Runs.{IsWindowsRun}
+use Rattle.type_info.proofs.Words.{windows_miss, found_word}
 use Rattle.type_info.proofs.has_word.Goals as goal
 
-pub loop-i-init : goal.loop-i-init
-loop-i-init c = (omega arith, refl)
-
-pub returns-then-word_at : goal.returns-then-word_at
-returns-then-word_at c = contains_here c.args.s.now c.args.word.now c.loop-i.i c.loop-i-test.true (sym c.word_at.ensures ∙ c.if-word_at.true) ∙ c.loop-i.invariant.1
-
-pub loop-i-preserved : goal.loop-i-preserved
-loop-i-preserved c = (omega arith, contains_later c.args.s.now c.args.word.now c.loop-i.i c.loop-i-test.true (sym c.word_at.ensures ∙ c.if-word_at.false) ∙ c.loop-i.invariant.1)
-
 pub returns : goal.returns
-returns c = contains_end c.args.s.now c.args.word.now c.loop-i.i c.loop-i-test.false ∙ c.loop-i.invariant.1
+returns c =
+    let p = c.any.ensures.runs.0 in
+    let whole : c.any.result ≡ false → p.whole ≡ true = search rules in
+    let misses : c.any.result ≡ false → (k : ℕ) → IfSome (p.at k) (λ x. ¬ (map to_ascii_lowercase x.now ≡ map to_ascii_lowercase c.args.word.now)) = search rules in
+    let windows : IsWindowsRun p (length c.args.word.now) c.args.s.now = search rules in
+    found_word c.any.result c.args.s.now c.args.word.now c.requires (search rules) (λ e. windows_miss p c.args.s.now c.args.word.now windows (whole e) (misses e))

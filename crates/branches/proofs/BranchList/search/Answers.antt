@@ -20,10 +20,6 @@ child-next-requires c = let lies = search_lies _ _ _ _ _ _ (c.loop-p.invariant.1
 pub returns-then-next-eq0 : goal.returns-then-next-eq0
 returns-then-next-eq0 c = search_free _ _ _ _ _ _ (c.loop-p.invariant.1 (omega arith)) _ c.is_at.ensures c.args.self refl refl c.if-is_at.false (sym c.if-next-eq0.true ∙ c.child-next.ensures)
 
-pub next_bits-bits-requires : goal.next_bits-bits-requires
-next_bits-bits-requires c = let lies = search_lies _ _ _ _ _ _ (c.loop-p.invariant.1 (omega arith)) c.args.self refl refl c.requires.0 in
-    (record { within = omega (arith, lies.map.header); small = lies.small }, c.requires.1, c.requires.2)
-
 pub loop-p-smaller : goal.loop-p-smaller
 loop-p-smaller c = omega (arith, search_later c.args.area.now _ _ _ _ _ (c.loop-p.invariant.1 (omega arith)) c.args.self refl refl c.requires.0 _ c.child-next.ensures c.if-next-eq0.false)
 

@@ -1,19 +1,18 @@
 -- `cursor_arms::CursorDataType::set_empty` changes the head of its table. Assumes nothing.
-use Rattle.cursor_arms.proofs.TableLaws.{empty_bad_place, empty_no_place, empty_within, empty_set}
+use mathlib.Core.Path.{ap, ◌∙◌}
+use Rattle.intmap.specs.Pack.{with_nullable}
+use Rattle.cursor_arms.proofs.TableLaws.{table_none, table-within, table_there}
 use native.Mathlib.Omega.{arith}
 use Rattle.cursor_arms.proofs.CursorDataType.set_empty.Goals as goal
 
 pub cell_at-requires : goal.cell_at-requires
-cell_at-requires c = record { within = omega (arith, empty_within _ _ _ _ c.table-x.ensures _ c.in-At.is c.requires.0.map, c.requires.0.map.inside); small = c.requires.0.map.small }
+cell_at-requires c = record { within = omega (arith, table-within _ _ _ _ c.table.ensures (λ x. x) _ c.in-Some.is c.requires.0.map, c.requires.0.map.inside); small = c.requires.0.map.small }
 
 pub put_cell-requires : goal.put_cell-requires
-put_cell-requires c = record { within = omega (arith, empty_within _ _ _ _ c.table-x.ensures _ c.in-At.is c.requires.0.map, c.requires.0.map.inside); small = c.requires.0.map.small }
+put_cell-requires c = record { within = omega (arith, table-within _ _ _ _ c.table.ensures (λ x. x) _ c.in-Some.is c.requires.0.map, c.requires.0.map.inside); small = c.requires.0.map.small }
 
-pub returns-in-Bad : goal.returns-in-Bad
-returns-in-Bad c = empty_bad_place _ _ _ _ c.table-x.ensures _ c.requires.2 _ c.in-Bad.is
+pub returns-in_default : goal.returns-in_default
+returns-in_default c = table_none _ _ _ _ c.table.ensures (λ _. c.args.empty) c.in_default.is
 
-pub returns-in-Absent : goal.returns-in-Absent
-returns-in-Absent c = empty_no_place _ _ _ _ c.table-x.ensures _ c.requires.2 c.in-Absent.is
-
-pub returns-in-At : goal.returns-in-At
-returns-in-At c = empty_set _ _ _ _ c.table-x.ensures _ c.in-At.is c.requires.0.map _ c.requires.2 _ _ _ c.cell_at.ensures c.with_nullable-c.ensures c.put_cell.ensures.cells
+pub returns : goal.returns
+returns c = table_there _ _ _ _ c.table.ensures (λ _. c.args.empty) _ c.in-Some.is c.requires.0.map _ _ _ c.cell_at.ensures (c.with_nullable-c.ensures ∙ ap (λ n. with_nullable n c.cell_at.result) c.nullable_code.ensures) c.put_cell.ensures.cells

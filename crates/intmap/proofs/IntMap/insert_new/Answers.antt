@@ -2,7 +2,7 @@ use Rattle.intmap.specs.Find.{seek}
 use Rattle.intmap.specs.Map.{levels}
 use Rattle.intmap.specs.Pack.{key_of}
 use lib.ListN.{length}
-use mathlib.Core.Path.{refl, ap, ◌∙◌}
+use mathlib.Core.Path.{refl, sym, ap, ◌∙◌}
 use Rattle.area.specs.Cells.{cells}
 use Rattle.area.proofs.MoveLaws.{length_moved}
 use Rattle.intmap.specs.Entries.{key_run}
@@ -15,7 +15,7 @@ unfolding key_run
 returns-then-limit-self c = let a = c.args in
     let w = seek (cells a.area.now) levels (key_of a.c) a.self.len a.self.base in
     let o = new_full (cells a.area.now) a.limit a.self w w 1 refl c.requires.2.none (omega (arith, c.if-limit-self.true)) in
-    cell_full _ _ _ _ _ _ _ c.requires.0 c.requires.1 refl o refl
+    cell_full _ _ _ _ _ _ _ c.requires.0 c.requires.1 refl o _ refl
 
 pub overflow_add-at : goal.overflow_add-at
 overflow_add-at c = let f = new_within c.requires.0 c.requires.2 in omega (arith, f.1, c.requires.0.most, c.requires.0.room, c.requires.0.small)
@@ -48,4 +48,4 @@ unfolding key_run
 returns c = let a = c.args in
     let w = seek (cells a.area.now) levels (key_of a.c) a.self.len a.self.base in
     let o = new_opened (cells a.area.now) a.limit a.self w w 1 refl c.requires.2.none (omega (arith, c.if-limit-self.false)) a.at c.requires.2.here _ c.move_cells.ensures.cells in
-    cell_done _ _ _ _ _ _ _ c.requires.0 c.requires.1 refl o _ _ _ refl c.put_cell.ensures.cells
+    cell_done _ _ _ _ _ _ _ c.requires.0 c.requires.1 refl o _ _ _ (sym c.requires.2.here) refl c.put_cell.ensures.cells

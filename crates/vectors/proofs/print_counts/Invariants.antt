@@ -1,8 +1,0 @@
-use Rattle.std.proofs.Common.{◌-◌, ◌≤◌}
-use Rattle.vectors.proofs.print_counts.Given as goal
-
-abbrev pub invariant-loop-number : goal.invariant-loop-number
-invariant-loop-number g l = l.number ≤ 13
-
-abbrev pub decreases-loop-number : goal.decreases-loop-number
-decreases-loop-number g l = 13 - l.number
