@@ -127,7 +127,7 @@ impl Writer<'_> {
         self.put("\n");
     }
 
-    // Writes a field with a name.
+    // Writes a field with a name. Not one with `put_count`: a number as a text is copied once more, and that was slower.
     #[inline(always)]
     fn put_word(&mut self, key: &str, name: &str)
         requires { Room self.old (print_field key.now name.now) }

@@ -23,7 +23,7 @@ const HALF: u64 = 4294967296;
 // A third of a word, in whole bits: 2^21. A place is less, since an area has at most 1,048,576 cells.
 const THIRD: u64 = 2097152;
 
-// Where the remembered states begin, where they end, and the latest that waits (0 where none does).
+// Where the remembered states begin, where they end, and the latest that waits (0 where none does, as in the links of the area, which are words).
 #[derive(Clone, Copy)]
 pub struct BranchList {
     pub first: usize,
@@ -39,8 +39,8 @@ pub struct Layout {
     pub limit: usize,
 }
 
-// The free link that would lead to a state that is not known: of the state at this place (0 where none is remembered), by the last digit of
-// these bits.
+// The free link that would lead to a state that is not known: of the state at this place (0 where none is remembered, as in the area), by the last
+// digit of these bits.
 #[derive(Clone, Copy)]
 struct FreeLink {
     at: usize,

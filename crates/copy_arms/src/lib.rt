@@ -105,7 +105,8 @@ pub fn scopy(map: IntMap, area: &mut [u8], x: Row, limit: usize) -> Result<IntMa
     copy_register(map, area, x.p1, x.p2, limit)
 }
 
-// The first register from k on that the map has, or 65,536 if it has none. The keys of registers are those from 65,536 on and below 131,072.
+// The first register from k on that the map has, or 65,536 if it has none: then all from k on are absent, and no Option says that better. The keys
+// of registers are those from 65,536 on and below 131,072.
 fn next_register(map: IntMap, area: &[u8], k: u64) -> u64
     requires { IsMap (cells area.now) map × (k ≤ 65535) }
     ensures { Next (cells area.now) map k result }
@@ -205,7 +206,7 @@ fn carry_cells(
 }
 
 // Carries registers from i on to those from j on where they stand, as long as each is there and one cell, and at most n. Gives how many. The two
-// searches are all, however many it carries.
+// searches are all, however many it carries. `i`, `j` and `n` are other ones at each turn, so that a struct of them is no plainer.
 fn carry_run(map: IntMap, area: &mut [u8], i: u64, j: u64, n: u64, moves: bool) -> u64
     requires { Held (cells area.old) map }
     ensures { CarriesRun (cells area.old) (cells area.new) map moves i j n result }

@@ -1,4 +1,4 @@
--- A judged row has Yield's number exactly when its name is "Yield"; the row that a number names, and where it goes. Assumes nothing.
+-- A judged row has Yield's operation exactly when its name is "Yield"; the row that a number names, and where it goes. Assumes nothing.
 use mathlib.Core.Path.{◌≡◌, refl, sym, ap, subst, ◌∙◌}
 use mathlib.Core.Bool.{Bool, true, false, not, ◌&&◌, ◌||◌, false≢true, and-eq-true_iff}
 use Rattle.std.specs.Prelude.{Option, None, Some, slice_get, option_map}
@@ -7,13 +7,13 @@ use Prim.Native.Nat.{ℕ, zero, suc, ◌+◌, ◌-◌, ◌<◌, ◌≤◌}
 use native.Mathlib.Omega.{arith}
 use lib.Dec.{eqb, ltb}
 use lib.ListN.{length, get_or}
-use borrow.Author.Tests.{eq-eqb, ne_eqb, eqb-true, ltb-true, ltb-false}
+use borrow.Author.Tests.{eqb-true, ltb-true, ltb-false}
 use Rattle.type_info.specs.Ascii.{ascii, equals}
 use Rattle.type_info.proofs.Tables.{passes, passes_at}
 use Rattle.model.specs.Row.{Row as Listed}
 use Rattle.model.specs.TextTable.{Named, first_for, or_else}
 use Rattle.model.specs.IntMap.{get_if}
-use Rattle.model.specs.Operation.{Operation, JumpOperation, jumps, op_if_pos, registers, cursors, op_result_row, no_arm, op_goto, op_gosub, op_branch, op_is_null, op_not_null, op_must_be_int, op_if, op_rewind, op_init_coroutine, op_end_coroutine, op_return, op_yield, op_jump, op_halt, operations, operation_of}
+use Rattle.model.specs.Operation.{Operation as Arm, JumpOperation, jumps, op_if_pos, registers, cursors, op_result_row, no_arm, op_goto, op_gosub, op_branch, op_is_null, op_not_null, op_must_be_int, op_if, op_rewind, op_init_coroutine, op_end_coroutine, op_return, op_yield, op_jump, op_halt, operations as names, operation_of}
 use Rattle.model.specs.Offer.{row_at}
 use Rattle.model.specs.JumpArms.{is_yield, target_if, yield_target, row_after_yield}
 use Rattle.model.proofs.TestLaws.{cases}
@@ -22,7 +22,10 @@ use Rattle.area.specs.Cells.{blank}
 use Rattle.area.specs.declared.Cell.{Cell}
 use Rattle.intmap.specs.Signed.{offset, int_of}
 use Rattle.intmap.proofs.SignedLaws.{iff, row_below, row_above, int_suc}
-use Rattle.opcode.specs.Opcode.{arms, operation_at}
+use Rattle.opcode.specs.Opcode.{arm_of, number, operations, operation_at}
+use Rattle.opcode.specs.declared.Operation.{Operation}
+use Rattle.opcode.specs.declared.Operation.TheVariants.{Yield}
+use Rattle.opcode.proofs.Numbers.{read_again, number-below}
 use Rattle.rows.specs.Rows.{row_in}
 use Rattle.rows.specs.Judged.{Judged, HaveRows}
 use Rattle.rows.specs.declared.Row.{Row}
@@ -47,7 +50,7 @@ yield_jump op_yield = true
 yield_jump op_jump = false
 yield_jump op_halt = false
 
-abbrev yields : Operation → Bool
+abbrev yields : Arm → Bool
 yields (jumps o) = yield_jump o
 yields op_if_pos = false
 yields (registers o) = false
@@ -55,31 +58,33 @@ yields (cursors o) = false
 yields op_result_row = false
 yields no_arm = false
 
--- of the numbers, 12 alone
+-- of the operations, Yield alone
 only : ℕ → Bool
-only n = not (yields (operation_at n)) || eqb n 12
+only n = not (yields (arm_of (operation_at n))) || eqb n 12
 
 all_only : passes only 0 43 ≡ true
-unfolding passes only operation_at arms
+unfolding passes only operation_at operations
 all_only = refl
 
 implied : {a b : Bool} → not a || b ≡ true → a ≡ true → b ≡ true
 implied {a} {b} e h = sym (ap (λ c. not c || b) h) ∙ e
 
-number_is : (n : ℕ) → n < 43 → yields (operation_at n) ≡ true → eqb n 12 ≡ true
-unfolding only
-number_is n lt e = implied (passes_at only 0 43 all_only n (omega arith) lt) e
+yield_is : (o : Operation) → yields (arm_of o) ≡ true → o ≡ Yield
+unfolding only operation_at operations
+yield_is o y =
+    let tested : only (number o) ≡ true = passes_at only 0 43 all_only (number o) (omega arith) (number-below o) in
+    sym (read_again o) ∙ ap operation_at (eqb-true (number o) 12 (implied tested (ap (λ p. yields (arm_of p)) (read_again o) ∙ y)))
 
 -- of the names, "Yield" alone
-named : List (Named Operation) → Bool
+named : List (Named Arm) → Bool
 named [] = true
 named (n ∷ more) = (not (yields n.value) || equals n.text (ascii "Yield")) && named more
 
-all_named : named operations ≡ true
-unfolding named operations equals ascii
+all_named : named names ≡ true
+unfolding named names equals ascii
 all_named = refl
 
-name_is : (name : List ℕ) (table : List (Named Operation)) → named table ≡ true → yields (or_else no_arm (first_for equals name table)) ≡ true → equals name (ascii "Yield") ≡ true
+name_is : (name : List ℕ) (table : List (Named Arm)) → named table ≡ true → yields (or_else no_arm (first_for equals name table)) ≡ true → equals name (ascii "Yield") ≡ true
 unfolding named first_for
 name_is name [] e y = absurd (false≢true y)
 name_is name (n ∷ more) e y =
@@ -89,19 +94,15 @@ name_is name (n ∷ more) e y =
     (λ other. name_is name more rest (sym (ap (λ b. yields (or_else no_arm (get_if b n.value (first_for equals name more)))) other) ∙ y))
 
 yield_named : yields (operation_of (ascii "Yield")) ≡ true
-unfolding operations operation_of first_for equals ascii
+unfolding names operation_of first_for equals ascii
 yield_named = refl
 
-twelve_yields : yields (operation_at 12) ≡ true
-unfolding operation_at arms
-twelve_yields = refl
-
-pub yield_number : (l : Listed) (x : Row) → Judged l x → is_yield l ≡ eqb x.op 12
+pub yield_named_only : (l : Listed) (x : Row) → Judged l x → is_yield l ≡ yields (arm_of x.op)
 unfolding is_yield operation_of
-yield_number l x j =
+yield_named_only l x j =
     iff
-    (λ e. number_is x.op j.op.below (ap yields j.op.value ∙ ap (λ t. yields (operation_of t)) (equals-same l.op (ascii "Yield") e) ∙ yield_named))
-    (λ e. name_is l.op operations all_named (sym (ap yields j.op.value) ∙ ap (λ n. yields (operation_at n)) (eqb-true x.op 12 e) ∙ twelve_yields))
+    (λ e. ap yields j.op ∙ ap (λ t. yields (operation_of t)) (equals-same l.op (ascii "Yield") e) ∙ yield_named)
+    (λ e. name_is l.op names all_named (sym (ap yields j.op) ∙ e))
 
 -- ---- the row that a word names
 
@@ -129,7 +130,7 @@ module _ (cs : List Cell) (from n w : ℕ) where
 
     module _ (x : Row) (lt : w - offset < n) (is : x ≡ row_in (get_or cs (from + (w - offset)) blank)) where
       -- a row of the listing stands there
-      row_told : (t : Bool) → eqb x.op 12 ≡ t → (rows : List Listed) → HaveRows cs from rows → length rows ≡ n → option_map int_of (found t x.p2) ≡ yield_target (row_at rows (int_of w))
+      row_told : (t : Bool) → yields (arm_of x.op) ≡ t → (rows : List Listed) → HaveRows cs from rows → length rows ≡ n → option_map int_of (found t x.p2) ≡ yield_target (row_at rows (int_of w))
       row_told t e rows have len = go (slice_get rows (w - offset)) refl
         where
           goes : (t : Bool) (l : Listed) → Judged l x → target_if t l ≡ option_map int_of (found t x.p2)
@@ -140,13 +141,13 @@ module _ (cs : List Cell) (from n w : ℕ) where
           go None q = absurd (within-some rows (w - offset) (omega (arith, len)) q)
           go (Some l) q =
               let j : Judged l x = subst (Judged l) (sym is) (have (w - offset) l q) in
-              sym (ap yield_target (row_above w rows above ∙ q) ∙ ap (λ b. target_if b l) (yield_number l x j ∙ e) ∙ goes t l j)
+              sym (ap yield_target (row_above w rows above ∙ q) ∙ ap (λ b. target_if b l) (yield_named_only l x j ∙ e) ∙ goes t l j)
 
-      pub target_yield : x.op ≡ 12 → Targets cs from n w (Some x.p2)
-      target_yield e = record { says = row_told true (eq-eqb x.op 12 e) }
+      pub target_yield : x.op ≡ Yield → Targets cs from n w (Some x.p2)
+      target_yield e = record { says = row_told true (ap (λ o. yields (arm_of o)) e) }
 
-      pub target_other : (x.op ≡ 12 → ⊥) → Targets cs from n w None
-      target_other e = record { says = row_told false (ne_eqb x.op 12 e) }
+      pub target_other : (x.op ≡ Yield → ⊥) → Targets cs from n w None
+      target_other ne = record { says = row_told false (cases (yields (arm_of x.op)) (λ y. absurd (ne (yield_is x.op y))) (λ no. no)) }
 
   -- the row after it
   pub follows_it : (t : Option ℕ) → Targets cs from n w t → t ≡ None → Follows cs from n w w

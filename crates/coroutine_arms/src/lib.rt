@@ -8,6 +8,7 @@ ghost use Rattle.rows.specs.Judged.{SomeRows};
 ghost use Rattle.jump_arms.specs.Arms.{Ready};
 ghost use Rattle.coroutine_arms.specs.Arms.{RowsInside, Targets, Follows, RowsArm};
 
+use opcode::Operation;
 use refusal::Refusal;
 use rows::Row;
 use state::{MemoryState, Ways};
@@ -25,10 +26,10 @@ fn yield_target(area: &[u8], from: usize, n: usize, w: u64) -> Option<u64>
         return None;
     }
     let x = rows::row_at(area, from, k);
-    if x.op == opcode::OP_YIELD as u64 {
-        return Some(x.p2);
+    match x.op {
+        Operation::Yield => Some(x.p2),
+        _ => None,
     }
-    None
 }
 
 // EndCoroutine

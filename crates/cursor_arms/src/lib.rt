@@ -177,7 +177,7 @@ impl CursorDataType {
         }
     }
 
-    // Sets whether its table is empty, if it has one.
+    // Sets whether its table is empty, if it has one. `delete` looks alike: one function for both would take a closure, and be no shorter.
     pub fn set_empty(self, map: IntMap, area: &mut [u8], empty: Option<bool>)
         requires { Held (cells area.old) map × RowWithin self }
         ensures { CursorTableChanged (set_empty empty) (cells area.old) (cells area.new) map self }

@@ -1,13 +1,14 @@
 -- What a run's head says of its value: a kind and a nullable by their codes, and the column that a single column's head stands for.
 -- Assumes nothing.
 use Rattle.std.specs.Prelude.{Bool, true, false, List, [], ◌∷◌, ◌/◌, ◌%◌, get_or, Option, None, Some}
+use Rattle.type_info.specs.Codes.{kinds}
 use Rattle.type_info.specs.declared.DataType.{DataType}
 use Rattle.type_info.specs.declared.DataType.TheVariants.{Null, Integer, Float, Text, Blob, Numeric, Bool as Boolean, Int4, Date, Time, Datetime}
 use Rattle.model.specs.State.{ColumnType, Single}
 use Rattle.area.specs.declared.Cell.{Cell}
 
 abbrev pub datatypes : List DataType
-datatypes = Null ∷ Integer ∷ Float ∷ Text ∷ Blob ∷ Numeric ∷ Boolean ∷ Int4 ∷ Date ∷ Time ∷ Datetime ∷ []
+datatypes = kinds
 
 abbrev pub nullables : List (Option Bool)
 nullables = None ∷ Some false ∷ Some true ∷ []

@@ -11,14 +11,16 @@ use Rattle.model.specs.Row.{Row as Listed}
 use Rattle.model.specs.IntMap.{get}
 use Rattle.model.specs.State.{MemoryState as Defined}
 use Rattle.model.specs.Access.{go_to, next, register_column}
-use Rattle.model.specs.Operation.{op_result_row, operation_of}
+use Rattle.model.specs.Operation.{operation_of}
 use Rattle.model.specs.Offer.{Offer, turns}
 use Rattle.model.specs.JumpArms.{jump_arm}
 use Rattle.model.specs.Explain.{arm}
 use Rattle.area.specs.declared.Cell.{Cell}
 use Rattle.encoding.specs.Holds.{largest}
 use Rattle.encoding.proofs.Held.{held_more}
-use Rattle.opcode.specs.Opcode.{arms, operation_at}
+use Rattle.opcode.specs.Opcode.{arm_of}
+use Rattle.opcode.specs.declared.Operation.{Operation}
+use Rattle.opcode.specs.declared.Operation.TheVariants.{Jump, IfPos, ResultRow}
 use Rattle.rows.specs.Judged.{Judged}
 use Rattle.rows.specs.declared.Row.{Row}
 use Rattle.state.specs.Leads.{Current}
@@ -67,12 +69,12 @@ told_as limit bound ds repeat (Err k) o m told = told
 told_as limit bound ds repeat (Ok w) o m told =
     record { the_branch = told.the_branch; the_state = told.the_state; answer = told.answer; branches = told.branches; goes_on = told.goes_on }
 
--- the row's operation is that of its number
-operation_is : {k : ℕ} {x : Row} {l : Listed} → k ≡ x.op → Judged l x → operation_at k ≡ operation_of l.op
-operation_is e j = ap operation_at e ∙ j.op.value
+-- the row's arm is that of its operation
+operation_is : {o : Operation} {x : Row} {l : Listed} → o ≡ x.op → Judged l x → arm_of o ≡ operation_of l.op
+operation_is e j = ap arm_of e ∙ j.op
 
 module _ {limit from n : ℕ} {cs ds : List Cell} {blocks : List ℕ} {s : MemoryState} {x : Row} {again : Bool} where
-  pub number_handles : {op : ℕ} (r : Step) → op ≡ x.op → NumberArm limit from n cs ds blocks s x op r → Handles limit from n cs ds blocks s x again (as_handling false r)
+  pub number_handles : {op : Operation} (r : Step) → op ≡ x.op → NumberArm limit from n cs ds blocks s x op r → Handles limit from n cs ds blocks s x again (as_handling false r)
   number_handles r e told =
       record {
         says = λ rows records l have long cat j bound m le top h.
@@ -82,8 +84,8 @@ module _ {limit from n : ℕ} {cs ds : List Cell} {blocks : List ℕ} {s : Memor
         frame = told.frame;
       }
 
-  pub if_pos_handles : (r : Step) → 15 ≡ x.op → IfPosArm limit cs ds s x again r → Handles limit from n cs ds blocks s x again (as_handling again r)
-  unfolding arm operation_at arms
+  pub if_pos_handles : (r : Step) → IfPos ≡ x.op → IfPosArm limit cs ds s x again r → Handles limit from n cs ds blocks s x again (as_handling again r)
+  unfolding arm
   if_pos_handles r e told =
       record {
         says = λ rows records l have long cat j bound m le top h.
@@ -96,8 +98,8 @@ module _ {limit from n : ℕ} {cs ds : List Cell} {blocks : List ℕ} {s : Memor
 -- ---- the arms that write nothing
 
 module _ {limit from n : ℕ} {cs : List Cell} {blocks : List ℕ} {s : MemoryState} {x : Row} {again : Bool} (current : Current limit cs s.map) where
-  pub three_handles : 13 ≡ x.op → Handles limit from n cs cs blocks s x again (Ok (handling.Three (at x.p1 s.map) (at x.p2 s.map) (at x.p3 s.map) (at (s.row + 1) s.map)))
-  unfolding arm operation_at arms jump_arm
+  pub three_handles : Jump ≡ x.op → Handles limit from n cs cs blocks s x again (Ok (handling.Three (at x.p1 s.map) (at x.p2 s.map) (at x.p3 s.map) (at (s.row + 1) s.map)))
+  unfolding arm jump_arm
   three_handles e =
       record {
         says = λ rows records l have long cat j bound m le top h.
@@ -123,18 +125,13 @@ unfolding columns_from
 columns-next m zero k = refl
 columns-next m (suc n) k = ap (λ cs. register_column (get k m.r) ∷ cs) (columns-next m n (suc k))
 
--- ResultRow's number is the last
-result_is : {x : Row} {l : Listed} → 42 ≤ x.op → Judged l x → op_result_row ≡ operation_of l.op
-unfolding operation_at arms
-result_is last j = operation_is {k = 42} (omega (arith, last, j.op.below)) j
-
-module _ {limit from n : ℕ} {cs : List Cell} {blocks : List ℕ} {s : MemoryState} {x : Row} {again : Bool} (last : 42 ≤ x.op) where
+module _ {limit from n : ℕ} {cs : List Cell} {blocks : List ℕ} {s : MemoryState} {x : Row} {again : Bool} (last : ResultRow ≡ x.op) where
   pub result_refused : (k : Refusal) → JudgesRow x (Err k) → Handles limit from n cs cs blocks s x again (Err k)
   unfolding arm
   result_refused k told =
       record {
         says = λ rows records l have long cat j bound m le top h.
-            subst (λ o. TellsHandling limit (bound + 1) cs m (Err k) (arm (meaning_of limit records) rows again m l o)) (result_is last j) (told.says _ l j m);
+            subst (λ o. TellsHandling limit (bound + 1) cs m (Err k) (arm (meaning_of limit records) rows again m l o)) (operation_is last j) (told.says _ l j m);
         leaves = tt;
         frame = unchanged cs _ _;
       }
@@ -145,7 +142,7 @@ module _ {limit from n : ℕ} {cs : List Cell} {blocks : List ℕ} {s : MemorySt
       record {
         says = λ rows records l have long cat j bound m le top h.
             (let offers = told.says (turns m.program_i) l j m in
-            subst (λ o. TellsHandling limit (bound + 1) cs m (Ok (handling.Result (at (s.row + 1) s.map) r.first r.count)) (arm (meaning_of limit records) rows again m l o)) (result_is last j)
+            subst (λ o. TellsHandling limit (bound + 1) cs m (Ok (handling.Result (at (s.row + 1) s.map) r.first r.count)) (arm (meaning_of limit records) rows again m l o)) (operation_is last j)
             (record {
               columns = columns_from r.count r.first m;
               answer = offers.answer;

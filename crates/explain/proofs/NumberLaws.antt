@@ -1,10 +1,10 @@
--- The arm of a number: the number leads to an operation, and the operation's arm is met. The last of a `match` has the number that is left.
--- Assumes nothing.
+-- The arm of an operation is met. Assumes nothing.
 use Rattle.std.specs.Prelude.{Ok, Err, Some, None}
 use Rattle.intmap.specs.Store.{Stored}
 use mathlib.Core.Path.{◌≡◌, refl, sym, ap, subst, ◌∙◌}
+use mathlib.Core.Logic.{◌⊎◌, inl, inr}
 use mathlib.Core.Bool.{Bool}
-use mathlib.Core.List.{List, [], ◌∷◌}
+use mathlib.Core.List.{List}
 use Prim.Native.Nat.{ℕ, zero, suc, ◌+◌, ◌-◌, ◌<◌, ◌≤◌}
 use native.Mathlib.Omega.{arith}
 use Rattle.type_info.specs.declared.DataType.{DataType}
@@ -22,8 +22,10 @@ use Rattle.model.proofs.Tried.{Kept, kept}
 use Rattle.area.specs.declared.Cell.{Cell}
 use Rattle.intmap.specs.Signed.{offset, int_of}
 use Rattle.intmap.proofs.SignedLaws.{int_turns}
-use Rattle.opcode.specs.Opcode.{arms, operation_at, constant_kind}
-use Rattle.opcode.proofs.Arms.{NoneOf}
+use Rattle.opcode.specs.Opcode.{arm_of, number, constant_kind}
+use Rattle.opcode.specs.declared.Operation.TheVariants.{ConstantInteger, ConstantFloat, ConstantText, ConstantBlob}
+use Rattle.opcode.specs.declared.Operation.{Operation}
+use Rattle.opcode.proofs.Numbers.{operation_is}
 use Rattle.rows.specs.Judged.{Judged, IsRow}
 use Rattle.rows.specs.declared.Row.{Row}
 use Rattle.state.specs.Leads.{Current, Tells, Leads}
@@ -39,40 +41,35 @@ use Rattle.explain.specs.Handles.{meaning_of}
 use Rattle.explain.specs.Numbers.{NumberArm}
 use Rattle.explain.proofs.RowKept.{register_row, cursor_row}
 
--- ---- the last number of a `match`
+-- ---- the operations that store a constant
 
--- as the prover says it: `count` numbers from `first` on, the last first
-unfoldable pub numbers_from : ℕ → ℕ → List ℕ
-numbers_from first zero = []
-numbers_from first (suc count) = (first + count) ∷ numbers_from first count
+abbrev IsConstant : Operation → Type 0
+IsConstant o = arm_of o ≡ registers (op_constant (constant_kind o))
 
-number_behind : (op first count : ℕ) → first ≤ op → NoneOf op (numbers_from first count) → first + count ≤ op
-unfolding NoneOf numbers_from
-number_behind op first zero le none = omega (arith, le)
-number_behind op first (suc count) le none = omega (arith, number_behind op first count le none.0, none.1)
-
-pub number-left : {op : ℕ} (first count : ℕ) → first ≤ op → op ≤ first + count → NoneOf op (numbers_from first count) → operation_at op ≡ operation_at (first + count)
-number-left {op} first count low high none = ap operation_at (omega (arith, high, number_behind op first count low none))
-
--- the four that store a constant
-abbrev IsConstant : ℕ → Type 0
-IsConstant k = operation_at k ≡ registers (op_constant (constant_kind (operation_at k)))
-
-pub constant_number : {op : ℕ} {d : DataType} → 28 < op → op ≤ 32 → d ≡ constant_kind (operation_at op) → operation_at op ≡ registers (op_constant d)
-constant_number {op} low high e =
-    subst IsConstant (omega (arith, low)) (go (op - 29) (omega (arith, low, high))) ∙ ap (λ d. registers (op_constant d)) (sym e)
+pub constant_operation : {o : Operation} {d : DataType} → (o ≡ ConstantInteger) ⊎ ((o ≡ ConstantFloat) ⊎ ((o ≡ ConstantText) ⊎ (o ≡ ConstantBlob))) → d ≡ constant_kind o → arm_of o ≡ registers (op_constant d)
+constant_operation {o} is e = constant o is ∙ ap (λ d. registers (op_constant d)) (sym e)
   where
-    go : (k : ℕ) → k < 4 → IsConstant (29 + k)
-    go zero h = unfold operation_at arms in refl
-    go (suc zero) h = unfold operation_at arms in refl
-    go (suc (suc zero)) h = unfold operation_at arms in refl
-    go (suc (suc (suc zero))) h = unfold operation_at arms in refl
-    go (suc (suc (suc (suc k)))) h = absurd (omega (arith, h))
+    constant : (o : Operation) → (o ≡ ConstantInteger) ⊎ ((o ≡ ConstantFloat) ⊎ ((o ≡ ConstantText) ⊎ (o ≡ ConstantBlob))) → IsConstant o
+    constant o (inl is) = subst IsConstant (sym is) refl
+    constant o (inr (inl is)) = subst IsConstant (sym is) refl
+    constant o (inr (inr (inl is))) = subst IsConstant (sym is) refl
+    constant o (inr (inr (inr is))) = subst IsConstant (sym is) refl
+
+-- the same by the numbers
+pub constant_number : (o : Operation) {d : DataType} → 29 ≤ number o → number o ≤ 32 → d ≡ constant_kind o → arm_of o ≡ registers (op_constant d)
+constant_number o low high e = go (number o - 29) (omega (arith, low, high)) (omega (arith, low)) ∙ ap (λ d. registers (op_constant d)) (sym e)
+  where
+    go : (k : ℕ) → k < 4 → number o ≡ 29 + k → IsConstant o
+    go zero h q = subst IsConstant (sym (operation_is ConstantInteger q)) refl
+    go (suc zero) h q = subst IsConstant (sym (operation_is ConstantFloat q)) refl
+    go (suc (suc zero)) h q = subst IsConstant (sym (operation_is ConstantText q)) refl
+    go (suc (suc (suc zero))) h q = subst IsConstant (sym (operation_is ConstantBlob q)) refl
+    go (suc (suc (suc (suc k)))) h q = absurd (omega (arith, h))
 
 -- ---- the arms that name the next row
 
-module _ {limit from n : ℕ} {cs ds : List Cell} {s : MemoryState} {x : Row} {op : ℕ} where
-  pub rows_number : {o : JumpOperation} {r : Step} → operation_at op ≡ jumps o → RowsArm limit cs ds s x from n o r → (blocks : List ℕ) → NumberArm limit from n cs ds blocks s x op r
+module _ {limit from n : ℕ} {cs ds : List Cell} {s : MemoryState} {x : Row} {op : Operation} where
+  pub rows_number : {o : JumpOperation} {r : Step} → arm_of op ≡ jumps o → RowsArm limit cs ds s x from n o r → (blocks : List ℕ) → NumberArm limit from n cs ds blocks s x op r
   unfolding arm
   rows_number {r = r} is told blocks =
       record {
@@ -82,9 +79,16 @@ module _ {limit from n : ℕ} {cs ds : List Cell} {s : MemoryState} {x : Row} {o
         frame = told.frame;
       }
 
-  pub jump_number : {o : JumpOperation} {r : Step} → operation_at op ≡ jumps o → JumpArm limit cs ds s x o r → (blocks : List ℕ) → NumberArm limit from n cs ds blocks s x op r
+  pub jump_number : {o : JumpOperation} {r : Step} → arm_of op ≡ jumps o → JumpArm limit cs ds s x o r → (blocks : List ℕ) → NumberArm limit from n cs ds blocks s x op r
   jump_number is told =
       rows_number is (record { says = λ rows have long l j bound m le h. told.says rows l j bound m le h; leaves = told.leaves; frame = told.frame })
+
+-- the same of an operation that is told by its name
+pub jump_named :
+    (o : JumpOperation) (k : Operation) → arm_of k ≡ jumps o →
+    (limit from n : ℕ) (cs ds : List Cell) (s : MemoryState) (x : Row) (r : Step) (blocks : List ℕ) →
+    x.op ≡ k → JumpArm limit cs ds s x o r → NumberArm limit from n cs ds blocks s x x.op r
+jump_named o k leads limit from n cs ds s x r blocks is told = jump_number (ap arm_of is ∙ leads) told blocks
 
 -- ---- the arms that fall through
 
@@ -101,7 +105,7 @@ module _
     {cs ds : List Cell}
     {s : MemoryState}
     {x : Row}
-    {op : ℕ}
+    {op : Operation}
     {r : Stored}
     {blocks : List ℕ}
     (row : IsRow x)
@@ -109,7 +113,7 @@ module _
     (f : Listed → List CatalogueRecord → Defined → Tried Defined)
     (leads : (l : Listed) → Judged l x → (records : List CatalogueRecord) → HasBlocks blocks records → Leads limit cs ds s.map r (f l records))
     (keeps : (l : Listed) (records : List CatalogueRecord) (m : Defined) → Kept (SameRow m) (f l records m))
-    (is : (again : Bool) (rows : List Listed) (records : List CatalogueRecord) (l : Listed) (m : Defined) → int_of s.row ≡ m.program_i → arm (meaning_of limit records) rows again m l (operation_at op) ≡ falls_through (f l records m))
+    (is : (again : Bool) (rows : List Listed) (records : List CatalogueRecord) (l : Listed) (m : Defined) → int_of s.row ≡ m.program_i → arm (meaning_of limit records) rows again m l (arm_of op) ≡ falls_through (f l records m))
   where
     access_number : NumberArm limit from n cs ds blocks s x op (step_after (s.row + 1) r)
     access_number =
@@ -124,8 +128,8 @@ module _
 standard : (limit : ℕ) (records : List CatalogueRecord) → Standard limit (meaning_of limit records)
 standard limit records = record { cells = refl; functions = λ t. refl }
 
-module _ {limit from n : ℕ} {cs ds : List Cell} {s : MemoryState} {x : Row} {op : ℕ} {r : Stored} {blocks : List ℕ} (row : IsRow x) (whole : IsBlocks blocks) where
-  pub register_number : {o : RegisterOperation} → operation_at op ≡ registers o → RegisterArm limit cs ds s.map x o r → NumberArm limit from n cs ds blocks s x op (step_after (s.row + 1) r)
+module _ {limit from n : ℕ} {cs ds : List Cell} {s : MemoryState} {x : Row} {op : Operation} {r : Stored} {blocks : List ℕ} (row : IsRow x) (whole : IsBlocks blocks) where
+  pub register_number : {o : RegisterOperation} → arm_of op ≡ registers o → RegisterArm limit cs ds s.map x o r → NumberArm limit from n cs ds blocks s x op (step_after (s.row + 1) r)
   unfolding arm
   register_number {o} is told =
       access_number row whole (λ l records m. register_arm (meaning_of limit records) l m o) (λ l j records cat. told.leads (meaning_of limit records) l (standard limit records) j)
@@ -133,7 +137,7 @@ module _ {limit from n : ℕ} {cs ds : List Cell} {s : MemoryState} {x : Row} {o
       (λ again rows records l m e. ap (arm (meaning_of limit records) rows again m l) is)
 
   -- the row's number is told by its word
-  cursor_access : {o : CursorOperation} → operation_at op ≡ cursors o → ((l : Listed) → Judged l x → (records : List CatalogueRecord) → HasBlocks blocks records → Leads limit cs ds s.map r (λ m. cursor_arm (meaning_of limit records) (s.row - offset) l m o)) → NumberArm limit from n cs ds blocks s x op (step_after (s.row + 1) r)
+  cursor_access : {o : CursorOperation} → arm_of op ≡ cursors o → ((l : Listed) → Judged l x → (records : List CatalogueRecord) → HasBlocks blocks records → Leads limit cs ds s.map r (λ m. cursor_arm (meaning_of limit records) (s.row - offset) l m o)) → NumberArm limit from n cs ds blocks s x op (step_after (s.row + 1) r)
   unfolding arm
   cursor_access {o} is told =
       access_number row whole (λ l records m. cursor_arm (meaning_of limit records) (s.row - offset) l m o) told
@@ -142,15 +146,15 @@ module _ {limit from n : ℕ} {cs ds : List Cell} {s : MemoryState} {x : Row} {o
       ap (arm (meaning_of limit records) rows again m l) is
       ∙ ap (λ k. falls_through (cursor_arm (meaning_of limit records) k l m o)) (sym (ap turns e) ∙ int_turns s.row))
 
-  pub cursor_number : {o : CursorOperation} → operation_at op ≡ cursors o → CursorArm limit cs ds s.map (s.row - offset) x o r → NumberArm limit from n cs ds blocks s x op (step_after (s.row + 1) r)
+  pub cursor_number : {o : CursorOperation} → arm_of op ≡ cursors o → CursorArm limit cs ds s.map (s.row - offset) x o r → NumberArm limit from n cs ds blocks s x op (step_after (s.row + 1) r)
   cursor_number {o} is told = cursor_access {o = o} is (λ l j records cat. told.leads (meaning_of limit records) l (standard limit records) j)
 
-  pub read_number : operation_at op ≡ cursors op_open_read → ReadsTable limit cs ds s.map blocks (s.row - offset) x r → NumberArm limit from n cs ds blocks s x op (step_after (s.row + 1) r)
+  pub read_number : arm_of op ≡ cursors op_open_read → ReadsTable limit cs ds s.map blocks (s.row - offset) x r → NumberArm limit from n cs ds blocks s x op (step_after (s.row + 1) r)
   read_number is told =
       cursor_access {o = op_open_read} is (λ l j records cat. told.leads (meaning_of limit records) records l (standard limit records) cat (λ db page. refl) j)
 
 -- no arm
-pub none_number : {limit from n : ℕ} {cs : List Cell} {s : MemoryState} {x : Row} {op : ℕ} {blocks : List ℕ} → operation_at op ≡ no_arm → Current limit cs s.map → NumberArm limit from n cs cs blocks s x op (step_after (s.row + 1) (Ok s.map))
+pub none_number : {limit from n : ℕ} {cs : List Cell} {s : MemoryState} {x : Row} {op : Operation} {blocks : List ℕ} → arm_of op ≡ no_arm → Current limit cs s.map → NumberArm limit from n cs cs blocks s x op (step_after (s.row + 1) (Ok s.map))
 unfolding arm
 none_number {limit} {cs = cs} {s = s} is current =
     record {

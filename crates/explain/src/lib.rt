@@ -3,7 +3,8 @@
 
 ghost use Rattle.std.specs.Prelude.{◌≡◌, Bool, false, List, ℕ, ◌+◌, ◌<◌, ◌≤◌};
 ghost use Rattle.area.specs.Cells.{cells};
-ghost use Rattle.rows.specs.Rows.{Fits};
+ghost use Rattle.opcode.specs.Opcode.{number};
+ghost use Rattle.opcode.specs.declared.Operation.TheVariants.{Jump, ResultRow};
 ghost use Rattle.rows.specs.Judged.{SomeRows};
 ghost use Rattle.jump_arms.specs.Arms.{Ready, step_after};
 ghost use Rattle.explain.specs.Handles.{state_of, row_on, Handles};
@@ -11,6 +12,7 @@ ghost use Rattle.root_block.specs.Blocks.{IsBlocks};
 ghost use Rattle.explain.specs.Numbers.{NumberArm, as_handling};
 
 use intmap::IntMap;
+use opcode::Operation;
 use refusal::Refusal;
 use rows::Row;
 use state::{MemoryState, Ways};
@@ -22,14 +24,6 @@ pub enum Handling {
     Ways(Ways, bool),
     Three(MemoryState, MemoryState, MemoryState, MemoryState),
     Result(MemoryState, u64, u64),
-}
-
-// The row's number, as the constants are.
-pub fn number(x: Row) -> u8
-    requires { Fits x }
-    ensures { result ≡ x.op }
-{
-    x.op as u8
 }
 
 fn as_handling(step: Result<Ways, Refusal>, repeat: bool) -> Result<Handling, Refusal>
@@ -51,60 +45,51 @@ fn jump(
     s: MemoryState,
     area: &mut [u8],
     x: Row,
-    op: u8,
     from: usize,
     n: usize,
     limit: usize,
 ) -> Result<Ways, Refusal>
-    requires { Ready limit (cells area.old) s x × SomeRows (cells area.old) from n × (1 ≤ op) × (op ≤ 14) × (op ≡ 13 → ⊥) }
-    ensures { (blocks : List ℕ) → NumberArm limit from n (cells area.old) (cells area.new) blocks s x op result }
+    requires { Ready limit (cells area.old) s x × SomeRows (cells area.old) from n × (1 ≤ number x.op) × (number x.op ≤ 14) × (x.op ≡ Jump → ⊥) }
+    ensures { (blocks : List ℕ) → NumberArm limit from n (cells area.old) (cells area.new) blocks s x x.op result }
 {
-    match op {
-        opcode::OP_GOTO => jump_arms::goto(s, area, x, limit),
-        opcode::OP_GOSUB => jump_arms::gosub(s, area, x, limit),
-        opcode::OP_BRANCH => jump_arms::branch(s, area, x, limit),
-        opcode::OP_IS_NULL => jump_arms::is_null(s, area, x, limit),
-        opcode::OP_NOT_NULL => jump_arms::not_null(s, area, x, limit),
-        opcode::OP_MUST_BE_INT => jump_arms::must_be_int(s, area, x, limit),
-        opcode::OP_IF => jump_arms::if_(s, area, x, limit),
-        opcode::OP_REWIND => rewind_arm::rewind(s, area, x, limit),
-        opcode::OP_INIT_COROUTINE => jump_arms::init_coroutine(s, area, x, limit),
-        opcode::OP_END_COROUTINE => coroutine_arms::end_coroutine(s, area, x, from, n, limit),
-        opcode::OP_RETURN => jump_arms::return_(s, area, x, limit),
-        opcode::OP_YIELD => coroutine_arms::yield_(s, area, x, from, n, limit),
+    match x.op {
+        Operation::Goto => jump_arms::goto(s, area, x, limit),
+        Operation::Gosub => jump_arms::gosub(s, area, x, limit),
+        Operation::Branch => jump_arms::branch(s, area, x, limit),
+        Operation::IsNull => jump_arms::is_null(s, area, x, limit),
+        Operation::NotNull => jump_arms::not_null(s, area, x, limit),
+        Operation::MustBeInt => jump_arms::must_be_int(s, area, x, limit),
+        Operation::If => jump_arms::if_(s, area, x, limit),
+        Operation::Rewind => rewind_arm::rewind(s, area, x, limit),
+        Operation::InitCoroutine => jump_arms::init_coroutine(s, area, x, limit),
+        Operation::EndCoroutine => coroutine_arms::end_coroutine(s, area, x, from, n, limit),
+        Operation::Return => jump_arms::return_(s, area, x, limit),
+        Operation::Yield => coroutine_arms::yield_(s, area, x, from, n, limit),
         _ => jump_arms::halt(s, area, x, limit),
     }
 }
 
 // The arms that write registers.
-fn register(
-    s: MemoryState,
-    area: &mut [u8],
-    x: Row,
-    op: u8,
-    limit: usize,
-) -> Result<IntMap, Refusal>
-    requires { Ready limit (cells area.old) s x × (16 ≤ op) × (op ≤ 32) }
-    ensures { (from n : ℕ) (blocks : List ℕ) → IsBlocks blocks → NumberArm limit from n (cells area.old) (cells area.new) blocks s x op (step_after (s.row + 1) result) }
+fn register(s: MemoryState, area: &mut [u8], x: Row, limit: usize) -> Result<IntMap, Refusal>
+    requires { Ready limit (cells area.old) s x × (16 ≤ number x.op) × (number x.op ≤ 32) }
+    ensures { (from n : ℕ) (blocks : List ℕ) → IsBlocks blocks → NumberArm limit from n (cells area.old) (cells area.new) blocks s x x.op (step_after (s.row + 1) result) }
 {
     let map = s.map;
-    if opcode::OP_ARITHMETIC < op {
-        return register_arms::constant(map, area, x, opcode::opcode_to_type(op), limit);
-    }
-    match op {
-        opcode::OP_MAKE_RECORD => record_arms::make_record(map, area, x, limit),
-        opcode::OP_VARIABLE => register_arms::variable(map, area, x, limit),
-        opcode::OP_HALT_IF_NULL => register_arms::halt_if_null(map, area, x, limit),
-        opcode::OP_FUNCTION => register_arms::function(map, area, x, limit),
-        opcode::OP_AGG_STEP => register_arms::agg_step(map, area, x, limit),
-        opcode::OP_AGG_FINAL => register_arms::agg_final(map, area, x, limit),
-        opcode::OP_CAST => register_arms::cast(map, area, x, limit),
-        opcode::OP_COPY_ONE => copy_arms::scopy(map, area, x, limit),
-        opcode::OP_COPY => copy_arms::copy(map, area, x, limit),
-        opcode::OP_MOVE => copy_arms::move_(map, area, x, limit),
-        opcode::OP_INTEGER => register_arms::integer(map, area, x, limit),
-        opcode::OP_NULL => register_arms::null(map, area, x, limit),
-        _ => register_arms::arithmetic(map, area, x, limit),
+    match x.op {
+        Operation::MakeRecord => record_arms::make_record(map, area, x, limit),
+        Operation::Variable => register_arms::variable(map, area, x, limit),
+        Operation::HaltIfNull => register_arms::halt_if_null(map, area, x, limit),
+        Operation::Function => register_arms::function(map, area, x, limit),
+        Operation::AggStep => register_arms::agg_step(map, area, x, limit),
+        Operation::AggFinal => register_arms::agg_final(map, area, x, limit),
+        Operation::Cast => register_arms::cast(map, area, x, limit),
+        Operation::CopyOne => copy_arms::scopy(map, area, x, limit),
+        Operation::Copy => copy_arms::copy(map, area, x, limit),
+        Operation::Move => copy_arms::move_(map, area, x, limit),
+        Operation::Integer => register_arms::integer(map, area, x, limit),
+        Operation::Null => register_arms::null(map, area, x, limit),
+        Operation::Arithmetic => register_arms::arithmetic(map, area, x, limit),
+        _ => register_arms::constant(map, area, x, opcode::opcode_to_type(x.op), limit),
     }
 }
 
@@ -114,30 +99,29 @@ fn cursor(
     area: &mut [u8],
     blocks: &[u8],
     x: Row,
-    op: u8,
     limit: usize,
 ) -> Result<IntMap, Refusal>
-    requires { Ready limit (cells area.old) s x × IsBlocks blocks.now × (limit ≤ 65535) × (33 ≤ op) × (op ≤ 41) }
-    ensures { (from n : ℕ) → NumberArm limit from n (cells area.old) (cells area.new) blocks.now s x op (step_after (s.row + 1) result) }
+    requires { Ready limit (cells area.old) s x × IsBlocks blocks.now × (limit ≤ 65535) × (33 ≤ number x.op) × (number x.op ≤ 41) }
+    ensures { (from n : ℕ) → NumberArm limit from n (cells area.old) (cells area.new) blocks.now s x x.op (step_after (s.row + 1) result) }
 {
     let map = s.map;
     let row = s.row - intmap::ZERO;
-    match op {
-        opcode::OP_COLUMN => column_arms::column(map, area, x, limit),
-        opcode::OP_ROW_DATA => column_arms::row_data(map, area, x, limit),
-        opcode::OP_INSERT => table_arms::insert(map, area, x, limit),
-        opcode::OP_DELETE => cursor_arms::delete(map, area, x),
-        opcode::OP_OPEN_PSEUDO => cursor_arms::open_pseudo(map, area, x, limit),
-        opcode::OP_OPEN_DUP => cursor_arms::open_dup(map, area, x, limit),
-        opcode::OP_OPEN_READ => read_arm::open_read(map, area, blocks, row, x, limit),
-        opcode::OP_OPEN_EPHEMERAL => open_arms::open_ephemeral(map, area, row, x, limit),
+    match x.op {
+        Operation::Column => column_arms::column(map, area, x, limit),
+        Operation::RowData => column_arms::row_data(map, area, x, limit),
+        Operation::Insert => table_arms::insert(map, area, x, limit),
+        Operation::Delete => cursor_arms::delete(map, area, x),
+        Operation::OpenPseudo => cursor_arms::open_pseudo(map, area, x, limit),
+        Operation::OpenDup => cursor_arms::open_dup(map, area, x, limit),
+        Operation::OpenRead => read_arm::open_read(map, area, blocks, row, x, limit),
+        Operation::OpenEphemeral => open_arms::open_ephemeral(map, area, row, x, limit),
         _ => table_arms::null_row(map, area, x),
     }
 }
 
 // Jump: branches at P1, P2 and P3, and the state goes on.
 fn jump_three(s: MemoryState, area: &[u8], x: Row, limit: usize) -> Result<Handling, Refusal>
-    requires { Ready limit (cells area.now) s x × (x.op ≡ 13) }
+    requires { Ready limit (cells area.now) s x × (x.op ≡ Jump) }
     ensures { (from n : ℕ) (blocks : List ℕ) (again : Bool) → Handles limit from n (cells area.now) (cells area.now) blocks s x again result }
 {
     let map = s.map;
@@ -152,9 +136,9 @@ fn jump_three(s: MemoryState, area: &[u8], x: Row, limit: usize) -> Result<Handl
     ))
 }
 
-// ResultRow, whose number is the last.
+// ResultRow
 fn result_row(s: MemoryState, area: &[u8], x: Row, limit: usize) -> Result<Handling, Refusal>
-    requires { Ready limit (cells area.now) s x × (42 ≤ x.op) }
+    requires { Ready limit (cells area.now) s x × (x.op ≡ ResultRow) }
     ensures { (from n : ℕ) (blocks : List ℕ) (again : Bool) → Handles limit from n (cells area.now) (cells area.now) blocks s x again result }
 {
     let map = s.map;
@@ -167,7 +151,7 @@ fn result_row(s: MemoryState, area: &[u8], x: Row, limit: usize) -> Result<Handl
 }
 
 // Handles the row that the state stands on, at `at` with the map of these numbers; `again` where its lineage has handled it before. The listing's n
-// rows are in the cells from `from` on. An operation without an arm, number 0, does nothing. The row is read here, and the state is given in words:
+// rows are in the cells from `from` on. An operation without an arm does nothing. The row is read here, and the state is given in words:
 // a struct that is handed over is written in words and read back in pairs.
 pub fn handle(
     at: u64,
@@ -187,24 +171,25 @@ pub fn handle(
     let x = rows::row_at(area, from, (at - intmap::ZERO) as usize);
     let map = IntMap { base, len, used };
     let s = MemoryState { map, row: at };
-    let op = number(x);
-    if op == 0 {
+    // By ranges of the numbers: a match on the operation makes a table here, which is slower than the few comparisons.
+    let op = x.op.number();
+    if op == Operation::Other as u8 {
         return falls_through(Ok(map), s.row);
     }
-    if op == opcode::OP_JUMP {
+    if op == Operation::Jump as u8 {
         return jump_three(s, area, x, limit);
     }
-    if op < opcode::OP_IF_POS {
-        return as_handling(jump(s, area, x, op, from, n, limit), false);
+    if op < Operation::IfPos as u8 {
+        return as_handling(jump(s, area, x, from, n, limit), false);
     }
-    if op == opcode::OP_IF_POS {
+    if op == Operation::IfPos as u8 {
         return as_handling(ifpos_arm::if_pos(s, area, x, again, limit), again);
     }
-    if op < opcode::OP_COLUMN {
-        return falls_through(register(s, area, x, op, limit), s.row);
+    if op < Operation::Column as u8 {
+        return falls_through(register(s, area, x, limit), s.row);
     }
-    if op < opcode::OP_RESULT_ROW {
-        return falls_through(cursor(s, area, blocks, x, op, limit), s.row);
+    if op < Operation::ResultRow as u8 {
+        return falls_through(cursor(s, area, blocks, x, limit), s.row);
     }
     result_row(s, area, x, limit)
 }

@@ -8,10 +8,11 @@ use Prim.Native.Nat.{ℕ, ◌+◌, ◌-◌, ◌<◌, ◌≤◌}
 use native.Mathlib.Omega.{arith}
 use Rattle.model.specs.State.{Int}
 use Rattle.model.specs.Access.{store_register}
-use Rattle.model.specs.Operation.{JumpOperation, CursorOperation, jumps, cursors, no_arm, op_goto, op_gosub, op_init_coroutine, op_null, op_column}
+use Rattle.model.specs.Operation.{JumpOperation, CursorOperation, jumps, cursors, no_arm, op_goto, op_gosub, op_init_coroutine, op_null}
 use Rattle.area.specs.declared.Cell.{Cell}
 use Rattle.intmap.specs.Signed.{offset, int_of}
-use Rattle.opcode.specs.Opcode.{arms, operation_at}
+use Rattle.opcode.specs.Opcode.{arm_of}
+use Rattle.opcode.specs.declared.Operation.{Operation}
 use Rattle.rows.specs.Rows.{Operand}
 use Rattle.rows.specs.declared.Row.{Row}
 use Rattle.state.specs.Leads.{Leads}
@@ -33,7 +34,7 @@ use Rattle.in_place.proofs.NearLaws.{arm-not}
 
 -- ---- what is asked for
 
-module _ {cs : List Cell} {row base end op i j k : ℕ} (h : ReadyAt cs row base end op i j k) where
+module _ {cs : List Cell} {row base end : ℕ} {op : Operation} {i j k : ℕ} (h : ReadyAt cs row base end op i j k) where
   pub ready_among : HeldAmong cs base end
   ready_among =
       subst (λ e. HeldAmong cs base e) h.stands.to
@@ -50,11 +51,11 @@ module _ {cs : List Cell} {row base end op i j k : ℕ} (h : ReadyAt cs row base
 
 -- ---- the arms that name the next row
 
-pub jump_not : {cs ds : List Cell} {row base end op i j k n : ℕ} → ds ≡ cs → JumpNear cs ds row base end op i j k n None
+pub jump_not : {cs ds : List Cell} {row base end : ℕ} {op : Operation} {i j k n : ℕ} → ds ≡ cs → JumpNear cs ds row base end op i j k n None
 jump_not same = record { arm = op_goto; is = λ w e. absurd (none-some w e); within = λ w e. absurd (none-some w e); goes = λ w e. absurd (none-some w e); no = λ _. same }
 
 -- an arm o that leads to `to`, which is the row r of the listing
-module _ {cs ds : List Cell} {row base end op i j k n to : ℕ} {r : Option ℕ} {o : JumpOperation} (is : operation_at op ≡ jumps o) (in_List : WithinListing to n r) (changes : r ≡ None → ds ≡ cs) where
+module _ {cs ds : List Cell} {row base end : ℕ} {op : Operation} {i j k n to : ℕ} {r : Option ℕ} {o : JumpOperation} (is : arm_of op ≡ jumps o) (in_List : WithinListing to n r) (changes : r ≡ None → ds ≡ cs) where
   jump_near : ((limit : ℕ) (s : MemoryState) (x : Row) → Ready limit cs s x → Operands x i j k → StandsAt s row base end → JumpArm limit cs ds s x o (offered None (Some (at to s.map)))) → JumpNear cs ds row base end op i j k n r
   jump_near leads =
       record {
@@ -65,7 +66,7 @@ module _ {cs ds : List Cell} {row base end op i j k n to : ℕ} {r : Option ℕ}
         no = changes;
       }
 
-pub goto_near : {cs : List Cell} {row base end op i j k n : ℕ} {r : Option ℕ} → operation_at op ≡ jumps op_goto → WithinListing j n r → JumpNear cs cs row base end op i j k n r
+pub goto_near : {cs : List Cell} {row base end : ℕ} {op : Operation} {i j k n : ℕ} {r : Option ℕ} → arm_of op ≡ jumps op_goto → WithinListing j n r → JumpNear cs cs row base end op i j k n r
 goto_near {cs} is in_List =
     jump_near is in_List (λ _. refl)
     (λ limit s x ready ops stands.
@@ -78,15 +79,15 @@ module _ {cs ds : List Cell} {row base end i j k : ℕ} {b : Bool} (made : b ≡
       subst (λ z. Leads limit cs ds s.map (Ok s.map) (store_register limit (int_of z) (Int (int_of u)))) (sym ops.first)
       (subst (λ z. Leads limit cs ds s.map (Ok s.map) (store_register limit (int_of i) (Int (int_of z)))) (sym ue) (w.yes made s.map stands.from stands.to limit ready.current))
 
-  module _ {op n w : ℕ} {r : Option ℕ} (some : r ≡ Some w) where
-    pub gosub_near : operation_at op ≡ jumps op_gosub → WithinListing j n r → LeadsNear cs ds base end (λ limit. store_register limit (int_of i) (Int (int_of row))) b → JumpNear cs ds row base end op i j k n (Some w)
+  module _ {op : Operation} {n w : ℕ} {r : Option ℕ} (some : r ≡ Some w) where
+    pub gosub_near : arm_of op ≡ jumps op_gosub → WithinListing j n r → LeadsNear cs ds base end (λ limit. store_register limit (int_of i) (Int (int_of row))) b → JumpNear cs ds row base end op i j k n (Some w)
     gosub_near is in_List led =
         jump_near is (subst (WithinListing _ n) some in_List) (λ e. absurd (none-some w (sym e)))
         (λ limit s x ready ops stands.
         subst (λ z. JumpArm limit cs ds s x op_gosub (step_after z (Ok s.map))) ops.second
         (gosub_arm limit cs ds s x (Ok s.map) (stored_as led limit s x ready ops stands s.row stands.on)))
 
-    pub init_near : {to : ℕ} → operation_at op ≡ jumps op_init_coroutine → InitTo row j to → WithinListing to n r → LeadsNear cs ds base end (λ limit. store_register limit (int_of i) (Int (int_of k))) b → JumpNear cs ds row base end op i j k n (Some w)
+    pub init_near : {to : ℕ} → arm_of op ≡ jumps op_init_coroutine → InitTo row j to → WithinListing to n r → LeadsNear cs ds base end (λ limit. store_register limit (int_of i) (Int (int_of k))) b → JumpNear cs ds row base end op i j k n (Some w)
     init_near {to} is goes in_List led =
         jump_near is (subst (WithinListing _ n) some in_List) (λ e. absurd (none-some w (sym e)))
         (λ limit s x ready ops stands.
@@ -95,7 +96,7 @@ module _ {cs ds : List Cell} {row base end i j k : ℕ} {b : Bool} (made : b ≡
 
 -- ---- handling
 
-pub jump_handles : {cs ds : List Cell} {row base end op i j k n : ℕ} {r : Option ℕ} → JumpNear cs ds row base end op i j k n r → HandlesNear cs ds row base end op i j k n r
+pub jump_handles : {cs ds : List Cell} {row base end : ℕ} {op : Operation} {i j k n : ℕ} {r : Option ℕ} → JumpNear cs ds row base end op i j k n r → HandlesNear cs ds row base end op i j k n r
 jump_handles jumped =
     record {
       within = jumped.within;
@@ -105,12 +106,12 @@ jump_handles jumped =
     }
 
 -- the next row
-next_as : {cs ds : List Cell} {row base end op n w limit first size : ℕ} {r : Option ℕ} {blocks : List ℕ} {s : MemoryState} {x : Row} {again : Bool} → WithinListing (row + 1) n r → r ≡ Some w → StandsAt s row base end → x.op ≡ op → NumberArm limit first size cs ds blocks s x op (step_after (s.row + 1) (Ok s.map)) → Handles limit first size cs ds blocks s x again (Ok (handling.Ways (record { branch = None; stays = Some (at w s.map) }) false))
+next_as : {cs ds : List Cell} {row base end : ℕ} {op : Operation} {n w limit first size : ℕ} {r : Option ℕ} {blocks : List ℕ} {s : MemoryState} {x : Row} {again : Bool} → WithinListing (row + 1) n r → r ≡ Some w → StandsAt s row base end → x.op ≡ op → NumberArm limit first size cs ds blocks s x op (step_after (s.row + 1) (Ok s.map)) → Handles limit first size cs ds blocks s x again (Ok (handling.Ways (record { branch = None; stays = Some (at w s.map) }) false))
 next_as {cs} {ds} {limit = limit} {first} {size} {blocks} {s} {x} {again} in_List e stands num arm =
     subst (λ z. Handles limit first size cs ds blocks s x again (Ok (handling.Ways (record { branch = None; stays = Some (at z s.map) }) false))) (ap (λ z. z + 1) stands.on ∙ sym (in_List.yes _ e).0)
     (number_handles (offered None (Some (at (s.row + 1) s.map))) (sym num) arm)
 
-pub register_handles : {cs ds : List Cell} {row base end op i j k n w : ℕ} {r : Option ℕ} {b : Bool} → WithinListing (row + 1) n r → b ≡ true → r ≡ Some w → RegisterNear cs ds base end op i j k b → HandlesNear cs ds row base end op i j k n (Some w)
+pub register_handles : {cs ds : List Cell} {row base end : ℕ} {op : Operation} {i j k n w : ℕ} {r : Option ℕ} {b : Bool} → WithinListing (row + 1) n r → b ≡ true → r ≡ Some w → RegisterNear cs ds base end op i j k b → HandlesNear cs ds row base end op i j k n (Some w)
 register_handles in_List made some led =
     record {
       within = λ w e. (((subst (WithinListing _ _) some in_List).yes w e).1, ((subst (WithinListing _ _) some in_List).yes w e).2);
@@ -119,11 +120,7 @@ register_handles in_List made some led =
       no = λ e. absurd (none-some _ (sym e));
     }
 
-pub column_number : {op : ℕ} → 33 ≤ op → op ≤ 33 → operation_at op ≡ cursors op_column
-unfolding operation_at arms
-column_number {op} low high = let e : op ≡ 33 = omega (arith, low, high) in ap operation_at e
-
-pub column_handles : {cs ds : List Cell} {row base end op i j k n w : ℕ} {r : Option ℕ} {b : Bool} {o : CursorOperation} → operation_at op ≡ cursors o → WithinListing (row + 1) n r → b ≡ true → r ≡ Some w → CursorNear cs ds base end i j k o b → HandlesNear cs ds row base end op i j k n (Some w)
+pub column_handles : {cs ds : List Cell} {row base end : ℕ} {op : Operation} {i j k n w : ℕ} {r : Option ℕ} {b : Bool} {o : CursorOperation} → arm_of op ≡ cursors o → WithinListing (row + 1) n r → b ≡ true → r ≡ Some w → CursorNear cs ds base end i j k o b → HandlesNear cs ds row base end op i j k n (Some w)
 column_handles is in_List made some led =
     record {
       within = λ w e. (((subst (WithinListing _ _) some in_List).yes w e).1, ((subst (WithinListing _ _) some in_List).yes w e).2);
@@ -132,7 +129,7 @@ column_handles is in_List made some led =
       no = λ e. absurd (none-some _ (sym e));
     }
 
-pub none_handles : {cs : List Cell} {row base end op i j k n : ℕ} {r : Option ℕ} → operation_at op ≡ no_arm → WithinListing (row + 1) n r → HandlesNear cs cs row base end op i j k n r
+pub none_handles : {cs : List Cell} {row base end : ℕ} {op : Operation} {i j k n : ℕ} {r : Option ℕ} → arm_of op ≡ no_arm → WithinListing (row + 1) n r → HandlesNear cs cs row base end op i j k n r
 none_handles is in_List =
     record {
       within = λ w e. ((in_List.yes w e).1, (in_List.yes w e).2);
@@ -140,8 +137,8 @@ none_handles is in_List =
       no = λ _. refl;
     }
 
-pub handles_not : {cs ds : List Cell} {row base end op i j k n : ℕ} → ds ≡ cs → HandlesNear cs ds row base end op i j k n None
+pub handles_not : {cs ds : List Cell} {row base end : ℕ} {op : Operation} {i j k n : ℕ} → ds ≡ cs → HandlesNear cs ds row base end op i j k n None
 handles_not same = record { within = λ w e. absurd (none-some w e); yes = λ w e. absurd (none-some w e); no = λ _. same }
 
-pub register_not : {cs : List Cell} {base end op i j k : ℕ} → RegisterNear cs cs base end op i j k false
+pub register_not : {cs : List Cell} {base end : ℕ} {op : Operation} {i j k : ℕ} → RegisterNear cs cs base end op i j k false
 register_not = record { arm = op_null; is = λ e. absurd (true≢false (sym e)); near = arm-not }

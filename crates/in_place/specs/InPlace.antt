@@ -1,5 +1,5 @@
 -- What a row that is handled where its cells stand leads to: the answer of its arm, with the map as it was, or nothing has changed. The state is
--- given by its row and where its map begins and ends, the judged row by its number and operands. Assumes nothing.
+-- given by its row and where its map begins and ends, the judged row by its operation and operands. Assumes nothing.
 use Rattle.std.specs.Prelude.{◌≡◌, Bool, true, false, List, ℕ, ◌+◌, ◌<◌, ◌≤◌, get_or, Ok, Some, None, Option}
 use Rattle.model.specs.Operation.{JumpOperation, RegisterOperation, CursorOperation, jumps, registers}
 use Rattle.area.specs.Cells.{blank}
@@ -7,7 +7,8 @@ use Rattle.area.specs.declared.Cell.{Cell}
 use Rattle.intmap.specs.Map.{HasRoom}
 use Rattle.intmap.specs.Signed.{offset}
 use Rattle.intmap.specs.declared.IntMap.{IntMap}
-use Rattle.opcode.specs.Opcode.{operation_at}
+use Rattle.opcode.specs.Opcode.{arm_of}
+use Rattle.opcode.specs.declared.Operation.{Operation}
 use Rattle.rows.specs.declared.Row.{Row}
 use Rattle.state.specs.Leads.{Current}
 use Rattle.state.specs.Own.{StoresCell}
@@ -32,10 +33,10 @@ pub record ArmNear (cs ds : List Cell) (base end i j k : ℕ) (o : RegisterOpera
   pub yes : r ≡ true → (x : Row) → Operands x i j k → (a : IntMap) → a.base ≡ base → a.base + a.used ≡ end → (limit : ℕ) → Current limit cs a → RegisterArm limit cs ds a x o (Ok a)
   pub no : r ≡ false → ds ≡ cs
 
--- the one of the operation that the number stands for
-pub record RegisterNear (cs ds : List Cell) (base end op i j k : ℕ) (r : Bool) : Type 0 where
+-- the one of the operation that is meant
+pub record RegisterNear (cs ds : List Cell) (base end : ℕ) (op : Operation) (i j k : ℕ) (r : Bool) : Type 0 where
   pub arm : RegisterOperation
-  pub is : r ≡ true → operation_at op ≡ registers arm
+  pub is : r ≡ true → arm_of op ≡ registers arm
   pub near : ArmNear cs ds base end i j k arm r
 
 -- where the head of cursor i's columns is, in any map from `base` on and before `end`, or nothing
@@ -72,13 +73,13 @@ pub record StandsAt (s : MemoryState) (row base end : ℕ) : Type 0 where
   pub from : s.map.base ≡ base
   pub to : s.map.base + s.map.used ≡ end
 
--- some state that stands so is ready for some row of this number and these operands
-pub record ReadyAt (cs : List Cell) (row base end op i j k : ℕ) : Type 0 where
+-- some state that stands so is ready for some row of this operation and these operands
+pub record ReadyAt (cs : List Cell) (row base end : ℕ) (op : Operation) (i j k : ℕ) : Type 0 where
   pub limit : ℕ
   pub state : MemoryState
   pub judged : Row
   pub ready : Ready limit cs state judged
-  pub number : judged.op ≡ op
+  pub operation : judged.op ≡ op
   pub operands : Operands judged i j k
   pub stands : StandsAt state row base end
 
@@ -86,16 +87,16 @@ pub record ReadyAt (cs : List Cell) (row base end op i j k : ℕ) : Type 0 where
 pub record GoesOn (cs ds : List Cell) (row base end i j k r : ℕ) (o : JumpOperation) : Type 0 where
   pub arm : (limit : ℕ) (s : MemoryState) (x : Row) → Ready limit cs s x → Operands x i j k → StandsAt s row base end → JumpArm limit cs ds s x o (offered None (Some (at r s.map)))
 
--- it is that of the operation that the number stands for, and the row is one of the listing's n; or nothing has changed
-pub record JumpNear (cs ds : List Cell) (row base end op i j k n : ℕ) (r : Option ℕ) : Type 0 where
+-- it is that of the operation that is meant, and the row is one of the listing's n; or nothing has changed
+pub record JumpNear (cs ds : List Cell) (row base end : ℕ) (op : Operation) (i j k n : ℕ) (r : Option ℕ) : Type 0 where
   pub arm : JumpOperation
-  pub is : (w : ℕ) → r ≡ Some w → operation_at op ≡ jumps arm
+  pub is : (w : ℕ) → r ≡ Some w → arm_of op ≡ jumps arm
   pub within : (w : ℕ) → r ≡ Some w → (offset ≤ w) × (w < offset + n)
   pub goes : (w : ℕ) → r ≡ Some w → GoesOn cs ds row base end i j k w arm
   pub no : r ≡ None → ds ≡ cs
 
 -- of every state and row that stand for these, handling gives the state at that row, one of the listing's n; or nothing has changed
-pub record HandlesNear (cs ds : List Cell) (row base end op i j k n : ℕ) (r : Option ℕ) : Type 0 where
+pub record HandlesNear (cs ds : List Cell) (row base end : ℕ) (op : Operation) (i j k n : ℕ) (r : Option ℕ) : Type 0 where
   pub within : (w : ℕ) → r ≡ Some w → (offset ≤ w) × (w < offset + n)
   pub yes : (w : ℕ) → r ≡ Some w → (limit : ℕ) (s : MemoryState) (x : Row) → Ready limit cs s x → x.op ≡ op → Operands x i j k → StandsAt s row base end → (first size : ℕ) (blocks : List ℕ) (again : Bool) → IsBlocks blocks → Handles limit first size cs ds blocks s x again (Ok (handling.Ways (record { branch = None; stays = Some (at w s.map) }) false))
   pub no : r ≡ None → ds ≡ cs

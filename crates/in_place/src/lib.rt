@@ -11,6 +11,7 @@ ghost use Rattle.rows.specs.Rows.{Operand};
 ghost use Rattle.state.specs.Own.{HeldAmong, LeadsNear};
 ghost use Rattle.in_place.specs.InPlace.{ArmNear, RegisterNear, TableNear, ColumnNear, CursorNear, ReadyAt, WithinListing, JumpNear, HandlesNear};
 
+use opcode::Operation;
 use state::Register;
 use type_info::DataType;
 
@@ -104,24 +105,26 @@ fn null(area: &mut [u8], base: usize, end: usize, j: u64, k: u64) -> bool
 }
 
 // The arms that write registers, by P1, P2 and P3.
-fn register(area: &mut [u8], base: usize, end: usize, op: u8, i: u64, j: u64, k: u64) -> bool
-    requires { HeldAmong (cells area.old) base end × Operand i × (op ≤ 32) }
+fn register(area: &mut [u8], base: usize, end: usize, op: Operation, i: u64, j: u64, k: u64) -> bool
+    requires { HeldAmong (cells area.old) base end × Operand i }
     ensures { RegisterNear (cells area.old) (cells area.new) base end op i j k result }
 {
-    if opcode::OP_ARITHMETIC < op {
-        let d = opcode::opcode_to_type(op);
-        return state::single_near(area, base, end, j, d, state::NEVER);
-    }
     match op {
-        opcode::OP_VARIABLE => {
+        Operation::Variable => {
             state::single_near(area, base, end, j, DataType::Null, state::NULLABLE)
         }
-        opcode::OP_HALT_IF_NULL => halt_if_null(area, base, end, k),
-        opcode::OP_COPY_ONE => copy(area, base, end, i, j),
-        opcode::OP_COPY => copy_one(area, base, end, i, j, k),
-        opcode::OP_INTEGER => state::int_near(area, base, end, j, i),
-        opcode::OP_NULL => null(area, base, end, j, k),
-        opcode::OP_ARITHMETIC => arithmetic(area, base, end, i, j, k),
+        Operation::HaltIfNull => halt_if_null(area, base, end, k),
+        Operation::CopyOne => copy(area, base, end, i, j),
+        Operation::Copy => copy_one(area, base, end, i, j, k),
+        Operation::Integer => state::int_near(area, base, end, j, i),
+        Operation::Null => null(area, base, end, j, k),
+        Operation::Arithmetic => arithmetic(area, base, end, i, j, k),
+        Operation::ConstantInteger
+        | Operation::ConstantFloat
+        | Operation::ConstantText
+        | Operation::ConstantBlob => {
+            state::single_near(area, base, end, j, opcode::opcode_to_type(op), state::NEVER)
+        }
         _ => false,
     }
 }
@@ -204,7 +207,7 @@ fn jump(
     at: u64,
     base: usize,
     end: usize,
-    op: u8,
+    op: Operation,
     i: u64,
     j: u64,
     k: u64,
@@ -213,34 +216,36 @@ fn jump(
     requires { ReadyAt (cells area.old) at base end op i j k }
     ensures { JumpNear (cells area.old) (cells area.new) at base end op i j k n result }
 {
-    if op == opcode::OP_GOTO {
-        return listed(j, n);
-    }
-    if op == opcode::OP_GOSUB {
-        let next = listed(j, n)?;
-        if state::int_near(area, base, end, i, at) {
-            return Some(next);
+    match op {
+        Operation::Goto => listed(j, n),
+        Operation::Gosub => {
+            let next = listed(j, n)?;
+            if state::int_near(area, base, end, i, at) {
+                Some(next)
+            } else {
+                None
+            }
         }
-        return None;
+        Operation::InitCoroutine => {
+            let next = listed(jump_arms::init_coroutine_to(at, j), n)?;
+            if state::int_near(area, base, end, i, k) {
+                Some(next)
+            } else {
+                None
+            }
+        }
+        _ => None,
     }
-    if op != opcode::OP_INIT_COROUTINE {
-        return None;
-    }
-    let next = listed(jump_arms::init_coroutine_to(at, j), n)?;
-    if state::int_near(area, base, end, i, k) {
-        return Some(next);
-    }
-    None
 }
 
-// Handles the row of this number and these operands, at the state that stands on `at` and whose map is from `base` on and before `end`: the row of
+// Handles the row of this operation and these operands, at the state that stands on `at` and whose map is from `base` on and before `end`: the row of
 // the listing's n that it goes on to, if it is handled so. The map is as it was.
 pub fn next_row(
     area: &mut [u8],
     at: u64,
     base: usize,
     end: usize,
-    op: u8,
+    op: Operation,
     i: u64,
     j: u64,
     k: u64,
@@ -249,20 +254,22 @@ pub fn next_row(
     requires { ReadyAt (cells area.old) at base end op i j k }
     ensures { HandlesNear (cells area.old) (cells area.new) at base end op i j k n result }
 {
-    if op == 0 {
+    // By ranges of the numbers: a match on the operation makes a table here, which is slower than the few comparisons.
+    let number = op.number();
+    if number == Operation::Other as u8 {
         return listed(at + 1, n);
     }
-    if op < opcode::OP_IF_POS {
+    if number < Operation::IfPos as u8 {
         return jump(area, at, base, end, op, i, j, k, n);
     }
     let next = listed(at + 1, n)?;
-    if op < opcode::OP_COLUMN {
+    if number < Operation::Column as u8 {
         if register(area, base, end, op, i, j, k) {
             return Some(next);
         }
         return None;
     }
-    if opcode::OP_COLUMN < op {
+    if number != Operation::Column as u8 {
         return None;
     }
     if column(area, base, end, i, j, k) {

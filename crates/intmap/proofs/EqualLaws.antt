@@ -1,14 +1,15 @@
 -- Columns that compare the same have the same cells, and the other way round; so with two maps. Assumes nothing.
-use mathlib.Core.Path.{◌≡◌, refl, sym, ap, ap₂, subst, ◌∙◌}
+use mathlib.Core.Path.{◌≡◌, refl, sym, ap, ◌∙◌}
 use mathlib.Core.List.{List, ◌∷◌}
 use mathlib.Core.Bool.{Bool, true, false, ◌&&◌, false≢true}
 use Prim.Native.Nat.{ℕ, zero, suc, ◌+◌, ◌-◌, ◌<◌, ◌≤◌}
 use native.Mathlib.Omega.{arith}
 use native.Mathlib.Decide.{dec_lt}
 use lib.ListN.{length, get_or}
-use lib.Dec.{eqb, ltb}
-use borrow.Author.Tests.{eq-eqb, eqb-true, ltb-true, ltb-false}
-use Rattle.area.specs.Cells.{blank, cell}
+use lib.Dec.{eqb}
+use borrow.Author.Tests.{eq-eqb, eqb-true}
+use Rattle.std.specs.Bool.{MatchBool}
+use Rattle.area.specs.Cells.{blank}
 use Rattle.area.specs.declared.Cell.{Cell}
 use Rattle.intmap.specs.Pack.{tag_of}
 use Rattle.intmap.specs.Runs.{size, sizes, whole, same_cell, each_same, inside, eq_column, eq_columns, Agree}
@@ -124,25 +125,9 @@ module _ (cs : List Cell) where
 
 -- ---- cells, whatever they stand for
 
-module _ (cs : List Cell) (a b k : ℕ) (x y : Cell) (xe : x ≡ get_or cs (a + k) blank) (ye : y ≡ get_or cs (b + k) blank) where
-  pub cells_differ : {n : ℕ} → k < n → (x ≡ y → ⊥) → SameCells cs a b n false
-  cells_differ lt ne = record { yes = λ e. absurd (false≢true e); no = λ _ agree. ne (xe ∙ sym (agree k lt) ∙ sym ye) }
-
-  pub cells_turn : SameCells cs a b k true → x.head ≡ y.head → x.payload ≡ y.payload → SameCells cs a b (k + 1) true
-  cells_turn same heads payloads = record { yes = λ _ j lt. go j lt (ltb j k) refl; no = λ e. absurd (false≢true (sym e)) }
-    where
-      alike : y ≡ x
-      alike = ap₂ cell (sym heads) (sym payloads)
-
-      go : (j : ℕ) → j < k + 1 → (t : Bool) → ltb j k ≡ t → get_or cs (b + j) blank ≡ get_or cs (a + j) blank
-      go j lt true e = same.yes refl j (ltb-true j k e)
-      go j lt false e = subst (λ z. get_or cs (b + z) blank ≡ get_or cs (a + z) blank) (omega (arith, lt, ltb-false j k e)) (sym ye ∙ alike ∙ xe)
-
-pub cells-none : {cs : List Cell} {a b : ℕ} → SameCells cs a b 0 true
-cells-none = record { yes = λ _ j lt. absurd (omega (arith, lt)); no = λ e. absurd (false≢true (sym e)) }
-
-pub cells_all : {cs : List Cell} {a b n k : ℕ} → n ≤ k → SameCells cs a b k true → SameCells cs a b n true
-cells_all le same = record { yes = λ _ j lt. same.yes refl j (omega (arith, le, lt)); no = λ e. absurd (false≢true (sym e)) }
+pub cells_all : (cs : List Cell) (a b n : ℕ) (r : Bool) → MatchBool r ((k : ℕ) → k < n → get_or cs (a + k) blank ≡ get_or cs (b + k) blank) ((k : ℕ) × (k < n) × (get_or cs (a + k) blank ≡ get_or cs (b + k) blank → ⊥)) → SameCells cs a b n r
+cells_all cs a b n true h = record { yes = λ _ j lt. sym (h j lt); no = λ e. absurd (false≢true (sym e)) }
+cells_all cs a b n false h = record { yes = λ e. absurd (false≢true e); no = λ _ agree. h.2 (sym (agree h.0 h.1)) }
 
 -- ---- two maps
 module _ (cs : List Cell) (a b : IntMap) where

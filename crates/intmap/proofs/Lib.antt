@@ -1,4 +1,5 @@
 pub mod RunLaws
+pub mod BelowLaws
 pub mod DepthLaws
 pub mod SameCells
 pub mod FindLaws

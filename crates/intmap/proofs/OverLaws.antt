@@ -1,11 +1,10 @@
 -- A run put over another of as many cells: cells that are no records' are columns of one cell each, so a record's columns copied over as many
 -- are such a run; and over the entry that a search for its key leads to, it is the store. Assumes nothing.
 use mathlib.Core.Path.{◌≡◌, refl, sym, ap, ap₂, subst, ◌∙◌}
-use mathlib.Core.Bool.{true, false, true≢false}
+use mathlib.Core.Bool.{Bool, true, false, true≢false}
 use mathlib.Core.List.{List, ◌∷◌}
 use Prim.Native.Nat.{ℕ, zero, suc, ◌+◌, ◌-◌, ◌<◌, ◌≤◌}
 use native.Mathlib.Omega.{arith}
-use native.Mathlib.Decide.{ℕ_discrete}
 use lib.ListN.{length, get_or, set, length-set}
 use lib.Seq.{get_or-set_same, get_or-set_other}
 use Rattle.area.specs.Cells.{blank}
@@ -13,6 +12,7 @@ use Rattle.area.specs.Moves.{moved}
 use Rattle.area.specs.declared.Cell.{Cell}
 use Rattle.area.proofs.MoveLaws.{length_moved, moved_same, moved_below, moved_above, moved_in}
 use Rattle.std.specs.Prelude.{Ok}
+use Rattle.std.specs.Bool.{MatchBool}
 use Rattle.intmap.specs.Pack.{tag_of, key_of, with_key}
 use Rattle.intmap.specs.Runs.{size, sizes, IsColumn, Agree}
 use Rattle.intmap.specs.Entries.{span, entries, key_run}
@@ -29,21 +29,9 @@ use Rattle.intmap.proofs.StoreLaws.{room_map, opened_old, stored_done, found_in,
 
 -- ---- plain cells
 
-pub plain-none : (cs : List Cell) (at : ℕ) → Plain cs at 0
-plain-none cs at = record { none = λ j lt. absurd (omega (arith, lt)) }
-
-pub plain_more : (cs : List Cell) (at k : ℕ) → Plain cs at k → (tag_of (get_or cs (at + k) blank) ≡ 2 → ⊥) → Plain cs at (k + 1)
-plain_more cs at k before here = record { none = λ j lt. go j lt (ℕ_discrete j k) }
-  where
-    go : (j : ℕ) → j < k + 1 → Dec (j ≡ k) → tag_of (get_or cs (at + j) blank) ≡ 2 → ⊥
-    go j lt (yes e) = subst (λ i. tag_of (get_or cs (at + i) blank) ≡ 2 → ⊥) (sym e) here
-    go j lt (no ne) = before.none j (omega (arith, lt, ne))
-
-pub are_not : (cs : List Cell) (at n k : ℕ) (c : Cell) → c ≡ get_or cs (at + k) blank → tag_of c ≡ 2 → k < n → ArePlain cs at n false
-are_not cs at n k c ce tag lt = record { yes = λ e. absurd (true≢false (sym e)); no = λ _ plain. plain.none k lt (ap tag_of (sym ce) ∙ tag) }
-
-pub are_all : (cs : List Cell) (at n k : ℕ) → Plain cs at k → n ≤ k → ArePlain cs at n true
-are_all cs at n k plain le = record { yes = λ _. record { none = λ j lt. plain.none j (omega (arith, lt, le)) }; no = λ e. absurd (true≢false e) }
+pub are_plain : (cs : List Cell) (at n : ℕ) (r : Bool) → MatchBool r ((k : ℕ) → k < n → tag_of (get_or cs (at + k) blank) ≡ 2 → ⊥) ((k : ℕ) × (k < n) × (tag_of (get_or cs (at + k) blank) ≡ 2)) → ArePlain cs at n r
+are_plain cs at n true h = record { yes = λ _. record { none = h }; no = λ e. absurd (true≢false e) }
+are_plain cs at n false h = record { yes = λ e. absurd (true≢false (sym e)); no = λ _ plain. plain.none h.0 h.1 h.2 }
 
 -- they are columns of one cell each
 pub plain-sizes : (cs : List Cell) (d n at : ℕ) → Plain cs at n → sizes (size cs d) n at ≡ n

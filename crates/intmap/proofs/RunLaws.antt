@@ -154,6 +154,16 @@ module _ (cs : List Cell) (d : ℕ) where
 pub same-cell : (x y : Cell) → x.head ≡ y.head → x.payload ≡ y.payload → x ≡ y
 same-cell x y p q = λ i. record { head = p i; payload = q i }
 
+-- a loop of n turns: what is left in turn k, after it, and at the end
+pub some_left : {n k : ℕ} → k < n → 0 < n - k
+some_left lt = omega (arith, lt)
+
+pub one_less : (n k : ℕ) → n - (k + 1) ≡ n - k - 1
+one_less n k = omega arith
+
+pub none_left : {n k : ℕ} → n ≤ k → n - k ≤ 0
+none_left le = omega (arith, le)
+
 -- a loop that goes on from `at` itself
 pub sizes_on : (f : ℕ → ℕ) (n at r m : ℕ) → 0 < n → r ≡ f at → at + sizes f n at ≤ m → at + r + sizes f (n - 1) (at + r) ≤ m
 sizes_on f n at r m lt e h = rw e (omega (arith, sizes_step f n at lt))

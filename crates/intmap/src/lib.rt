@@ -1,7 +1,7 @@
 // Maps in the area: columns as runs of cells, and entries by key.
 #![tactic(auto)]
 
-ghost use Rattle.std.specs.Prelude.{◌≡◌, ◌+◌, ◌<◌, ◌≤◌, max, eqb, leb, length, get_or, [], ◌∷◌};
+ghost use Rattle.std.specs.Prelude.{◌≡◌, ◌+◌, ◌<◌, ◌≤◌, eqb, leb, length, get_or, [], ◌∷◌};
 ghost use Rattle.area.specs.Cells.{blank, cells};
 ghost use Rattle.intmap.specs.Pack.{Parts, head, tag_of, kind_of, nullable_of, key_of, with_key, with_nullable, class_number, class_key};
 ghost use Rattle.intmap.specs.Runs.{size, sizes, IsColumn, AreColumns, eq_column, eq_columns, Copyable, Copied};
@@ -17,7 +17,7 @@ ghost use Rattle.intmap.specs.Over.{ArePlain, CopiesOver};
 use area::Cell;
 use refusal::Refusal;
 
-// The tags of cells.
+// The tags of cells. Numbers, since a tag is a byte of a word in the lent memory.
 pub const SINGLE: u64 = 1;
 
 pub const RECORD: u64 = 2;
@@ -126,16 +126,14 @@ pub fn count(area: &[u8], at: usize, depth: usize) -> usize
     if tag != RECORD {
         return 1;
     }
-    let mut left = c.payload;
     let mut k: usize = 1;
-    while 0 < left {
+    for _ in 0..c.payload {
         let x = area::cell_at(area, at + k);
         if x.head % 256 == RECORD {
             k += count(area, at + k, depth - 1);
         } else {
             k += 1;
         }
-        left -= 1;
     }
     k
 }
@@ -185,14 +183,12 @@ pub fn record_eq(area: &[u8], a: usize, b: usize, n: u64, depth: usize) -> bool
     requires { AreColumns (cells area.now) depth n a × AreColumns (cells area.now) depth n b }
     ensures { result ≡ eq_columns (cells area.now) depth n a b }
 {
-    let mut left = n;
     let mut k: usize = 0;
-    while 0 < left {
+    for _ in 0..n {
         if !column_eq(area, a + k, b + k, depth) {
             return false;
         }
         k += count(area, a + k, depth);
-        left -= 1;
     }
     true
 }
@@ -202,19 +198,7 @@ fn same_cells(area: &[u8], a: usize, b: usize, n: usize) -> bool
     requires { (a + n ≤ length (cells area.now)) × (b + n ≤ length (cells area.now)) × (length (cells area.now) ≤ 1048576) }
     ensures { SameCells (cells area.now) a b n result }
 {
-    let mut k: usize = 0;
-    while k < n {
-        let c = area::cell_at(area, a + k);
-        let d = area::cell_at(area, b + k);
-        if c.head != d.head {
-            return false;
-        }
-        if c.payload != d.payload {
-            return false;
-        }
-        k += 1;
-    }
-    true
+    (0..n).all(|k| area::cell_at(area, a + k) == area::cell_at(area, b + k))
 }
 
 // Copies the column at `from` to `to`, which is above it, and gives how many cells it has.
@@ -241,9 +225,8 @@ pub fn copy_runs(area: &mut [u8], from: usize, to: usize, n: u64, depth: usize) 
     requires { Copyable (cells area.old) from to (sizes (size (cells area.old) depth) n from) }
     ensures { Copied (cells area.old) (cells area.new) from to (sizes (size (cells area.old) depth) n from) result }
 {
-    let mut left = n;
     let mut k: usize = 0;
-    while 0 < left {
+    for _ in 0..n {
         let c = area::cell_at(area, from + k);
         if c.head % 256 == RECORD {
             k += copy_run(area, from + k, to + k, depth);
@@ -251,7 +234,6 @@ pub fn copy_runs(area: &mut [u8], from: usize, to: usize, n: u64, depth: usize) 
             area::put_cell(area, to + k, c);
             k += 1;
         }
-        left -= 1;
     }
     k
 }
@@ -261,14 +243,7 @@ pub fn are_plain(area: &[u8], at: usize, n: u64) -> bool
     requires { (at + n ≤ length (cells area.now)) × (length (cells area.now) ≤ 1048576) }
     ensures { ArePlain (cells area.now) at n result }
 {
-    let mut k: u64 = 0;
-    while k < n {
-        if tag_of(area::cell_at(area, at + k as usize)) == RECORD {
-            return false;
-        }
-        k += 1;
-    }
-    true
+    (0..n).all(|k| tag_of(area::cell_at(area, at + k as usize)) != RECORD)
 }
 
 // Puts c, the head of the record at `from`, and its columns over the record at `to`, if both have as many columns, of one cell each. The run there
@@ -298,13 +273,6 @@ pub fn copy_over(area: &mut [u8], from: usize, to: usize, c: Cell) -> bool
     true
 }
 
-// The larger of two numbers.
-fn larger(a: usize, b: usize) -> usize
-    ensures { result ≡ max a b }
-{
-    if a < b { b } else { a }
-}
-
 // How deep records nest in the column at `at`.
 #[cycle(depth_from_depth_of)]
 pub fn depth_of(area: &[u8], at: usize, depth: usize) -> usize
@@ -319,14 +287,12 @@ pub fn depth_of(area: &[u8], at: usize, depth: usize) -> usize
     if tag != RECORD {
         return 0;
     }
-    let mut left = c.payload;
     let mut k = 1;
     let mut best: usize = 0;
-    while 0 < left {
+    for _ in 0..c.payload {
         let x = area::cell_at(area, at + k);
-        best = larger(best, depth_from(area, at + k, x, depth - 1));
+        best = best.max(depth_from(area, at + k, x, depth - 1));
         k += count_from(area, at + k, x, depth - 1);
-        left -= 1;
     }
     best + 1
 }
@@ -349,10 +315,8 @@ pub fn from_elem(area: &mut [u8], at: usize, c: Cell, n: usize)
     requires { Writable (cells area.old) at n }
     ensures { FromElem (cells area.old) (cells area.new) at c n }
 {
-    let mut k: usize = 0;
-    while k < n {
+    for k in 0..n {
         area::put_cell(area, at + k, with_key(c, k as u64));
-        k += 1;
     }
 }
 
@@ -367,7 +331,8 @@ pub struct IntMap {
     pub used: usize,
 }
 
-// Where an entry's key is or belongs: the place, how many entries stand from there on, and whether the first is the one.
+// Where an entry's key is or belongs: the place, how many entries stand from there on, and whether the first is the one. No Option: the place is
+// used either way.
 #[derive(Clone, Copy)]
 pub struct Found {
     pub at: usize,
@@ -403,19 +368,17 @@ pub fn find_from(area: &[u8], at: usize, n: u64, key: u64, depth: usize) -> Foun
     ensures { result ≡ seek (cells area.now) depth key n at }
 {
     let mut p = at;
-    let mut rest = n;
-    while 0 < rest {
+    for passed in 0..n {
         let c = area::cell_at(area, p);
         let k = c.head / 16777216;
         if key <= k {
             return Found {
                 at: p,
-                left: rest,
+                left: n - passed,
                 present: k == key,
             };
         }
         p += count_from(area, p, c, depth);
-        rest -= 1;
     }
     Found {
         at: p,

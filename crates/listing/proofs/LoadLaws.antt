@@ -17,8 +17,9 @@ use Rattle.model.specs.Call.{done_if, rows_of}
 use Rattle.model.proofs.TestLaws.{cases}
 use Rattle.model.proofs.ReaderLaws.{never, some_same}
 use Rattle.area.specs.Cells.{blank, cells, Inside, CellsNow}
+use Rattle.area.specs.declared.Cell.{Cell}
 use Rattle.area.proofs.CellLaws.{cells-kept, inside-kept}
-use Rattle.rows.specs.Rows.{cell_of, row_in}
+use Rattle.rows.specs.Rows.{cell_of, row_in, IsWritten}
 use Rattle.rows.specs.Judged.{Judged, HaveRows}
 use Rattle.rows.specs.declared.Row.{Row}
 use Rattle.rows.proofs.RowLaws.{row_again}
@@ -41,6 +42,11 @@ found_inside (a ∷ xs) (suc i) e = omega (arith, found_inside xs i e)
 
 not_done : {A P : Type 0} {n : ℕ} {x : A} → refused n ≡ done x → P
 not_done e = let z : ◌≡◌ {A = ℕ} 0 1 = cc in absurd (omega arith)
+
+item_at : {A : Type 0} (xs : List A) (i : ℕ) → i < length xs → (x : A) × (slice_get xs i ≡ Some x)
+item_at [] i lt = absurd (omega arith)
+item_at (a ∷ xs) zero lt = (a, refl)
+item_at (a ∷ xs) (suc i) lt = item_at xs i (omega arith)
 
 -- what was done is what was read
 done-is : {A : Type 0} (test : Bool) {xs ys : List A} → done_if 3 test xs ≡ done ys → xs ≡ ys
@@ -84,10 +90,14 @@ module _ {before after : List ℕ} (from room k : ℕ) (r : Row) (p : PutWhere b
 pub room_kept : {entry now : List ℕ} {from room : ℕ} → length now ≡ length entry → Room entry from room → Room now from room
 room_kept {entry} {now} {from} {room} e r = record { inside = λ h. inside-kept entry now from room e (r.inside h) }
 
+-- a cell has a row of the listing, and nothing else
+abbrev Placed : Listed → Cell → Type 0
+Placed x c = Judged x (row_in c) × IsWritten c
+
 pub record Loading (t rest entry now : List ℕ) (from room k : ℕ) : Type 0 where
   pub before : List Listed
   pub read : ItemsRead take_row t rest k before
-  pub placed : (i : ℕ) (x : Listed) → i < room → slice_get before i ≡ Some x → Judged x (row_in (get_or (cells now) (from + i) blank))
+  pub placed : (i : ℕ) (x : Listed) → i < room → slice_get before i ≡ Some x → Placed x (get_or (cells now) (from + i) blank)
   pub below : (j : ℕ) → j < from → get_or (cells now) j blank ≡ get_or (cells entry) j blank
   pub above : (j : ℕ) → from + room ≤ j → get_or (cells now) j blank ≡ get_or (cells entry) j blank
   pub bytes : length now ≡ length entry
@@ -109,13 +119,14 @@ module _ {t rest entry now : List ℕ} {from room k : ℕ} (l : Loading t rest e
     read = items_next take_row l.read h j.reads refl;
     placed = λ i x within e.
         last_or_before l.before j.given x i e
-        (λ earlier is. subst (λ c. Judged x (row_in c)) (sym (put_other from room k r p (from + i) (λ _ same. omega (arith, l.read.count, earlier, same)))) (l.placed i x within is))
+        (λ earlier is. subst (Placed x) (sym (put_other from room k r p (from + i) (λ _ same. omega (arith, l.read.count, earlier, same)))) (l.placed i x within is))
         (λ here same.
         let k-is : i ≡ k = here ∙ l.read.count in
         let inside = has.inside (omega arith) in
         let there = put_here from room k r p (omega arith) (omega (arith, inside.within, cells-kept entry now l.bytes)) in
-        let row_is : row_in (get_or (cells after) (from + i) blank) ≡ r = ap (λ n. row_in (get_or (cells after) (from + n) blank)) k-is ∙ ap row_in there ∙ row_again r j.judged.fits in
-        subst (λ y. Judged x y) (sym row_is) (subst (λ y. Judged y r) same j.judged));
+        let cell_is : get_or (cells after) (from + i) blank ≡ cell_of r = ap (λ n. get_or (cells after) (from + n) blank) k-is ∙ there in
+        let row_is : row_in (get_or (cells after) (from + i) blank) ≡ r = ap row_in cell_is ∙ row_again r j.judged.fits in
+        (subst (λ y. Judged x y) (sym row_is) (subst (λ y. Judged y r) same j.judged), cell_is ∙ ap cell_of (sym row_is)));
     below = λ i b. put_other from room k r p i (λ _ same. omega (arith, b, same)) ∙ l.below i b;
     above = λ i a. put_other from room k r p i (λ few same. omega (arith, a, few, same)) ∙ l.above i a;
     bytes = p.bytes ∙ l.bytes;
@@ -128,6 +139,7 @@ module _ {t rest entry now : List ℕ} {from room k : ℕ} (l : Loading t rest e
       record {
         count = count_refused 1 2048 bad;
         rows = λ xs e. not_done (sym (ap (judged 1 2048) bad) ∙ e);
+        written = λ xs e. not_done (sym (ap (judged 1 2048) bad) ∙ e);
         below = l.below;
         above = l.above;
         bytes = l.bytes;
@@ -137,16 +149,23 @@ module _ {t rest entry now : List ℕ} {from room k : ℕ} (l : Loading t rest e
     all_read : read_items take_row t ≡ Some l.before
     all_read = items_end take_row l.read h
 
-    have_rows : (xs : List Listed) → judged 1 2048 (read_items take_row t) ≡ done xs → length xs ≤ room → HaveRows (cells now) from xs
-    have_rows xs e fits i x is =
+    all_placed : (xs : List Listed) → judged 1 2048 (read_items take_row t) ≡ done xs → length xs ≤ room → (i : ℕ) (x : Listed) → slice_get xs i ≡ Some x → Placed x (get_or (cells now) (from + i) blank)
+    all_placed xs e fits i x is =
         let all : l.before ≡ xs = done-is (leb (length l.before) 2048) (sym (ap (judged 1 2048) all_read) ∙ e) in
         l.placed i x (omega (arith, found_inside xs i is)) (ap (λ ys. slice_get ys i) all ∙ is)
+
+    have_rows : (xs : List Listed) → judged 1 2048 (read_items take_row t) ≡ done xs → length xs ≤ room → HaveRows (cells now) from xs
+    have_rows xs e fits i x is = (all_placed xs e fits i x is).0
+
+    all_written : (xs : List Listed) → judged 1 2048 (read_items take_row t) ≡ done xs → length xs ≤ room → (i : ℕ) → i < length xs → IsWritten (get_or (cells now) (from + i) blank)
+    all_written xs e fits i lt = let there = item_at xs i lt in (all_placed xs e fits i there.0 there.1).1
 
     pub load_over : 2048 < k → Loaded t entry now from room (Err TooManyLines)
     unfolding rows_of read_listing
     load_over m = record {
       count = count_over 1 2048 all_read l.read.count m;
       rows = have_rows;
+      written = all_written;
       below = l.below;
       above = l.above;
       bytes = l.bytes;
@@ -157,6 +176,7 @@ module _ {t rest entry now : List ℕ} {from room k : ℕ} (l : Loading t rest e
     load_count m = record {
       count = count_is 1 2048 all_read l.read.count m;
       rows = have_rows;
+      written = all_written;
       below = l.below;
       above = l.above;
       bytes = l.bytes;

@@ -7,7 +7,7 @@ use Rattle.model.specs.ListingText.{take_row}
 use Rattle.model.specs.Call.{rows_of}
 use Rattle.area.specs.Cells.{blank, cells, Inside, CellsNow}
 use Rattle.area.specs.declared.Cell.{Cell}
-use Rattle.rows.specs.Rows.{cell_of}
+use Rattle.rows.specs.Rows.{cell_of, IsWritten}
 use Rattle.rows.specs.Judged.{Judged, HaveRows}
 use Rattle.rows.specs.declared.Row.{Row}
 use Rattle.text.specs.Reads.{Reads}
@@ -39,6 +39,7 @@ PutWhere entry exit from room k r = CellsNow entry exit (set_if (ltb k room) (ce
 pub record Loaded (listing entry exit : List ℕ) (from room : ℕ) (r : Result ℕ Refusal) : Type 0 where
   pub count : counted_as r ≡ length_of (rows_of listing)
   pub rows : (xs : List Listed) → rows_of listing ≡ done xs → length xs ≤ room → HaveRows (cells exit) from xs
+  pub written : (xs : List Listed) → rows_of listing ≡ done xs → length xs ≤ room → (i : ℕ) → i < length xs → IsWritten (get_or (cells exit) (from + i) blank)
   pub below : (j : ℕ) → j < from → get_or (cells exit) j blank ≡ get_or (cells entry) j blank
   pub above : (j : ℕ) → from + room ≤ j → get_or (cells exit) j blank ≡ get_or (cells entry) j blank
   pub bytes : length exit ≡ length entry

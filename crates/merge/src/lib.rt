@@ -14,7 +14,7 @@ ghost use Rattle.merge.specs.Entries.{cell_byte, merge_byte, merge_cell, merge_r
 use area::Cell;
 use intmap::IntMap;
 
-// The byte of a register, by its run's first cell.
+// The byte of a register, by its run's first cell. A column is a byte, since memory for 2,000 is cleared at each call.
 #[tactic(auto, using(crate::proofs::ByteLaws::cell_single, crate::proofs::ByteLaws::cell_int, crate::proofs::ByteLaws::cell_record))]
 fn cell_byte(c: Cell) -> u8
     ensures { result ≡ cell_byte c }

@@ -9,7 +9,7 @@ use Rattle.type_info.specs.Ascii.{ascii, equals}
 use Rattle.type_info.specs.Names.{name_of}
 use Rattle.type_info.specs.declared.DataType.{DataType}
 use Rattle.type_info.specs.declared.DataType.TheVariants as kind
-use Rattle.type_info.specs.All.{All, all_nil, all_cons, all_of}
+use Rattle.type_info.specs.All.{All, all_nil, all_cons}
 use Rattle.model.specs.Reader.{read_name}
 use Rattle.model.specs.AnswerText.{most_counted, ValidAnswer, print_nullable, print_column, print_answer, data_types, read_data_type, read_nullable, take_column, take_answer, read_answer}
 use Rattle.model.specs.TextClaims.{Takes, AnswerExact}

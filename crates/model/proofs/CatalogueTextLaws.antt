@@ -9,7 +9,6 @@ use lib.Dec.{leb}
 use lib.ListN.{length}
 use Rattle.type_info.specs.Ascii.{ascii, equals}
 use Rattle.type_info.specs.DeclaredType.{all_printable}
-use Rattle.type_info.specs.All.{all_of}
 use Rattle.model.specs.Reader.{read_name}
 use Rattle.model.specs.Fields.{print_field}
 use Rattle.model.specs.CatalogueText.{is_declared, ValidRecord, print_flag, print_record, read_flag, read_declared, take_record, print_catalogue, read_catalogue}

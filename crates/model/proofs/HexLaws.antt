@@ -8,7 +8,7 @@ use native.Mathlib.Omega.{arith}
 use lib.Dec.{ltb, eqb}
 use borrow.Author.Tests.{lt-ltb, le-ltb, ltb-true, ltb-false, ne_eqb}
 use Rattle.type_info.specs.Ascii.{within}
-use Rattle.type_info.specs.All.{All, all_nil, all_cons, all_of}
+use Rattle.type_info.specs.All.{All, all_nil, all_cons}
 use Rattle.model.specs.Numbers.{is_digit, hex_digit_if, hex_digit, print_hex, hex_value_if, hex_value, read_hex}
 use Rattle.model.proofs.TestLaws.{cases, within-true, within_above}
 use Rattle.model.proofs.ReaderLaws.{never, some_same, then_some, exactly}

@@ -1,6 +1,7 @@
 -- The states of the walk: `ColumnType`, `RegDataType`, `CursorDataType`, `TableDataType` and `MemoryState` of explain.rs, with their
 -- defaults and conversions. 01, "The walk": "A state is a row number (signed), registers, cursors and tables." Assumes nothing.
 use Rattle.std.specs.Prelude.{Bool, true, false, ◌||◌, List, [], ◌∷◌, ℕ, zero, suc, ℤ, pos, replicate, Option, None, Some}
+use Rattle.type_info.specs.Codes.{code_of}
 use Rattle.type_info.specs.declared.DataType.{DataType}
 use Rattle.type_info.specs.declared.DataType.TheVariants.{Null, Integer, Float, Text, Blob, Numeric, Bool as Boolean, Int4, Date, Time, Datetime}
 use Rattle.model.specs.IntMap.{Entry, ◌⇒◌, numbered}
@@ -117,17 +118,7 @@ is_false (Some false) = true
 
 -- the place of a variant in the Rust's order
 abbrev pub datatype_code : DataType → ℕ
-datatype_code Null = 0
-datatype_code Integer = 1
-datatype_code Float = 2
-datatype_code Text = 3
-datatype_code Blob = 4
-datatype_code Numeric = 5
-datatype_code Boolean = 6
-datatype_code Int4 = 7
-datatype_code Date = 8
-datatype_code Time = 9
-datatype_code Datetime = 10
+datatype_code = code_of
 
 abbrev pub is_zero : ℕ → Bool
 is_zero zero = true

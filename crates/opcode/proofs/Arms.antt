@@ -3,7 +3,8 @@ use mathlib.Core.Path.{◌≡◌, refl, sym, ap, ◌∙◌}
 use mathlib.Core.Bool.{Bool, true, false, ◌&&◌, ◌||◌, true≢false, and-eq-true_iff}
 use Rattle.std.specs.Prelude.{None}
 use mathlib.Core.List.{List, [], ◌∷◌}
-use Prim.Native.Nat.{ℕ}
+use Prim.Native.Nat.{ℕ, zero, suc, ◌+◌, ◌≤◌}
+use native.Mathlib.Omega.{arith}
 use lib.Dec.{eqb}
 use borrow.Author.Tests.{ne_eqb, eqb-true}
 use Rattle.model.specs.IntMap.{Entry, get, get_if}
@@ -38,3 +39,13 @@ get_other x ks [] e h = refl
 get_other x ks (a ∷ es) e h =
     let (first, rest) = (and-eq-true_iff (one_of a.key ks) (keys_in ks es)).0 e in
     ap (λ b. get_if b a.value (get x es)) (others x a.key ks h first) ∙ get_other x ks es rest h
+
+-- as the prover says it: `count` numbers from `first` on, the last first
+unfoldable pub numbers_from : ℕ → ℕ → List ℕ
+numbers_from first zero = []
+numbers_from first (suc count) = (first + count) ∷ numbers_from first count
+
+pub number_behind : (n first count : ℕ) → first ≤ n → NoneOf n (numbers_from first count) → first + count ≤ n
+unfolding NoneOf numbers_from
+number_behind n first zero le none = omega (arith, le)
+number_behind n first (suc count) le none = omega (arith, number_behind n first count le none.0, none.1)

@@ -1,4 +1,4 @@
 pub mod Arms
 pub mod LookupLaws
 pub mod Tables
-pub mod Constants
+pub mod Numbers

@@ -1,18 +1,20 @@
--- The look-up in a table of bytes, entry by entry and byte by byte. Assumes nothing.
+-- The look-up in a table, entry by entry. Assumes nothing.
 use mathlib.Core.Path.{◌≡◌, refl, sym, ap, ◌∙◌}
 use mathlib.Core.Bool.{Bool, true, false, ◌&&◌}
 use mathlib.Core.List.{List, [], ◌∷◌}
-use Prim.Native.Nat.{ℕ, zero, suc, ◌+◌, ◌-◌, ◌<◌, ◌≤◌}
+use Prim.Native.Nat.{ℕ, suc, ◌+◌, ◌<◌, ◌≤◌}
 use native.Mathlib.Numerals.{add-one}
 use native.Mathlib.Omega.{arith}
-use lib.Dec.{eqb, leb}
-use lib.ListN.{length, get_or, take, drop, drop_of_length-le, length-drop}
-use lib.Seq.{drop-cons, drop-drop, get_or-drop, get_or-take, length-take-le}
-use borrow.Author.Tests.{le-leb, lt-leb, eq-eqb, ne_eqb}
+use denote.Ref.{Bor}
+use lib.Dec.{eqb}
+use lib.ListN.{length, get_or, drop, drop_of_length-le}
+use borrow.Author.Tests.{eq-eqb, ne_eqb}
+use lib.Seq.{drop-cons}
+use Rattle.std.specs.Prelude.{None, Some}
 use Rattle.type_info.specs.Ascii.{starts_with}
-use Rattle.model.specs.TextTable.{Named, first_for, or_else}
+use Rattle.model.specs.TextTable.{first_for}
 use Rattle.model.specs.IntMap.{get_if}
-use Rattle.opcode.specs.Lookup.{entry_if, entries, sought}
+use Rattle.opcode.specs.Lookup.{named, found_in}
 
 and-false : (b : Bool) {c : Bool} → false ≡ c → false ≡ (b && c)
 and-false true e = e
@@ -42,79 +44,22 @@ pub word_read : (t word : List ℕ) (i : ℕ) → length word ≤ i → true ≡
 unfolding starts_with
 word_read t word i h = rw (drop_of_length-le word h)
 
--- entries enough for the bytes are all entries
-entries_none : (n : ℕ) → entries n [] ≡ []
-unfolding entries
-entries_none zero = refl
-entries_none (suc n) = refl
+-- the entry at i
+module _ {A : Type 0} (given : List ℕ) (table : List (Bor (List ℕ) × A)) (i : ℕ) (e : Bor (List ℕ) × A) (inside : i < length table) (is : e ≡ get_or table i e) where
+  opened : drop i table ≡ e ∷ drop (i + 1) table
+  opened = drop-cons table i e inside ∙ ap (λ x. x ∷ drop (suc i) table) (sym is) ∙ ap (λ k. e ∷ drop k table) (sym (add-one i))
 
-pub enough : (n m : ℕ) (table : List ℕ) → length table ≤ n → length table ≤ m → entries n table ≡ entries m table
-unfolding entries
-enough zero m [] h k = sym (entries_none m)
-enough zero m (size ∷ table) h k = absurd (omega arith)
-enough (suc n) zero [] h k = refl
-enough (suc n) zero (size ∷ table) h k = absurd (omega arith)
-enough (suc n) (suc m) [] h k = refl
-enough (suc n) (suc m) (size ∷ table) h k =
-    ap (entry_if (leb (suc size) (length table)) size table)
-    (enough n m (drop (size + 1) table) (omega (arith, length-drop (size + 1) table)) (omega (arith, length-drop (size + 1) table)))
+  at_entry : found_in given (drop i table) ≡ get_if (starts_with given e.0.now) e.1 (found_in given (drop (i + 1) table))
+  unfolding found_in named first_for
+  at_entry = ap (found_in given) opened
 
--- the entry at the place `at`
-module _ (given table : List ℕ) (at size : ℕ) (inside : at < length table) (is : size ≡ get_or table at 0) where
-  opened : drop at table ≡ size ∷ drop (at + 1) table
-  opened = rw (is, add-one at) (drop-cons table at 0 inside)
+  pub entry_found : starts_with given e.0.now ≡ true → Some e.1 ≡ found_in given (drop i table)
+  entry_found h = sym (at_entry ∙ ap (λ b. get_if b e.1 (found_in given (drop (i + 1) table))) h)
 
-  after : List (Named ℕ)
-  after = entries (length (drop (at + 1) table)) (drop (size + 1) (drop (at + 1) table))
-
-  found : Bool → ℕ
-  found b = or_else 0 (first_for starts_with given (entry_if b size (drop (at + 1) table) after))
-
-  sought_entry : sought given (drop at table) ≡ found (leb (suc size) (length (drop (at + 1) table)))
-  unfolding sought entries found after
-  sought_entry = rw opened
-
-  pub entry_broken : length table - at - 1 ≤ size → 0 ≡ sought given (drop at table)
-  unfolding found first_for
-  entry_broken h = sym (sought_entry ∙ ap found (lt-leb (suc size) (length (drop (at + 1) table)) (omega (arith, length-drop (at + 1) table))))
-
-  module _ (whole : size < length table - at - 1) where
-    entry_whole : sought given (drop at table) ≡ found true
-    entry_whole = sought_entry ∙ ap found (le-leb (suc size) (length (drop (at + 1) table)) (omega (arith, length-drop (at + 1) table)))
-
-    chosen : Bool → ℕ
-    chosen b = or_else 0 (get_if b (get_or (drop (at + 1) table) size 0) (first_for starts_with given after))
-
-    entry_chosen : sought given (drop at table) ≡ chosen (starts_with given (take size (drop (at + 1) table)))
-    unfolding found first_for chosen
-    entry_chosen = entry_whole
-
-    pub entry_found : starts_with given (take size (drop (at + 1) table)) ≡ true → get_or table (at + 1 + size) 0 ≡ sought given (drop at table)
-    unfolding chosen
-    entry_found e = sym (entry_chosen ∙ ap chosen e ∙ get_or-drop (at + 1) table size 0)
-
-    pub entry_passed :
-        starts_with given (take size (drop (at + 1) table)) ≡ false → sought given (drop (at + (size + 2)) table) ≡ sought given (drop at table)
-    unfolding sought chosen after
-    entry_passed e =
-        let place : at + 1 + (size + 1) ≡ at + (size + 2) = omega arith in
-        sym
-        (entry_chosen ∙
-        ap chosen e ∙
-        ap (λ es. or_else 0 (first_for starts_with given es))
-        (ap (entries (length (drop (at + 1) table))) (drop-drop (size + 1) (at + 1) table ∙ ap (λ k. drop k table) place) ∙
-        enough (length (drop (at + 1) table)) (length (drop (at + (size + 2)) table)) (drop (at + (size + 2)) table)
-        (omega (arith, length-drop (at + 1) table, length-drop (at + (size + 2)) table)) (omega arith)))
+  pub entry_passed : starts_with given e.0.now ≡ false → found_in given (drop (i + 1) table) ≡ found_in given (drop i table)
+  entry_passed h = sym (at_entry ∙ ap (λ b. get_if b e.1 (found_in given (drop (i + 1) table))) h)
 
 -- no entry is left
-pub no_entry : (given table : List ℕ) (at : ℕ) → length table ≤ at → 0 ≡ sought given (drop at table)
-unfolding sought entries first_for
-no_entry given table at h = rw (drop_of_length-le table h)
-
--- the word of `size` bytes at `at`
-module _ (table : List ℕ) (at size : ℕ) (inside : at + size ≤ length table) where
-  pub part_length : length (take size (drop at table)) ≡ size
-  part_length = length-take-le size (drop at table) (omega (arith, length-drop at table))
-
-  pub part_byte : (i : ℕ) → i < size → get_or (take size (drop at table)) i 0 ≡ get_or table (at + i) 0
-  part_byte i h = get_or-take size (drop at table) i 0 h ∙ get_or-drop at table i 0
+pub no_entry : {A : Type 0} (given : List ℕ) (table : List (Bor (List ℕ) × A)) (i : ℕ) → length table ≤ i → None ≡ found_in given (drop i table)
+unfolding found_in named first_for
+no_entry given table i h = rw (drop_of_length-le table h)

@@ -1,34 +1,20 @@
--- A table of bytes says what a table of texts says, in whatever order: one law for any table, one for the texts of one length. Assumes nothing.
-use mathlib.Core.Path.{◌≡◌, refl, sym, ap, subst, ◌∙◌}
+-- The code's table says what a definition's table says, in whatever order: one law for any table, one for the texts of one length. Assumes nothing.
+use mathlib.Core.Path.{◌≡◌, refl, sym, ap, ◌∙◌}
 use mathlib.Core.Bool.{Bool, true, false, not, ◌&&◌, ◌||◌, true≢false, and-eq-true_iff}
 use Rattle.std.specs.Prelude.{Option, None}
 use mathlib.Core.List.{List, [], ◌∷◌, map}
-use Prim.Native.Nat.{ℕ, suc, ◌<◌}
-use lib.Dec.{eqb, leb}
+use Prim.Native.Nat.{ℕ}
+use denote.Ref.{Bor}
+use lib.Dec.{eqb}
 use lib.ListN.{length}
-use borrow.Author.Tests.{eqb-true, eqb-false, leb-true}
+use borrow.Author.Tests.{eqb-true, eqb-false}
 use Rattle.type_info.specs.Ascii.{ascii, equals, starts_with}
 use Rattle.type_info.proofs.Words.{equals_starts, equals_other}
 use Rattle.model.specs.IntMap.{get_if}
-use Rattle.model.specs.TextTable.{Named, first_for, or_else, texts}
+use Rattle.model.specs.TextTable.{Named, first_for, texts}
 use Rattle.model.proofs.TestLaws.{cases}
-use Rattle.opcode.specs.Lookup.{entries, sought, StandsFor}
+use Rattle.opcode.specs.Lookup.{named, found_in}
 use Rattle.opcode.proofs.Arms.{NoneOf, one_of, others}
-
-unfoldable numbers_below : ℕ → List (Named ℕ) → Bool
-numbers_below count [] = true
-numbers_below count (e ∷ es) = leb (suc e.value) count && numbers_below count es
-
-first_below : (count : ℕ) (given : List ℕ) (es : List (Named ℕ)) → 0 < count → numbers_below count es ≡ true → or_else 0 (first_for starts_with given es) < count
-unfolding numbers_below first_for
-first_below count given [] h e = h
-first_below count given (a ∷ es) h e =
-    let (first, rest) = (and-eq-true_iff (leb (suc a.value) count) (numbers_below count es)).0 e in
-    step (starts_with given a.text) (leb-true (suc a.value) count first) (first_below count given es h rest)
-  where
-    step : (b : Bool) → a.value < count → or_else 0 (first_for starts_with given es) < count → or_else 0 (get_if b a.value (first_for starts_with given es)) < count
-    step true k i = k
-    step false k i = i
 
 -- the texts that start with `text` all start with `word`, or none does
 unfoldable settles : List ℕ → List ℕ → Bool
@@ -112,74 +98,60 @@ module _ {A : Type 0} where
       let (first, rest) = (and-eq-true_iff (one_of (length n.text) ks) (lengths_in ks ns)).0 e in
       ap (λ b. keep_if b n (of_length l ns)) (others l (length n.text) ks h first) ∙ none_so_long ks l ns rest h
 
-  -- what the numbers stand for, and what becomes of a text's value
-  module _ {B : Type 0} (value_at : ℕ → B) (value : Option A → B) (nothing : value_at 0 ≡ value None) where
-    -- the answers of the table and of the definition
-    abbrev told : List (Named ℕ) → List ℕ → B
-    told es text = value_at (or_else 0 (first_for starts_with text es))
+-- what becomes of a value of the code, and of one of the definition
+module _ {A B C : Type 0} (told_by : Option C → B) (said_by : Option A → B) (nothing : told_by None ≡ said_by None) where
+  -- the answers of both tables
+  abbrev told : List (Named C) → List ℕ → B
+  told es text = told_by (first_for starts_with text es)
 
-    abbrev said : List (Named A) → List ℕ → B
-    said ns text = value (first_for starts_with text ns)
+  abbrev said : List (Named A) → List ℕ → B
+  said ns text = said_by (first_for starts_with text ns)
 
-    -- they are alike for a text that starts with one of those where they are tested
-    by_texts :
-        {C : Type 0} (es : List (Named ℕ)) (ns : List (Named A)) (given : List ℕ) (ts : List (Named C)) →
-        map (told es) (texts ts) ≡ map (said ns) (texts ts) →
-        all_settle es ns (texts ts) ≡ true →
-        (first_for starts_with given ts ≡ None → told es given ≡ said ns given) →
-        told es given ≡ said ns given
-    unfolding texts all_settle first_for
-    by_texts es ns given [] e s otherwise = otherwise refl
-    by_texts es ns given (t ∷ ts) e s otherwise =
-        let (both, rest) = (and-eq-true_iff (settles_each t.text es && settles_each t.text ns) (all_settle es ns (texts ts))).0 s in
-        let (first, second) = (and-eq-true_iff (settles_each t.text es) (settles_each t.text ns)).0 both in
-        let here : told es t.text ≡ said ns t.text = cc in
-        let later : map (told es) (texts ts) ≡ map (said ns) (texts ts) = cc in
-        cases (starts_with given t.text)
-        (λ h. ap (λ o. value_at (or_else 0 o)) (one_answer given t.text es h first) ∙ here ∙ sym (ap value (one_answer given t.text ns h second)))
-        (λ h. by_texts es ns given ts later rest (λ n. otherwise (ap (λ b. get_if b t.value (first_for starts_with given ts)) h ∙ n)))
+  -- they are alike for a text that starts with one of those where they are tested
+  by_texts :
+      {D : Type 0} (es : List (Named C)) (ns : List (Named A)) (given : List ℕ) (ts : List (Named D)) →
+      map (told es) (texts ts) ≡ map (said ns) (texts ts) →
+      all_settle es ns (texts ts) ≡ true →
+      (first_for starts_with given ts ≡ None → told es given ≡ said ns given) →
+      told es given ≡ said ns given
+  unfolding texts all_settle first_for
+  by_texts es ns given [] e s otherwise = otherwise refl
+  by_texts es ns given (t ∷ ts) e s otherwise =
+      let (both, rest) = (and-eq-true_iff (settles_each t.text es && settles_each t.text ns) (all_settle es ns (texts ts))).0 s in
+      let (first, second) = (and-eq-true_iff (settles_each t.text es) (settles_each t.text ns)).0 both in
+      let here : told es t.text ≡ said ns t.text = cc in
+      let later : map (told es) (texts ts) ≡ map (said ns) (texts ts) = cc in
+      cases (starts_with given t.text)
+      (λ h. ap told_by (one_answer given t.text es h first) ∙ here ∙ sym (ap said_by (one_answer given t.text ns h second)))
+      (λ h. by_texts es ns given ts later rest (λ n. otherwise (ap (λ b. get_if b t.value (first_for starts_with given ts)) h ∙ n)))
 
-    -- the one test of a table: the answers are alike at every text of both, and these settle all others; its numbers are below `count`
-    unfoldable pub Agrees : ℕ → List ℕ → List (Named A) → Type 0
-    unfolding entries texts first_for starts_with settles settles_each all_settle numbers_below of_length ascii
-    Agrees count table ns =
-        let es = entries (length table) table in
-        ◌≡◌ {A = List B × List B × Bool}
-        (map (told es) (texts es), map (told es) (texts ns), (all_settle es ns (texts es) && all_settle es ns (texts ns)) && numbers_below count es)
-        (map (said ns) (texts es), map (said ns) (texts ns), true)
+  -- the one test of a table: the answers are alike at every text of both, and these settle all others
+  unfoldable pub Agrees : List (Bor (List ℕ) × C) → List (Named A) → Type 0
+  unfolding named texts first_for starts_with settles settles_each all_settle of_length ascii
+  Agrees table ns =
+      let es = named table in
+      ◌≡◌ {A = List B × List B × Bool}
+      (map (told es) (texts es), map (told es) (texts ns), all_settle es ns (texts es) && all_settle es ns (texts ns))
+      (map (said ns) (texts es), map (said ns) (texts ns), true)
 
-    module _ (count : ℕ) (given : List ℕ) (ns : List (Named A)) where
-      abbrev pub Result : ℕ → Option A → Type 0
-      Result r found = StandsFor value_at count (value found) r
+  module _ (given : List ℕ) (ns : List (Named A)) where
+    pub look_up : (table : List (Bor (List ℕ) × C)) {r : Option C} → r ≡ found_in given table → Agrees table ns → told_by r ≡ said ns given
+    unfolding found_in Agrees
+    look_up table is e =
+        let es = named table in
+        let (first, second) = (and-eq-true_iff (all_settle es ns (texts es)) (all_settle es ns (texts ns))).0 (ap (λ p. p.2) e) in
+        ap told_by is ∙
+        by_texts es ns given es (ap (λ p. p.0) e) first
+        (λ untold. by_texts es ns given ns (ap (λ p. p.1) e) second
+        (λ unsaid. ap told_by untold ∙ nothing ∙ sym (ap said_by unsaid)))
 
-      pub look_up : (table : List ℕ) {r : ℕ} → 0 < count → r ≡ sought given table → Agrees count table ns → Result r (first_for starts_with given ns)
-      unfolding sought Agrees
-      look_up table some-count h e =
-          let es = entries (length table) table in
-          let (settle, below) = (and-eq-true_iff (all_settle es ns (texts es) && all_settle es ns (texts ns)) (numbers_below count es)).0 (ap (λ p. p.2) e) in
-          let (first, second) = (and-eq-true_iff (all_settle es ns (texts es)) (all_settle es ns (texts ns))).0 settle in
-          record {
-            value =
-                ap value_at h ∙
-                by_texts es ns given es (ap (λ p. p.0) e) first
-                (λ untold. by_texts es ns given ns (ap (λ p. p.1) e) second
-                (λ unsaid. ap (λ o. value_at (or_else 0 o)) untold ∙ nothing ∙ sym (ap value unsaid)));
-            below = subst (λ k. k < count) (sym h) (first_below count given es some-count below);
-          }
+  -- only texts of the given length, or none
+  module _ (given : List ℕ) (ns : List (Named A)) where
+    pub look_up_length : (table : List (Bor (List ℕ) × C)) (l : ℕ) {r : Option C} → r ≡ found_in given table → length given ≡ l → Agrees table (of_length l ns) → told_by r ≡ said_by (first_for equals given ns)
+    look_up_length table l is same e =
+        look_up given (of_length l ns) table is e ∙ ap said_by (ap (λ k. first_for starts_with given (of_length k ns)) (sym same) ∙ by_length given ns)
 
-    -- only texts of the given length, or none
-    module _ (count : ℕ) (given : List ℕ) (ns : List (Named A)) where
-      pub look_up_length :
-          (table : List ℕ) (l : ℕ) {r : ℕ} → 0 < count → length given ≡ l → r ≡ sought given table → Agrees count table (of_length l ns) → Result count given ns r (first_for equals given ns)
-      look_up_length table l some-count same h e =
-          subst (Result count given ns _)
-          (ap (λ k. first_for starts_with given (of_length k ns)) (sym same) ∙ by_length given ns)
-          (look_up count given (of_length l ns) table some-count h e)
-
-      pub look_up_none : (ks : List ℕ) → 0 < count → lengths_in ks ns ≡ true → NoneOf (length given) ks → Result count given ns 0 (first_for equals given ns)
-      unfolding first_for
-      look_up_none ks some-count e h =
-          record {
-            value = nothing ∙ ap (λ k. value (first_for starts_with given k)) (sym (none_so_long ks (length given) ns e h)) ∙ ap value (by_length given ns);
-            below = some-count;
-          }
+    pub look_up_none : (ks : List ℕ) → lengths_in ks ns ≡ true → NoneOf (length given) ks → told_by None ≡ said_by (first_for equals given ns)
+    unfolding first_for
+    look_up_none ks e h =
+        nothing ∙ ap (λ k. said_by (first_for starts_with given k)) (sym (none_so_long ks (length given) ns e h)) ∙ ap said_by (by_length given ns)

@@ -1,208 +1,400 @@
-// A listing's operations and P4 texts as numbers: a row is judged once, when it is read, and the walk compares numbers.
+// A listing's operations and P4 texts: a row is judged once, when it is read, and the walk matches on what was found.
 // Translated from sqlx-sqlite 0.9.0, src/connection/explain.rs: the constants OP_, the arms of `explain` that look at P4,
 // `affinity_to_type` and `opcode_to_type`.
 #![tactic(auto)]
 
-ghost use Rattle.std.specs.Prelude.{◌≡◌, ◌+◌, ◌<◌, ◌≤◌, length, drop, take};
-ghost use Rattle.type_info.specs.Ascii.{starts_with};
+ghost use Rattle.std.specs.Prelude.{◌≡◌};
 ghost use Rattle.model.specs.Operation.{operation_of};
 ghost use Rattle.model.specs.Functions.{built_in, function_in, aggregate_of};
 ghost use Rattle.model.specs.RegisterArms.{affinity_to_type};
-ghost use Rattle.opcode.specs.Lookup.{sought};
-ghost use Rattle.opcode.specs.Opcode.{operation_at, IsOpcode, constant_kind};
+ghost use Rattle.type_info.specs.Ascii.{starts_with};
+ghost use Rattle.opcode.specs.Lookup.{found_in};
+ghost use Rattle.opcode.specs.Opcode.{number, Numbered, IsOpcode, AreNamed, constant_kind};
 ghost use Rattle.opcode.specs.P4.{IsFunction, IsAggregate, Judges};
 
 use type_info::DataType;
 
-// An arm of several names is called by the first, or by what they share. No name's number is 0.
-pub const OP_GOTO: u8 = 1;
-
-pub const OP_GOSUB: u8 = 2;
-
-pub const OP_BRANCH: u8 = 3;
-
-pub const OP_IS_NULL: u8 = 4;
-
-pub const OP_NOT_NULL: u8 = 5;
-
-pub const OP_MUST_BE_INT: u8 = 6;
-
-pub const OP_IF: u8 = 7;
-
-pub const OP_REWIND: u8 = 8;
-
-pub const OP_INIT_COROUTINE: u8 = 9;
-
-pub const OP_END_COROUTINE: u8 = 10;
-
-pub const OP_RETURN: u8 = 11;
-
-pub const OP_YIELD: u8 = 12;
-
-pub const OP_JUMP: u8 = 13;
-
-pub const OP_HALT: u8 = 14;
-
-pub const OP_IF_POS: u8 = 15;
-
-pub const OP_MAKE_RECORD: u8 = 16;
-
-pub const OP_VARIABLE: u8 = 17;
-
-pub const OP_HALT_IF_NULL: u8 = 18;
-
-pub const OP_FUNCTION: u8 = 19;
-
-pub const OP_AGG_STEP: u8 = 20;
-
-pub const OP_AGG_FINAL: u8 = 21;
-
-pub const OP_CAST: u8 = 22;
-
-pub const OP_COPY_ONE: u8 = 23;
-
-pub const OP_COPY: u8 = 24;
-
-pub const OP_MOVE: u8 = 25;
-
-pub const OP_INTEGER: u8 = 26;
-
-pub const OP_NULL: u8 = 27;
-
-pub const OP_ARITHMETIC: u8 = 28;
-
-pub const OP_CONSTANT_INTEGER: u8 = 29;
-
-pub const OP_CONSTANT_FLOAT: u8 = 30;
-
-pub const OP_CONSTANT_TEXT: u8 = 31;
-
-pub const OP_CONSTANT_BLOB: u8 = 32;
-
-pub const OP_COLUMN: u8 = 33;
-
-pub const OP_ROW_DATA: u8 = 34;
-
-pub const OP_INSERT: u8 = 35;
-
-pub const OP_DELETE: u8 = 36;
-
-pub const OP_OPEN_PSEUDO: u8 = 37;
-
-pub const OP_OPEN_DUP: u8 = 38;
-
-pub const OP_OPEN_READ: u8 = 39;
-
-pub const OP_OPEN_EPHEMERAL: u8 = 40;
-
-pub const OP_NULL_ROW: u8 = 41;
-
-pub const OP_RESULT_ROW: u8 = 42;
-
-// What P4 says, as numbers of a function's value and of an aggregate.
-#[derive(Clone, Copy)]
-pub enum P4 {
-    NotUtf8,
-    Text { function: u8, aggregate: u8 },
+// The arms of `explain`; one of several names is called by the first, or by what they share. A name without an arm is `Other`.
+#[derive(Clone, Copy, Debug, PartialEq, Eq)]
+pub enum Operation {
+    Other,
+    Goto,
+    Gosub,
+    Branch,
+    IsNull,
+    NotNull,
+    MustBeInt,
+    If,
+    Rewind,
+    InitCoroutine,
+    EndCoroutine,
+    Return,
+    Yield,
+    Jump,
+    Halt,
+    IfPos,
+    MakeRecord,
+    Variable,
+    HaltIfNull,
+    Function,
+    AggStep,
+    AggFinal,
+    Cast,
+    CopyOne,
+    Copy,
+    Move,
+    Integer,
+    Null,
+    Arithmetic,
+    ConstantInteger,
+    ConstantFloat,
+    ConstantText,
+    ConstantBlob,
+    Column,
+    RowData,
+    Insert,
+    Delete,
+    OpenPseudo,
+    OpenDup,
+    OpenRead,
+    OpenEphemeral,
+    NullRow,
+    ResultRow,
 }
 
-// The number of the arm that the name leads to; 0 where there is none.
-pub fn opcode(name: &[u8]) -> u8
+// The value of a function that is built in: `last_insert_rowid`, or a date or time as a text, a number of days or of seconds.
+#[derive(Clone, Copy, Debug, PartialEq, Eq)]
+pub enum FunctionValue {
+    Rowid,
+    Text,
+    Days,
+    Seconds,
+}
+
+// What an aggregate gives. `Operand` is its operand: so does every text that names no aggregate.
+#[derive(Clone, Copy, Debug, PartialEq, Eq)]
+pub enum Aggregate {
+    Operand,
+    Integer,
+    Real,
+    Sum,
+    OtherRow,
+}
+
+// What a P4 that is UTF-8 says: the function that it names, if it is built in, and what it gives as an aggregate.
+#[derive(Clone, Copy, Debug, PartialEq, Eq)]
+pub struct P4 {
+    pub function: Option<FunctionValue>,
+    pub aggregate: Aggregate,
+}
+
+// The names by their length, the frequent names of each first.
+static OF_TWO: [(&[u8], Operation); 8] = [
+    (b"Ne", Operation::Branch),
+    (b"Eq", Operation::Branch),
+    (b"If", Operation::If),
+    (b"Ge", Operation::Branch),
+    (b"Le", Operation::Branch),
+    (b"Lt", Operation::Branch),
+    (b"Gt", Operation::Branch),
+    (b"Or", Operation::Arithmetic),
+];
+
+static OF_THREE: [(&[u8], Operation); 3] = [
+    (b"Add", Operation::Arithmetic),
+    (b"Not", Operation::CopyOne),
+    (b"And", Operation::Arithmetic),
+];
+
+static OF_FOUR: [(&[u8], Operation); 15] = [
+    (b"Goto", Operation::Goto),
+    (b"Next", Operation::Branch),
+    (b"Copy", Operation::Copy),
+    (b"Halt", Operation::Halt),
+    (b"Null", Operation::Null),
+    (b"Init", Operation::Goto),
+    (b"Once", Operation::Branch),
+    (b"Jump", Operation::Jump),
+    (b"Blob", Operation::ConstantBlob),
+    (b"Move", Operation::Move),
+    (b"Real", Operation::ConstantFloat),
+    (b"Cast", Operation::Cast),
+    (b"Last", Operation::Rewind),
+    (b"Sort", Operation::Rewind),
+    (b"Prev", Operation::Branch),
+];
+
+static OF_FIVE: [(&[u8], Operation); 14] = [
+    (b"Gosub", Operation::Gosub),
+    (b"Rowid", Operation::ConstantInteger),
+    (b"Yield", Operation::Yield),
+    (b"IfPos", Operation::IfPos),
+    (b"IdxGT", Operation::Branch),
+    (b"SCopy", Operation::CopyOne),
+    (b"Found", Operation::Branch),
+    (b"IfNot", Operation::Branch),
+    (b"VNext", Operation::Branch),
+    (b"Count", Operation::ConstantInteger),
+    (b"IdxLE", Operation::Branch),
+    (b"IdxGE", Operation::Branch),
+    (b"BitOr", Operation::Arithmetic),
+    (b"IdxLT", Operation::Branch),
+];
+
+static OF_SIX: [(&[u8], Operation); 15] = [
+    (b"Column", Operation::Column),
+    (b"Rewind", Operation::Rewind),
+    (b"Return", Operation::Return),
+    (b"IsNull", Operation::IsNull),
+    (b"Insert", Operation::Insert),
+    (b"SeekGE", Operation::Branch),
+    (b"Delete", Operation::Delete),
+    (b"Filter", Operation::Branch),
+    (b"Concat", Operation::Arithmetic),
+    (b"BitAnd", Operation::Arithmetic),
+    (b"Divide", Operation::Arithmetic),
+    (b"SeekGT", Operation::Branch),
+    (b"ElseEq", Operation::Branch),
+    (b"SeekLE", Operation::Branch),
+    (b"SeekLT", Operation::Branch),
+];
+
+static OF_SEVEN: [(&[u8], Operation); 10] = [
+    (b"Integer", Operation::Integer),
+    (b"String8", Operation::ConstantText),
+    (b"AggStep", Operation::AggStep),
+    (b"NullRow", Operation::NullRow),
+    (b"OpenDup", Operation::OpenDup),
+    (b"NotNull", Operation::NotNull),
+    (b"IntCopy", Operation::CopyOne),
+    (b"Program", Operation::Branch),
+    (b"VFilter", Operation::Branch),
+    (b"RowData", Operation::RowData),
+];
+
+static OF_EIGHT: [(&[u8], Operation); 13] = [
+    (b"OpenRead", Operation::OpenRead),
+    (b"Variable", Operation::Variable),
+    (b"NewRowid", Operation::ConstantInteger),
+    (b"Function", Operation::Function),
+    (b"AggFinal", Operation::AggFinal),
+    (b"IdxRowid", Operation::ConstantInteger),
+    (b"AggValue", Operation::AggStep),
+    (b"FkIfZero", Operation::Goto),
+    (b"Subtract", Operation::Arithmetic),
+    (b"Multiply", Operation::Arithmetic),
+    (b"Sequence", Operation::ConstantInteger),
+    (b"IfNoHope", Operation::Branch),
+    (b"SeekScan", Operation::Branch),
+];
+
+static OF_NINE: [(&[u8], Operation); 12] = [
+    (b"ResultRow", Operation::ResultRow),
+    (b"IdxInsert", Operation::Insert),
+    (b"OpenWrite", Operation::OpenRead),
+    (b"SeekRowid", Operation::Branch),
+    (b"MustBeInt", Operation::MustBeInt),
+    (b"NotExists", Operation::Branch),
+    (b"IfNotZero", Operation::Branch),
+    (b"Remainder", Operation::Arithmetic),
+    (b"IfNullRow", Operation::Branch),
+    (b"ShiftLeft", Operation::Arithmetic),
+    (b"IfNotOpen", Operation::Branch),
+    (b"IfSmaller", Operation::Branch),
+];
+
+static OF_TEN: [(&[u8], Operation); 12] = [
+    (b"MakeRecord", Operation::MakeRecord),
+    (b"SorterOpen", Operation::OpenEphemeral),
+    (b"OpenPseudo", Operation::OpenPseudo),
+    (b"SorterSort", Operation::Rewind),
+    (b"SorterData", Operation::RowData),
+    (b"SorterNext", Operation::Branch),
+    (b"HaltIfNull", Operation::HaltIfNull),
+    (b"RowSetTest", Operation::Branch),
+    (b"NoConflict", Operation::Branch),
+    (b"RowSetRead", Operation::Branch),
+    (b"ShiftRight", Operation::Arithmetic),
+    (b"IncrVacuum", Operation::Branch),
+];
+
+static OF_ELEVEN: [(&[u8], Operation); 1] = [(b"OffsetLimit", Operation::ConstantInteger)];
+
+static OF_TWELVE: [(&[u8], Operation); 5] = [
+    (b"SorterInsert", Operation::Insert),
+    (b"EndCoroutine", Operation::EndCoroutine),
+    (b"DecrJumpZero", Operation::Branch),
+    (b"SequenceTest", Operation::Branch),
+    (b"IsNullOrType", Operation::Branch),
+];
+
+static OF_THIRTEEN: [(&[u8], Operation); 3] = [
+    (b"InitCoroutine", Operation::InitCoroutine),
+    (b"OpenEphemeral", Operation::OpenEphemeral),
+    (b"OpenAutoindex", Operation::OpenEphemeral),
+];
+
+// The functions that are built in, by the length of their texts.
+static FUNCTIONS_OF_8: [(&[u8], FunctionValue); 2] = [
+    (b"date(-1)", FunctionValue::Text),
+    (b"time(-1)", FunctionValue::Text),
+];
+
+static FUNCTIONS_OF_12: [(&[u8], FunctionValue); 2] = [
+    (b"datetime(-1)", FunctionValue::Text),
+    (b"strftime(-1)", FunctionValue::Text),
+];
+
+static FUNCTIONS_OF_13: [(&[u8], FunctionValue); 2] = [
+    (b"julianday(-1)", FunctionValue::Days),
+    (b"unixepoch(-1)", FunctionValue::Seconds),
+];
+
+static FUNCTIONS_OF_20: [(&[u8], FunctionValue); 1] = [(
+    b"last_insert_rowid(0)",
+    FunctionValue::Rowid,
+)];
+
+// What an aggregate's text starts with.
+static AGGREGATES: [(&[u8], Aggregate); 10] = [
+    (b"count(", Aggregate::Integer),
+    (b"row_number(", Aggregate::Integer),
+    (b"rank(", Aggregate::Integer),
+    (b"dense_rank(", Aggregate::Integer),
+    (b"ntile(", Aggregate::Integer),
+    (b"percent_rank(", Aggregate::Real),
+    (b"cume_dist", Aggregate::Real),
+    (b"sum(", Aggregate::Sum),
+    (b"lead(", Aggregate::OtherRow),
+    (b"lag(", Aggregate::OtherRow),
+];
+
+// Whether the text starts with the word: byte by byte, since nearly all words differ in the first, where the library's method compares more.
+fn starts_with(text: &[u8], word: &[u8]) -> bool
+    ensures { result ≡ starts_with text.now word.now }
+{
+    if text.len() < word.len() {
+        return false;
+    }
+    for i in 0..word.len() {
+        if text[i] != word[i] {
+            return false;
+        }
+    }
+    true
+}
+
+// The value of the table's first text that `given` starts with. Among texts of its own length, it then equals that one.
+fn find<A: Copy>(table: &[(&[u8], A)], given: &[u8]) -> Option<A>
+    ensures { result ≡ found_in given.now table.now }
+{
+    for (text, value) in table {
+        if starts_with(given, *text) {
+            return Some(*value);
+        }
+    }
+    None
+}
+
+// The arm that the name leads to.
+pub fn opcode(name: &[u8]) -> Operation
     ensures { IsOpcode (operation_of name.now) result }
 {
-    if name.len() < 8 {
-        return short_opcode(name);
-    }
-    long_opcode(name)
+    find_named(name).unwrap_or(Operation::Other)
 }
 
-// The number of a name of fewer than 8 bytes: a table for each length, the frequent names first.
-// A table is a local of its arm: a byte string that is only borrowed would be stored in every call, where the function starts.
-fn short_opcode(name: &[u8]) -> u8
-    requires { length name.now < 8 }
-    ensures { IsOpcode (operation_of name.now) result }
+// The same, if there is one: a name is looked for among those of its length.
+fn find_named(name: &[u8]) -> Option<Operation>
+    ensures { AreNamed name.now result }
 {
     match name.len() {
-        2 => {
-            let names =
-                *b"\x02Ne\x03\x02Eq\x03\x02If\x07\x02Ge\x03\x02Le\x03\x02Lt\x03\x02Gt\x03\x02Or\x1c";
-            seek(&names, name)
-        }
-        3 => {
-            let names = *b"\x03Add\x1c\x03Not\x17\x03And\x1c";
-            seek(&names, name)
-        }
-        4 => {
-            let names =
-                *b"\x04Goto\x01\x04Next\x03\x04Copy\x18\x04Halt\x0e\x04Null\x1b\x04Init\x01\x04Once\x03\x04Jump\x0d\x04Blob\x20\x04Move\x19\x04Real\x1e\x04Cast\x16\x04Last\x08\x04Sort\x08\x04Prev\x03";
-            seek(&names, name)
-        }
-        5 => {
-            let names =
-                *b"\x05Gosub\x02\x05Rowid\x1d\x05Yield\x0c\x05IfPos\x0f\x05IdxGT\x03\x05SCopy\x17\x05Found\x03\x05IfNot\x03\x05VNext\x03\x05Count\x1d\x05IdxLE\x03\x05IdxGE\x03\x05BitOr\x1c\x05IdxLT\x03";
-            seek(&names, name)
-        }
-        6 => {
-            let names =
-                *b"\x06Column\x21\x06Rewind\x08\x06Return\x0b\x06IsNull\x04\x06Insert\x23\x06SeekGE\x03\x06Delete\x24\x06Filter\x03\x06Concat\x1c\x06BitAnd\x1c\x06Divide\x1c\x06SeekGT\x03\x06ElseEq\x03\x06SeekLE\x03\x06SeekLT\x03";
-            seek(&names, name)
-        }
-        7 => {
-            let names =
-                *b"\x07Integer\x1a\x07String8\x1f\x07AggStep\x14\x07NullRow\x29\x07OpenDup\x26\x07NotNull\x05\x07IntCopy\x17\x07Program\x03\x07VFilter\x03\x07RowData\x22";
-            seek(&names, name)
-        }
-        _ => 0,
+        2 => find(&OF_TWO, name),
+        3 => find(&OF_THREE, name),
+        4 => find(&OF_FOUR, name),
+        5 => find(&OF_FIVE, name),
+        6 => find(&OF_SIX, name),
+        7 => find(&OF_SEVEN, name),
+        8 => find(&OF_EIGHT, name),
+        9 => find(&OF_NINE, name),
+        10 => find(&OF_TEN, name),
+        11 => find(&OF_ELEVEN, name),
+        12 => find(&OF_TWELVE, name),
+        13 => find(&OF_THIRTEEN, name),
+        _ => None,
     }
 }
 
-// The number of a longer name, found in the same way.
-fn long_opcode(name: &[u8]) -> u8
-    requires { 8 ≤ length name.now }
-    ensures { IsOpcode (operation_of name.now) result }
-{
-    match name.len() {
-        8 => {
-            let names =
-                *b"\x08OpenRead\x27\x08Variable\x11\x08NewRowid\x1d\x08Function\x13\x08AggFinal\x15\x08IdxRowid\x1d\x08AggValue\x14\x08FkIfZero\x01\x08Subtract\x1c\x08Multiply\x1c\x08Sequence\x1d\x08IfNoHope\x03\x08SeekScan\x03";
-            seek(&names, name)
+impl Operation {
+    // The number of the operation, by which a cell has it.
+    pub fn number(self) -> u8
+        ensures { result ≡ number self }
+    {
+        self as u8
+    }
+}
+
+// The operation of a number in a cell; one past the last stands for none.
+impl From<u8> for Operation {
+    ghost from_gives = { Numbered };
+
+    fn from(number: u8) -> Operation {
+        match number {
+            1 => Operation::Goto,
+            2 => Operation::Gosub,
+            3 => Operation::Branch,
+            4 => Operation::IsNull,
+            5 => Operation::NotNull,
+            6 => Operation::MustBeInt,
+            7 => Operation::If,
+            8 => Operation::Rewind,
+            9 => Operation::InitCoroutine,
+            10 => Operation::EndCoroutine,
+            11 => Operation::Return,
+            12 => Operation::Yield,
+            13 => Operation::Jump,
+            14 => Operation::Halt,
+            15 => Operation::IfPos,
+            16 => Operation::MakeRecord,
+            17 => Operation::Variable,
+            18 => Operation::HaltIfNull,
+            19 => Operation::Function,
+            20 => Operation::AggStep,
+            21 => Operation::AggFinal,
+            22 => Operation::Cast,
+            23 => Operation::CopyOne,
+            24 => Operation::Copy,
+            25 => Operation::Move,
+            26 => Operation::Integer,
+            27 => Operation::Null,
+            28 => Operation::Arithmetic,
+            29 => Operation::ConstantInteger,
+            30 => Operation::ConstantFloat,
+            31 => Operation::ConstantText,
+            32 => Operation::ConstantBlob,
+            33 => Operation::Column,
+            34 => Operation::RowData,
+            35 => Operation::Insert,
+            36 => Operation::Delete,
+            37 => Operation::OpenPseudo,
+            38 => Operation::OpenDup,
+            39 => Operation::OpenRead,
+            40 => Operation::OpenEphemeral,
+            41 => Operation::NullRow,
+            42 => Operation::ResultRow,
+            _ => Operation::Other,
         }
-        9 => {
-            let names =
-                *b"\x09ResultRow\x2a\x09IdxInsert\x23\x09OpenWrite\x27\x09SeekRowid\x03\x09MustBeInt\x06\x09NotExists\x03\x09IfNotZero\x03\x09Remainder\x1c\x09IfNullRow\x03\x09ShiftLeft\x1c\x09IfNotOpen\x03\x09IfSmaller\x03";
-            seek(&names, name)
-        }
-        10 => {
-            let names =
-                *b"\x0aMakeRecord\x10\x0aSorterOpen\x28\x0aOpenPseudo\x25\x0aSorterSort\x08\x0aSorterData\x22\x0aSorterNext\x03\x0aHaltIfNull\x12\x0aRowSetTest\x03\x0aNoConflict\x03\x0aRowSetRead\x03\x0aShiftRight\x1c\x0aIncrVacuum\x03";
-            seek(&names, name)
-        }
-        11 => {
-            let names = *b"\x0bOffsetLimit\x1d";
-            seek(&names, name)
-        }
-        12 => {
-            let names =
-                *b"\x0cSorterInsert\x23\x0cEndCoroutine\x0a\x0cDecrJumpZero\x03\x0cSequenceTest\x03\x0cIsNullOrType\x03";
-            seek(&names, name)
-        }
-        13 => {
-            let names = *b"\x0dInitCoroutine\x09\x0dOpenEphemeral\x28\x0dOpenAutoindex\x28";
-            seek(&names, name)
-        }
-        _ => 0,
     }
 }
 
 // The kind of the value that a constant's arm stores.
-pub fn opcode_to_type(op: u8) -> DataType
-    ensures { result ≡ constant_kind (operation_at op) }
+pub fn opcode_to_type(operation: Operation) -> DataType
+    ensures { result ≡ constant_kind operation }
 {
-    match op {
-        OP_CONSTANT_INTEGER => DataType::Integer,
-        OP_CONSTANT_FLOAT => DataType::Float,
-        OP_CONSTANT_TEXT => DataType::Text,
-        OP_CONSTANT_BLOB => DataType::Blob,
+    match operation {
+        Operation::ConstantInteger => DataType::Integer,
+        Operation::ConstantFloat => DataType::Float,
+        Operation::ConstantText => DataType::Text,
+        Operation::ConstantBlob => DataType::Blob,
         _ => DataType::Null,
     }
 }
@@ -221,99 +413,41 @@ pub fn affinity_to_type(affinity: u8) -> DataType
     }
 }
 
-// P4 as Function, AggStep, AggValue and AggFinal read it. Most rows have an empty one, no function and no aggregate.
-pub fn judge(p4: &[u8]) -> P4
+// P4 as Function, AggStep, AggValue and AggFinal read it, if it is UTF-8. Most rows have an empty one, no function and no aggregate.
+pub fn judge(p4: &[u8]) -> Option<P4>
     ensures { Judges result p4.now }
 {
-    if p4.len() == 0 {
-        return P4::Text {
-            function: 0,
-            aggregate: 0,
-        };
+    if p4.is_empty() {
+        return Some(P4 {
+            function: None,
+            aggregate: Aggregate::Operand,
+        });
     }
     if !type_info::utf8::is_utf8(p4) {
-        return P4::NotUtf8;
+        return None;
     }
-    P4::Text {
-        function: function(p4),
-        aggregate: aggregate(p4),
-    }
+    Some(P4 {
+        function: function_in(p4),
+        aggregate: aggregate_of(p4),
+    })
 }
 
-// The number of a function's value, 0 for a text that is not built in.
-fn function(text: &[u8]) -> u8
+// The value of the function that the text names.
+fn function_in(text: &[u8]) -> Option<FunctionValue>
     ensures { IsFunction (function_in built_in text.now) result }
 {
     match text.len() {
-        8 => {
-            let texts = *b"\x08date(-1)\x02\x08time(-1)\x02";
-            seek(&texts, text)
-        }
-        12 => {
-            let texts = *b"\x0cdatetime(-1)\x02\x0cstrftime(-1)\x02";
-            seek(&texts, text)
-        }
-        13 => {
-            let texts = *b"\x0djulianday(-1)\x03\x0dunixepoch(-1)\x04";
-            seek(&texts, text)
-        }
-        20 => {
-            let texts = *b"\x14last_insert_rowid(0)\x01";
-            seek(&texts, text)
-        }
-        _ => 0,
+        8 => find(&FUNCTIONS_OF_8, text),
+        12 => find(&FUNCTIONS_OF_12, text),
+        13 => find(&FUNCTIONS_OF_13, text),
+        20 => find(&FUNCTIONS_OF_20, text),
+        _ => None,
     }
 }
 
-// The number of what an aggregate gives. Nearly no text begins with the first byte of an aggregate's.
-fn aggregate(text: &[u8]) -> u8
+// What the text gives as an aggregate.
+fn aggregate_of(text: &[u8]) -> Aggregate
     ensures { IsAggregate (aggregate_of text.now) result }
 {
-    if text.len() == 0 {
-        return 0;
-    }
-    match text[0] {
-        b'c' | b'd' | b'l' | b'n' | b'p' | b'r' | b's' => {
-            let texts =
-                *b"\x06count(\x01\x0brow_number(\x01\x05rank(\x01\x0bdense_rank(\x01\x06ntile(\x01\x0dpercent_rank(\x02\x09cume_dist\x02\x04sum(\x03\x05lead(\x04\x04lag(\x04";
-            seek(&texts, text)
-        }
-        _ => 0,
-    }
-}
-
-// The number of the table's first text that `given` starts with, else 0. An entry is the text's length, the text, and its number.
-fn seek(table: &[u8], given: &[u8]) -> u8
-    ensures { result ≡ sought given.now table.now }
-{
-    let mut at: usize = 0;
-    while at < table.len() {
-        let size = type_info::utf8::wide(table[at]);
-        if table.len() - at - 1 <= size {
-            return 0;
-        }
-        if starts_with(given, table, at + 1, size) {
-            return table[at + 1 + size];
-        }
-        at += size + 2;
-    }
-    0
-}
-
-// Whether s starts with the `size` bytes at `at` of the table.
-fn starts_with(s: &[u8], table: &[u8], at: usize, size: usize) -> bool
-    requires { at + size ≤ length table.now }
-    ensures { result ≡ starts_with s.now (take size (drop at table.now)) }
-{
-    if s.len() < size {
-        return false;
-    }
-    let mut i: usize = 0;
-    while i < size {
-        if s[i] != table[at + i] {
-            return false;
-        }
-        i += 1;
-    }
-    true
+    find(&AGGREGATES, text).unwrap_or(Aggregate::Operand)
 }

@@ -3,17 +3,16 @@ use Rattle.refusal.specs.Numbers.{number_of}
 use Rattle.refusal.specs.declared.Refusal.{Refusal}
 use Rattle.intmap.specs.Store.{Stored}
 use mathlib.Core.Path.{◌≡◌, refl, sym, ap, ap₂, subst, ◌∙◌}
+use mathlib.Core.Logic.{◌⊎◌, inl, inr}
 use mathlib.Core.Bool.{true, false, not}
 use Rattle.std.specs.Prelude.{Option, None, Some, Ok, Err, is_some}
 use mathlib.Core.List.{List}
-use Prim.Native.Nat.{ℕ, zero, suc, ◌<◌}
-use native.Mathlib.Omega.{arith}
+use Prim.Native.Nat.{ℕ}
 use lib.IntN.{ℤ}
 use lib.ListN.{get_or}
 use borrow.Author.Tests.{eq-eqb, ne_eqb}
 use Rattle.type_info.specs.declared.DataType.{DataType}
 use Rattle.type_info.specs.declared.DataType.TheVariants.{Integer, Float, Text}
-use Rattle.type_info.specs.Utf8.{is_utf8}
 use Rattle.model.specs.Walk.{Tried, refused, done}
 use Rattle.model.specs.Row.{Row as Listed}
 use Rattle.model.specs.State.{Single, RegDataType, Column, Int, MemoryState, null, never_null, first_datatype}
@@ -28,7 +27,13 @@ use Rattle.intmap.specs.Map.{Frame}
 use Rattle.intmap.specs.declared.IntMap.{IntMap}
 use Rattle.intmap.proofs.SignedLaws.{int_same}
 use Rattle.encoding.specs.Decode.{nullables}
-use Rattle.opcode.specs.P4.{values, function_at, aggregates, aggregate_at}
+use Rattle.opcode.specs.P4.{values_of, given_by, JudgedText, Judges}
+use Rattle.opcode.specs.declared.FunctionValue.{FunctionValue}
+use Rattle.opcode.specs.declared.FunctionValue.TheVariants as function
+use Rattle.opcode.specs.declared.Aggregate.{Aggregate}
+use Rattle.opcode.specs.declared.Aggregate.TheVariants as aggregate
+use Rattle.opcode.specs.declared.P4.{P4}
+use Rattle.rows.specs.Rows.{p4_at}
 use Rattle.rows.specs.Judged.{Judged}
 use Rattle.rows.specs.declared.Row.{Row}
 use Rattle.state.specs.Leads.{Current, Leads, HoldsMap, Tells}
@@ -72,12 +77,6 @@ pub others-null : (p2 : ℕ) → (p2 ≡ 9223372036854775808 → ⊥) → get_or
 unfolding int_of
 others-null p2 e = ap (λ b. Some (not b)) (sym (int_same p2 offset ∙ ne_eqb p2 offset e))
 
-last_of_five : (n : ℕ) → n < 5 → (n ≡ 0 → ⊥) → (n ≡ 1 → ⊥) → (n ≡ 2 → ⊥) → (n ≡ 3 → ⊥) → n ≡ 4
-last_of_five n h a b c d = omega arith
-
-first_of_five : (n : ℕ) → n < 5 → (n ≡ 1 → ⊥) → (n ≡ 2 → ⊥) → (n ≡ 3 → ⊥) → (n ≡ 4 → ⊥) → n ≡ 0
-first_of_five n h b c d f = omega arith
-
 module _ (limit : ℕ) (meaning : Meaning) (l : Listed) (x : Row) (s : Standard limit meaning) (j : Judged l x) (m : MemoryState) where
   pub integer_arm : store_register limit (int_of x.p2) (Int (int_of x.p1)) m ≡ register_arm meaning l m op_integer
   unfolding register_arm
@@ -92,52 +91,46 @@ module _ (limit : ℕ) (meaning : Meaning) (l : Listed) (x : Row) (s : Standard 
   variable_arm = rw (s.cells, j.p2)
 
   -- P4 is UTF-8, or refused
-  not_text : (x.text ≡ 1 → ⊥) → text_of l.p4 ≡ refused 10
+  not_text : p4_at x.p4 ≡ None → text_of l.p4 ≡ refused 10
   unfolding text_of
-  not_text e = ap (λ b. text_if b l.p4) (sym j.text ∙ ne_eqb x.text 1 e)
+  not_text e = ap (λ b. text_if b l.p4) (subst (λ p. Judges p l.p4) e j.p4)
 
-  is_text_lem : x.text ≡ 1 → is_utf8 l.p4 ≡ true
-  is_text_lem e = sym j.text ∙ eq-eqb x.text 1 e
-
-  text_is : x.text ≡ 1 → text_of l.p4 ≡ done l.p4
-  unfolding text_of
-  text_is e = ap (λ b. text_if b l.p4) (is_text_lem e)
-
-  pub function_refused : (x.text ≡ 1 → ⊥) → register_arm meaning l m op_function ≡ refused 10
+  pub function_refused : p4_at x.p4 ≡ None → register_arm meaning l m op_function ≡ refused 10
   unfolding register_arm
   function_refused e = ap (λ t. t >>= λ text. function_arm meaning.cell_limit l m (meaning.function_for text)) (not_text e)
-
-  function_is : x.text ≡ 1 → (n : ℕ) → x.function ≡ n → register_arm meaning l m op_function ≡ function_arm meaning.cell_limit l m (function_at n)
-  unfolding register_arm
-  function_is e n is =
-      ap (λ t. t >>= λ text. function_arm meaning.cell_limit l m (meaning.function_for text)) (text_is e)
-      ∙ ap (function_arm meaning.cell_limit l m) (s.functions l.p4 ∙ sym (j.function (is_text_lem e)).value ∙ ap function_at is)
-
-  pub function_unknown : x.text ≡ 1 → x.function ≡ 0 → register_arm meaning l m op_function ≡ done m
-  unfolding function_at values
-  function_unknown e is = function_is e 0 is
 
   value_stored : (d : DataType) (k : MayBeNull) (nullable : ℕ) → get_or nullables nullable None ≡ Some (is_nullable k (int_of x.p2)) → store_register limit (int_of x.p3) (Column (Single d (get_or nullables nullable None))) m ≡ function_arm meaning.cell_limit l m (Some (gives d k))
   value_stored d k nullable e = rw (e, s.cells, j.p2, j.p3)
 
-  module _ (e : x.text ≡ 1) where
-    pub function_rowid : x.function ≡ 1 → store_register limit (int_of x.p3) (never_null Integer) m ≡ register_arm meaning l m op_function
-    unfolding function_at values
-    function_rowid is = value_stored Integer never 1 refl ∙ sym (function_is e 1 is)
+  module _ (p : P4) (e : p4_at x.p4 ≡ Some p) where
+    judged_text : JudgedText p l.p4
+    judged_text = subst (λ q. Judges q l.p4) e j.p4
+
+    text_is : text_of l.p4 ≡ done l.p4
+    unfolding text_of
+    text_is = ap (λ b. text_if b l.p4) judged_text.is_text
+
+    function_is : (f : Option FunctionValue) → p.function ≡ f → register_arm meaning l m op_function ≡ function_arm meaning.cell_limit l m (values_of f)
+    unfolding register_arm
+    function_is f is =
+        ap (λ t. t >>= λ text. function_arm meaning.cell_limit l m (meaning.function_for text)) text_is
+        ∙ ap (function_arm meaning.cell_limit l m) (s.functions l.p4 ∙ sym judged_text.the_function ∙ ap values_of is)
+
+    pub function_unknown : p.function ≡ None → register_arm meaning l m op_function ≡ done m
+    function_unknown is = function_is None is
+
+    pub function_rowid : (f : FunctionValue) → p.function ≡ Some f → f ≡ function.Rowid → store_register limit (int_of x.p3) (never_null Integer) m ≡ register_arm meaning l m op_function
+    function_rowid f is e' = value_stored Integer never 1 refl ∙ sym (function_is (Some function.Rowid) (is ∙ ap Some e'))
 
     module _ (nullable : ℕ) (by_p : get_or nullables nullable None ≡ Some (is_nullable by_p2 (int_of x.p2))) where
-      pub function_text : x.function ≡ 2 → store_register limit (int_of x.p3) (Column (Single Text (get_or nullables nullable None))) m ≡ register_arm meaning l m op_function
-      unfolding function_at values
-      function_text is = value_stored Text by_p2 nullable by_p ∙ sym (function_is e 2 is)
+      pub function_text : (f : FunctionValue) → p.function ≡ Some f → f ≡ function.Text → store_register limit (int_of x.p3) (Column (Single Text (get_or nullables nullable None))) m ≡ register_arm meaning l m op_function
+      function_text f is e' = value_stored Text by_p2 nullable by_p ∙ sym (function_is (Some function.Text) (is ∙ ap Some e'))
 
-      pub function_real : x.function ≡ 3 → store_register limit (int_of x.p3) (Column (Single Float (get_or nullables nullable None))) m ≡ register_arm meaning l m op_function
-      unfolding function_at values
-      function_real is = value_stored Float by_p2 nullable by_p ∙ sym (function_is e 3 is)
+      pub function_days : (f : FunctionValue) → p.function ≡ Some f → f ≡ function.Days → store_register limit (int_of x.p3) (Column (Single Float (get_or nullables nullable None))) m ≡ register_arm meaning l m op_function
+      function_days f is e' = value_stored Float by_p2 nullable by_p ∙ sym (function_is (Some function.Days) (is ∙ ap Some e'))
 
-      pub function_integer : (x.function ≡ 0 → ⊥) → (x.function ≡ 1 → ⊥) → (x.function ≡ 2 → ⊥) → (x.function ≡ 3 → ⊥) → store_register limit (int_of x.p3) (Column (Single Integer (get_or nullables nullable None))) m ≡ register_arm meaning l m op_function
-      unfolding function_at values
-      function_integer a b c d =
-          value_stored Integer by_p2 nullable by_p ∙ sym (function_is e 4 (last_of_five x.function (j.function (is_text_lem e)).below a b c d))
+      pub function_seconds : (f : FunctionValue) → p.function ≡ Some f → f ≡ function.Seconds → store_register limit (int_of x.p3) (Column (Single Integer (get_or nullables nullable None))) m ≡ register_arm meaning l m op_function
+      function_seconds f is e' = value_stored Integer by_p2 nullable by_p ∙ sym (function_is (Some function.Seconds) (is ∙ ap Some e'))
 
 -- ---- registers that are read
 
@@ -216,39 +209,30 @@ module _ (limit : ℕ) (cs : List Cell) (a : IntMap) (i k : ℕ) (r : Reading) (
         row_column limit (int_of k) m v.value (some-value bound cs a q v.value present v.told) d (kind.says bound cs a v.value v.told)
         ∙ sym (copy_is from_other_row ∙ ap (stores from_other_row) v.answer)
 
-final_same : (limit : ℕ) (l : Listed) (m : MemoryState) (n : ℕ) → n < 5 → (n ≡ 1 → ⊥) → (n ≡ 2 → ⊥) → (n ≡ 4 → ⊥) → agg_final_arm limit l m (aggregate_at n) ≡ done m
-unfolding aggregate_at aggregates
-final_same limit l m zero h b c d = refl
-final_same limit l m (suc zero) h b c d = absurd (b refl)
-final_same limit l m (suc (suc zero)) h b c d = absurd (c refl)
-final_same limit l m (suc (suc (suc zero))) h b c d = refl
-final_same limit l m (suc (suc (suc (suc zero)))) h b c d = absurd (d refl)
-final_same limit l m (suc (suc (suc (suc (suc n))))) h b c d = absurd (omega arith)
-
 module _ (limit : ℕ) (meaning : Meaning) (l : Listed) (x : Row) (s : Standard limit meaning) (j : Judged l x) (m : MemoryState) where
-  pub step_refused : (x.text ≡ 1 → ⊥) → register_arm meaning l m op_agg_step ≡ refused 10
+  pub step_refused : p4_at x.p4 ≡ None → register_arm meaning l m op_agg_step ≡ refused 10
   unfolding register_arm
   step_refused e = ap (λ t. t >>= λ text. agg_step_arm meaning.cell_limit l m (aggregate_of text)) (not_text limit meaning l x s j m e)
 
-  pub final_refused : (x.text ≡ 1 → ⊥) → register_arm meaning l m op_agg_final ≡ refused 10
+  pub final_refused : p4_at x.p4 ≡ None → register_arm meaning l m op_agg_final ≡ refused 10
   unfolding register_arm
   final_refused e = ap (λ t. t >>= λ text. agg_final_arm meaning.cell_limit l m (aggregate_of text)) (not_text limit meaning l x s j m e)
 
-  module _ (e : x.text ≡ 1) where
-    aggregate_is : (n : ℕ) → x.aggregate ≡ n → aggregate_of l.p4 ≡ aggregate_at n
-    aggregate_is n is = sym (j.aggregate (is_text_lem limit meaning l x s j m e)).value ∙ ap aggregate_at is
+  module _ (p : P4) (e : p4_at x.p4 ≡ Some p) where
+    aggregate_is : (a : Aggregate) → p.aggregate ≡ a → aggregate_of l.p4 ≡ given_by a
+    aggregate_is a is = sym (judged_text limit meaning l x s j m p e).the_aggregate ∙ ap given_by is
 
-    step_is : (n : ℕ) → x.aggregate ≡ n → register_arm meaning l m op_agg_step ≡ agg_step_arm meaning.cell_limit l m (aggregate_at n)
+    step_is : (a : Aggregate) → p.aggregate ≡ a → register_arm meaning l m op_agg_step ≡ agg_step_arm meaning.cell_limit l m (given_by a)
     unfolding register_arm
-    step_is n is =
-        ap (λ t. t >>= λ text. agg_step_arm meaning.cell_limit l m (aggregate_of text)) (text_is limit meaning l x s j m e)
-        ∙ ap (agg_step_arm meaning.cell_limit l m) (aggregate_is n is)
+    step_is a is =
+        ap (λ t. t >>= λ text. agg_step_arm meaning.cell_limit l m (aggregate_of text)) (text_is limit meaning l x s j m p e)
+        ∙ ap (agg_step_arm meaning.cell_limit l m) (aggregate_is a is)
 
-    final_is : (n : ℕ) → x.aggregate ≡ n → register_arm meaning l m op_agg_final ≡ agg_final_arm meaning.cell_limit l m (aggregate_at n)
+    final_is : (a : Aggregate) → p.aggregate ≡ a → register_arm meaning l m op_agg_final ≡ agg_final_arm meaning.cell_limit l m (given_by a)
     unfolding register_arm
-    final_is n is =
-        ap (λ t. t >>= λ text. agg_final_arm meaning.cell_limit l m (aggregate_of text)) (text_is limit meaning l x s j m e)
-        ∙ ap (agg_final_arm meaning.cell_limit l m) (aggregate_is n is)
+    final_is a is =
+        ap (λ t. t >>= λ text. agg_final_arm meaning.cell_limit l m (aggregate_of text)) (text_is limit meaning l x s j m p e)
+        ∙ ap (agg_final_arm meaning.cell_limit l m) (aggregate_is a is)
 
     kind_stored : (d : DataType) (w : ℕ) (i : ℤ) → int_of w ≡ i → store_register limit (int_of w) (never_null d) m ≡ store_register meaning.cell_limit i (never_null d) m
     kind_stored d w i is = ap₂ (λ y z. store_register y z (never_null d) m) (sym s.cells) is
@@ -256,38 +240,30 @@ module _ (limit : ℕ) (meaning : Meaning) (l : Listed) (x : Row) (s : Standard 
     copied : (f : RegDataType → RegDataType) → copy_to limit (int_of x.p2) (int_of x.p3) f m ≡ copy_to meaning.cell_limit l.p2 l.p3 f m
     copied f = ap (λ y. copy_to y (int_of x.p2) (int_of x.p3) f m) (sym s.cells) ∙ ap₂ (λ y z. copy_to meaning.cell_limit y z f m) j.p2 j.p3
 
-    pub step_integer : x.aggregate ≡ 1 → store_register limit (int_of x.p3) (never_null Integer) m ≡ register_arm meaning l m op_agg_step
-    unfolding aggregate_at aggregates
-    step_integer is = kind_stored Integer x.p3 l.p3 j.p3 ∙ sym (step_is 1 is)
+    pub step_integer : p.aggregate ≡ aggregate.Integer → store_register limit (int_of x.p3) (never_null Integer) m ≡ register_arm meaning l m op_agg_step
+    step_integer is = kind_stored Integer x.p3 l.p3 j.p3 ∙ sym (step_is aggregate.Integer is)
 
-    pub step_real : x.aggregate ≡ 2 → store_register limit (int_of x.p3) (never_null Float) m ≡ register_arm meaning l m op_agg_step
-    unfolding aggregate_at aggregates
-    step_real is = kind_stored Float x.p3 l.p3 j.p3 ∙ sym (step_is 2 is)
+    pub step_real : p.aggregate ≡ aggregate.Real → store_register limit (int_of x.p3) (never_null Float) m ≡ register_arm meaning l m op_agg_step
+    step_real is = kind_stored Float x.p3 l.p3 j.p3 ∙ sym (step_is aggregate.Real is)
 
-    pub step_sum : x.aggregate ≡ 3 → copy_to limit (int_of x.p2) (int_of x.p3) summed m ≡ register_arm meaning l m op_agg_step
-    unfolding aggregate_at aggregates
-    step_sum is = copied summed ∙ sym (step_is 3 is)
+    pub step_sum : p.aggregate ≡ aggregate.Sum → copy_to limit (int_of x.p2) (int_of x.p3) summed m ≡ register_arm meaning l m op_agg_step
+    step_sum is = copied summed ∙ sym (step_is aggregate.Sum is)
 
-    pub step_other : x.aggregate ≡ 4 → copy_to limit (int_of x.p2) (int_of x.p3) from_other_row m ≡ register_arm meaning l m op_agg_step
-    unfolding aggregate_at aggregates
-    step_other is = copied from_other_row ∙ sym (step_is 4 is)
+    pub step_other : p.aggregate ≡ aggregate.OtherRow → copy_to limit (int_of x.p2) (int_of x.p3) from_other_row m ≡ register_arm meaning l m op_agg_step
+    step_other is = copied from_other_row ∙ sym (step_is aggregate.OtherRow is)
 
-    pub step_operand : (x.aggregate ≡ 1 → ⊥) → (x.aggregate ≡ 2 → ⊥) → (x.aggregate ≡ 3 → ⊥) → (x.aggregate ≡ 4 → ⊥) → copy_to limit (int_of x.p2) (int_of x.p3) (λ v. v) m ≡ register_arm meaning l m op_agg_step
-    unfolding aggregate_at aggregates
-    step_operand b c d f = copied (λ v. v) ∙ sym (step_is 0 (first_of_five x.aggregate (j.aggregate (is_text_lem limit meaning l x s j m e)).below b c d f))
+    pub step_operand : p.aggregate ≡ aggregate.Operand → copy_to limit (int_of x.p2) (int_of x.p3) (λ v. v) m ≡ register_arm meaning l m op_agg_step
+    step_operand is = copied (λ v. v) ∙ sym (step_is aggregate.Operand is)
 
-    pub final_integer : x.aggregate ≡ 1 → store_register limit (int_of x.p1) (never_null Integer) m ≡ register_arm meaning l m op_agg_final
-    unfolding aggregate_at aggregates
-    final_integer is = kind_stored Integer x.p1 l.p1 j.p1 ∙ sym (final_is 1 is)
+    pub final_integer : p.aggregate ≡ aggregate.Integer → store_register limit (int_of x.p1) (never_null Integer) m ≡ register_arm meaning l m op_agg_final
+    final_integer is = kind_stored Integer x.p1 l.p1 j.p1 ∙ sym (final_is aggregate.Integer is)
 
-    pub final_real : x.aggregate ≡ 2 → store_register limit (int_of x.p3) (never_null Float) m ≡ register_arm meaning l m op_agg_final
-    unfolding aggregate_at aggregates
-    final_real is = kind_stored Float x.p3 l.p3 j.p3 ∙ sym (final_is 2 is)
+    pub final_real : p.aggregate ≡ aggregate.Real → store_register limit (int_of x.p3) (never_null Float) m ≡ register_arm meaning l m op_agg_final
+    final_real is = kind_stored Float x.p3 l.p3 j.p3 ∙ sym (final_is aggregate.Real is)
 
-    pub final_other : x.aggregate ≡ 4 → copy_to limit (int_of x.p2) (int_of x.p3) from_other_row m ≡ register_arm meaning l m op_agg_final
-    unfolding aggregate_at aggregates
-    final_other is = copied from_other_row ∙ sym (final_is 4 is)
+    pub final_other : p.aggregate ≡ aggregate.OtherRow → copy_to limit (int_of x.p2) (int_of x.p3) from_other_row m ≡ register_arm meaning l m op_agg_final
+    final_other is = copied from_other_row ∙ sym (final_is aggregate.OtherRow is)
 
-    pub final_stays : (x.aggregate ≡ 1 → ⊥) → (x.aggregate ≡ 2 → ⊥) → (x.aggregate ≡ 4 → ⊥) → register_arm meaning l m op_agg_final ≡ done m
-    final_stays b c d =
-        final_is x.aggregate refl ∙ final_same meaning.cell_limit l m x.aggregate (j.aggregate (is_text_lem limit meaning l x s j m e)).below b c d
+    pub final_stays : (p.aggregate ≡ aggregate.Sum) ⊎ (p.aggregate ≡ aggregate.Operand) → register_arm meaning l m op_agg_final ≡ done m
+    final_stays (inl is) = final_is aggregate.Sum is
+    final_stays (inr is) = final_is aggregate.Operand is

@@ -9,11 +9,11 @@ use lib.ListN.{get_or}
 use Rattle.type_info.specs.declared.DataType.{DataType}
 use Rattle.type_info.specs.declared.DataType.TheVariants.{Null, Integer, Float, Text, Blob, Numeric, Bool as Boolean, Int4, Date, Time, Datetime}
 use Rattle.model.specs.Walk.{Tried, refused, done}
-use Rattle.model.specs.State.{Single, RegDataType, Column, map_to_datatype, datatype_code, first_datatype, first_if, is_zero, either_nullable}
+use Rattle.model.specs.State.{Single, RegDataType, Column, map_to_datatype, first_datatype, either_nullable}
 use Rattle.model.specs.RegisterArms.{operands}
 use Rattle.area.specs.declared.Cell.{Cell}
 use Rattle.intmap.specs.declared.IntMap.{IntMap}
-use Rattle.encoding.specs.Decode.{datatypes, nullables}
+use Rattle.encoding.specs.Decode.{nullables}
 use Rattle.state.specs.Reads.{TellsRegister}
 use Rattle.state.specs.declared.Register.{Register}
 use Rattle.state.specs.declared.Register.TheVariants as register
@@ -21,57 +21,11 @@ use Rattle.register_arms.specs.Values.{datatype_of, nullable_of, operands_nullab
 
 -- ---- codes
 
-pub datatype_none : (k : ℕ) → (k ≡ 1 → ⊥) → (k ≡ 2 → ⊥) → (k ≡ 3 → ⊥) → (k ≡ 4 → ⊥) → (k ≡ 5 → ⊥) → (k ≡ 6 → ⊥) → (k ≡ 7 → ⊥) → (k ≡ 8 → ⊥) → (k ≡ 9 → ⊥) → (k ≡ 10 → ⊥) → Null ≡ get_or datatypes k Null
-datatype_none zero a b c d e f g h i j = refl
-datatype_none (suc zero) a b c d e f g h i j = absurd (a refl)
-datatype_none (suc (suc zero)) a b c d e f g h i j = absurd (b refl)
-datatype_none (suc (suc (suc zero))) a b c d e f g h i j = absurd (c refl)
-datatype_none (suc (suc (suc (suc zero)))) a b c d e f g h i j = absurd (d refl)
-datatype_none (suc (suc (suc (suc (suc zero))))) a b c d e f g h i j = absurd (e refl)
-datatype_none (suc (suc (suc (suc (suc (suc zero)))))) a b c d e f g h i j = absurd (f refl)
-datatype_none (suc (suc (suc (suc (suc (suc (suc zero))))))) a b c d e f g h i j = absurd (g refl)
-datatype_none (suc (suc (suc (suc (suc (suc (suc (suc zero)))))))) a b c d e f g h i j = absurd (h refl)
-datatype_none (suc (suc (suc (suc (suc (suc (suc (suc (suc zero))))))))) a b c d e f g h i j = absurd (i refl)
-datatype_none (suc (suc (suc (suc (suc (suc (suc (suc (suc (suc zero)))))))))) a b c d e f g h i j = absurd (j refl)
-datatype_none (suc (suc (suc (suc (suc (suc (suc (suc (suc (suc (suc k))))))))))) a b c d e f g h i j = refl
-
 pub nullable_none : (n : ℕ) → 3 ≤ n → get_or nullables 0 None ≡ get_or nullables n None
 nullable_none zero h = refl
 nullable_none (suc zero) h = absurd (omega arith)
 nullable_none (suc (suc zero)) h = absurd (omega arith)
 nullable_none (suc (suc (suc n))) h = refl
-
--- the larger code
-pub either_second : (a b : ℕ) → a < b → b < 3 → get_or nullables b None ≡ either_nullable (get_or nullables a None) (get_or nullables b None)
-either_second zero b h g = refl
-either_second (suc zero) zero h g = absurd (omega arith)
-either_second (suc zero) (suc zero) h g = absurd (omega arith)
-either_second (suc zero) (suc (suc zero)) h g = refl
-either_second (suc zero) (suc (suc (suc b))) h g = absurd (omega arith)
-either_second (suc (suc a)) b h g = absurd (omega arith)
-
-pub either_first : (a b : ℕ) → b ≤ a → a < 3 → get_or nullables a None ≡ either_nullable (get_or nullables a None) (get_or nullables b None)
-either_first zero zero h g = refl
-either_first zero (suc b) h g = absurd (omega arith)
-either_first (suc zero) zero h g = refl
-either_first (suc zero) (suc zero) h g = refl
-either_first (suc zero) (suc (suc b)) h g = absurd (omega arith)
-either_first (suc (suc zero)) zero h g = refl
-either_first (suc (suc zero)) (suc zero) h g = refl
-either_first (suc (suc zero)) (suc (suc zero)) h g = refl
-either_first (suc (suc zero)) (suc (suc (suc b))) h g = absurd (omega arith)
-either_first (suc (suc (suc a))) b h g = absurd (omega arith)
-
-not-zero : (n : ℕ) → (n ≡ 0 → ⊥) → is_zero n ≡ false
-not-zero zero h = absurd (h refl)
-not-zero (suc n) h = refl
-
-module _ (a b : DataType) (k : ℕ) (e : k ≡ datatype_code a) where
-  pub first_null : k ≡ 0 → b ≡ first_datatype a b
-  first_null z = ap (λ n. first_if (is_zero n) a b) (sym (sym e ∙ z))
-
-  pub first_other : (k ≡ 0 → ⊥) → a ≡ first_datatype a b
-  first_other z = sym (ap (λ t. first_if t a b) (not-zero (datatype_code a) (λ h. z (e ∙ h))))
 
 -- ---- what is read
 

@@ -19,6 +19,7 @@ ghost use Rattle.register_arms.specs.Nulls.{NullsRun};
 ghost use Rattle.register_arms.specs.Values.{IsDatatype, IsNullable, AreNullable};
 
 use intmap::IntMap;
+use opcode::{Aggregate, FunctionValue};
 use refusal::Refusal;
 use rows::Row;
 use state::Register;
@@ -69,42 +70,33 @@ pub fn function(map: IntMap, area: &mut [u8], x: Row, limit: usize) -> Result<In
     requires { Current limit (cells area.old) map × IsRow x }
     ensures { RegisterArm limit (cells area.old) (cells area.new) map x op_function result }
 {
-    if x.text != 1 {
+    let Some(p4) = x.read_p4() else {
         return Err(Refusal::NotUtf8);
-    }
-    if x.function == 0 {
+    };
+    let Some(value) = p4.function else {
         return Ok(map);
+    };
+    match value {
+        FunctionValue::Rowid => {
+            state::store_single(map, area, x.p3, DataType::Integer, state::NEVER, limit)
+        }
+        FunctionValue::Text => {
+            state::store_single(map, area, x.p3, DataType::Text, nullable_by(x.p2), limit)
+        }
+        FunctionValue::Days => {
+            state::store_single(map, area, x.p3, DataType::Float, nullable_by(x.p2), limit)
+        }
+        FunctionValue::Seconds => {
+            state::store_single(map, area, x.p3, DataType::Integer, nullable_by(x.p2), limit)
+        }
     }
-    if x.function == 1 {
-        return state::store_single(map, area, x.p3, DataType::Integer, state::NEVER, limit);
-    }
-    let nullable = nullable_by(x.p2);
-    if x.function == 2 {
-        return state::store_single(map, area, x.p3, DataType::Text, nullable, limit);
-    }
-    if x.function == 3 {
-        return state::store_single(map, area, x.p3, DataType::Float, nullable, limit);
-    }
-    state::store_single(map, area, x.p3, DataType::Integer, nullable, limit)
 }
 
 // The kind of a code.
 pub fn datatype(kind: u64) -> DataType
     ensures { result ≡ get_or datatypes kind Null }
 {
-    match kind {
-        1 => DataType::Integer,
-        2 => DataType::Float,
-        3 => DataType::Text,
-        4 => DataType::Blob,
-        5 => DataType::Numeric,
-        6 => DataType::Bool,
-        7 => DataType::Int4,
-        8 => DataType::Date,
-        9 => DataType::Time,
-        10 => DataType::Datetime,
-        _ => DataType::Null,
-    }
+    DataType::try_from(kind).unwrap_or(DataType::Null)
 }
 
 // The kind of what a register holds: nothing and a record have none, and a known number is an integer.
@@ -149,10 +141,10 @@ pub fn map_to_nullable(r: Option<Register>) -> u64
 pub fn first_datatype(a: DataType, b: DataType) -> DataType
     ensures { result ≡ first_datatype a b }
 {
-    if state::datatype_code(a) == 0 {
-        return b;
+    match a {
+        DataType::Null => b,
+        _ => a,
     }
-    a
 }
 
 // Nullable if one is; what is not known says nothing. The codes rise in this order.
@@ -160,10 +152,7 @@ fn either_nullable(a: u64, b: u64) -> u64
     requires { (a < 3) × (b < 3) }
     ensures { (get_or nullables result None ≡ either_nullable (get_or nullables a None) (get_or nullables b None)) × (result < 3) }
 {
-    if a < b {
-        return b;
-    }
-    a
+    a.max(b)
 }
 
 // Two operands: where one is absent, nothing is known of the other.
@@ -240,27 +229,25 @@ fn other_row(
     state::store_single(map, area, to, map_to_datatype(v), state::NULLABLE, limit)
 }
 
-// AggStep and AggValue: what the aggregate gives in register P3. An aggregate of code 0 gives its operand, which may be a record.
+// AggStep and AggValue: what the aggregate gives in register P3. An operand may be a record.
 pub fn agg_step(map: IntMap, area: &mut [u8], x: Row, limit: usize) -> Result<IntMap, Refusal>
     requires { Current limit (cells area.old) map × IsRow x }
     ensures { RegisterArm limit (cells area.old) (cells area.new) map x op_agg_step result }
 {
-    if x.text != 1 {
+    let Some(p4) = x.read_p4() else {
         return Err(Refusal::NotUtf8);
+    };
+    match p4.aggregate {
+        Aggregate::Integer => {
+            state::store_single(map, area, x.p3, DataType::Integer, state::NEVER, limit)
+        }
+        Aggregate::Real => {
+            state::store_single(map, area, x.p3, DataType::Float, state::NEVER, limit)
+        }
+        Aggregate::Sum => sum(map, area, x.p2, x.p3, limit),
+        Aggregate::OtherRow => other_row(map, area, x.p2, x.p3, limit),
+        Aggregate::Operand => copy_arms::copy_register(map, area, x.p2, x.p3, limit),
     }
-    if x.aggregate == 1 {
-        return state::store_single(map, area, x.p3, DataType::Integer, state::NEVER, limit);
-    }
-    if x.aggregate == 2 {
-        return state::store_single(map, area, x.p3, DataType::Float, state::NEVER, limit);
-    }
-    if x.aggregate == 3 {
-        return sum(map, area, x.p2, x.p3, limit);
-    }
-    if x.aggregate == 4 {
-        return other_row(map, area, x.p2, x.p3, limit);
-    }
-    copy_arms::copy_register(map, area, x.p2, x.p3, limit)
 }
 
 // AggFinal: an integer goes to register P1, a real to register P3; a sum and an operand stay as they are.
@@ -268,19 +255,19 @@ pub fn agg_final(map: IntMap, area: &mut [u8], x: Row, limit: usize) -> Result<I
     requires { Current limit (cells area.old) map × IsRow x }
     ensures { RegisterArm limit (cells area.old) (cells area.new) map x op_agg_final result }
 {
-    if x.text != 1 {
+    let Some(p4) = x.read_p4() else {
         return Err(Refusal::NotUtf8);
+    };
+    match p4.aggregate {
+        Aggregate::Integer => {
+            state::store_single(map, area, x.p1, DataType::Integer, state::NEVER, limit)
+        }
+        Aggregate::Real => {
+            state::store_single(map, area, x.p3, DataType::Float, state::NEVER, limit)
+        }
+        Aggregate::OtherRow => other_row(map, area, x.p2, x.p3, limit),
+        Aggregate::Sum | Aggregate::Operand => Ok(map),
     }
-    if x.aggregate == 1 {
-        return state::store_single(map, area, x.p1, DataType::Integer, state::NEVER, limit);
-    }
-    if x.aggregate == 2 {
-        return state::store_single(map, area, x.p3, DataType::Float, state::NEVER, limit);
-    }
-    if x.aggregate == 4 {
-        return other_row(map, area, x.p2, x.p3, limit);
-    }
-    Ok(map)
 }
 
 // Null in the registers from `from` on where they stand side by side as plain cells, at most n. Gives how many.
@@ -292,14 +279,12 @@ fn null_run(map: IntMap, area: &mut [u8], from: u64, n: u64, limit: usize) -> u6
         return 0;
     };
     let c = state::single(DataType::Null, state::NULLABLE);
-    let mut done: u64 = 0;
-    while done < n {
+    for done in 0..n {
         if !state::overwrite(map, area, p + done as usize, from + done, c) {
             return done;
         }
-        done += 1;
     }
-    done
+    n
 }
 
 // Null in n registers from `from` on, first those that stand side by side; a refusal ends it. Each turn leaves one more register of the range
@@ -316,12 +301,8 @@ fn null_many(
 {
     let first = null_run(map, area, from, n, limit);
     let mut held = map;
-    let mut i = from + first;
-    let mut left = n - first;
-    while 0 < left {
+    for i in from + first..from + n {
         held = state::store_single(held, area, i, DataType::Null, state::NULLABLE, limit)?;
-        i += 1;
-        left -= 1;
     }
     Ok(held)
 }

@@ -61,6 +61,7 @@ fn read_records(catalogue: &[u8], blocks: &mut [u8]) -> usize
 {
     let mut reader = Reader { rest: catalogue };
     let mut n: usize = 0;
+    // A `while`: how many records there are is not known before the last is read.
     while let Some(r) = catalogue::read_record(&mut reader) {
         area::put_cell(blocks, n, block_of(r));
         n += 1;
@@ -76,7 +77,7 @@ fn bucket(blocks: &[u8], page: u64) -> usize
     (page % ((blocks.len() / 16) as u64)) as usize
 }
 
-// The link to the first record in the bucket of a page's word.
+// The link to the first record in the bucket of a page's word, 0 for none: a link is a word of the blocks.
 pub fn first_link(blocks: &[u8], page: u64) -> usize
     requires { (0 < length (cells blocks.now)) × (length (cells blocks.now) ≤ 1048576) }
     ensures { (result ≡ first_of (get_or (cells blocks.now) (page % length (cells blocks.now)) blank)) × (result < 16777216) }
@@ -118,9 +119,7 @@ fn link_records(blocks: &mut [u8], n: usize)
     requires { Inside blocks.old 0 n }
     ensures { CellsNow blocks.old blocks.new (linked_all (cells blocks.old) n) }
 {
-    let mut i = n;
-    while 0 < i {
-        i -= 1;
+    for i in (0..n).rev() {
         link_record(blocks, i);
     }
 }

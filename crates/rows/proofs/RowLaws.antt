@@ -1,39 +1,79 @@
--- A row is read from its cell as it was written; a row judged by its parts; rows stay where their cells do. Assumes nothing.
-use mathlib.Core.Path.{◌≡◌, refl, sym, subst, ◌∙◌}
-use mathlib.Core.Bool.{false, true≢false}
+-- A row is read from its cell as it was written; rows stay where their cells do. Assumes nothing.
+use mathlib.Core.Path.{◌≡◌, refl, sym, ap, subst, ◌∙◌}
+use Rattle.std.specs.Prelude.{Option, None, Some}
 use mathlib.Core.List.{List}
-use Prim.Native.Nat.{ℕ, ◌+◌, ◌<◌, ◌≤◌}
+use Prim.Native.Nat.{ℕ, ◌+◌, ◌/◌, ◌%◌, ◌<◌, ◌≤◌}
 use native.Mathlib.Omega.{arith}
+use lib.Dec.{eqb}
 use lib.ListN.{get_or}
-use Rattle.type_info.specs.Utf8.{is_utf8}
 use Rattle.model.specs.Row.{Row as Listed}
-use Rattle.model.specs.Operation.{operation_of}
-use Rattle.model.specs.Functions.{built_in, function_in, aggregate_of}
 use Rattle.area.specs.Cells.{blank}
 use Rattle.area.specs.declared.Cell.{Cell}
-use Rattle.opcode.specs.Opcode.{IsOpcode}
-use Rattle.opcode.specs.P4.{IsFunction, IsAggregate, JudgedText, Judges}
+use Rattle.opcode.specs.Opcode.{number, operation_at}
+use Rattle.opcode.specs.declared.FunctionValue.{FunctionValue}
+use Rattle.opcode.specs.declared.FunctionValue.TheVariants as function
+use Rattle.opcode.specs.declared.Aggregate.{Aggregate}
+use Rattle.opcode.specs.declared.Aggregate.TheVariants as aggregate
 use Rattle.opcode.specs.declared.P4.{P4}
-use Rattle.opcode.specs.declared.P4.TheVariants.{NotUtf8, Text as Judged-text}
-use Rattle.rows.specs.Rows.{Operand, Fits, cell_of, row_in}
-use Rattle.rows.specs.Judged.{listed, Judged, HaveRows}
+use Rattle.opcode.proofs.Numbers.{read_again, number-below}
+use Rattle.rows.specs.Rows.{Fits, function_number, function_at, aggregate_number, aggregate_at, p4_number, p4_at, p4_if, cell_of, row_in}
+use Rattle.rows.specs.Judged.{Judged, HaveRows}
 use Rattle.rows.specs.declared.Row.{Row}
+
+function_again : (f : Option FunctionValue) → function_at (function_number f) ≡ f
+function_again None = refl
+function_again (Some function.Rowid) = refl
+function_again (Some function.Text) = refl
+function_again (Some function.Days) = refl
+function_again (Some function.Seconds) = refl
+
+function-small : (f : Option FunctionValue) → function_number f < 256
+function-small None = omega arith
+function-small (Some function.Rowid) = omega arith
+function-small (Some function.Text) = omega arith
+function-small (Some function.Days) = omega arith
+function-small (Some function.Seconds) = omega arith
+
+aggregate_again : (a : Aggregate) → aggregate_at (aggregate_number a) ≡ a
+aggregate_again aggregate.Operand = refl
+aggregate_again aggregate.Integer = refl
+aggregate_again aggregate.Real = refl
+aggregate_again aggregate.Sum = refl
+aggregate_again aggregate.OtherRow = refl
+
+aggregate-small : (a : Aggregate) → aggregate_number a < 256
+aggregate-small aggregate.Operand = omega arith
+aggregate-small aggregate.Integer = omega arith
+aggregate-small aggregate.Real = omega arith
+aggregate-small aggregate.Sum = omega arith
+aggregate-small aggregate.OtherRow = omega arith
+
+pub p4-small : (p : Option P4) → p4_number p < 16777216
+p4-small None = omega arith
+p4-small (Some x) = omega (arith, function-small x.function, aggregate-small x.aggregate)
+
+pub p4_again : (p : Option P4) → p4_at (p4_number p) ≡ p
+p4_again None = refl
+p4_again (Some x) =
+    let n = p4_number (Some x) in
+    let f : n / 256 % 256 ≡ function_number x.function = omega (arith, function-small x.function, aggregate-small x.aggregate) in
+    let a : n / 65536 % 256 ≡ aggregate_number x.aggregate = omega (arith, function-small x.function, aggregate-small x.aggregate) in
+    let one : n % 256 ≡ 1 = omega arith in
+    ap (λ k. p4_if (eqb k 1) (record { function = function_at (n / 256 % 256); aggregate = aggregate_at (n / 65536 % 256) })) one
+    ∙ ap (λ g. Some (record { function = g; aggregate = aggregate_at (n / 65536 % 256) })) (ap function_at f ∙ function_again x.function)
+    ∙ ap (λ g. Some (record { function = x.function; aggregate = g })) (ap aggregate_at a ∙ aggregate_again x.aggregate)
 
 module _ (r : Row) (f : Fits r) where
   op_again : (row_in (cell_of r)).op ≡ r.op
-  op_again = omega (arith, f.op)
+  op_again =
+      let n : (cell_of r).head % 256 ≡ number r.op = omega (arith, number-below r.op) in
+      ap operation_at n ∙ read_again r.op
 
-  text_again : (row_in (cell_of r)).text ≡ r.text
-  text_again = omega (arith, f.op, f.text)
-
-  function_again : (row_in (cell_of r)).function ≡ r.function
-  function_again = omega (arith, f.op, f.text, f.function)
-
-  aggregate_again : (row_in (cell_of r)).aggregate ≡ r.aggregate
-  aggregate_again = omega (arith, f.op, f.text, f.function, f.aggregate)
+  p4_same : (row_in (cell_of r)).p4 ≡ r.p4
+  p4_same = omega (arith, number-below r.op, f.p4)
 
   p1_again : (row_in (cell_of r)).p1 ≡ r.p1
-  p1_again = omega (arith, f.op, f.text, f.function, f.aggregate, f.p1.above)
+  p1_again = omega (arith, number-below r.op, f.p4, f.p1.above)
 
   p2_again : (row_in (cell_of r)).p2 ≡ r.p2
   p2_again = omega (arith, f.p2.above, f.p2.below)
@@ -42,75 +82,7 @@ module _ (r : Row) (f : Fits r) where
   p3_again = omega (arith, f.p2.above, f.p2.below, f.p3.above)
 
   pub row_again : row_in (cell_of r) ≡ r
-  row_again = λ i.
-      record {
-        op = op_again i;
-        text = text_again i;
-        function = function_again i;
-        aggregate = aggregate_again i;
-        p1 = p1_again i;
-        p2 = p2_again i;
-        p3 = p3_again i;
-      }
-
--- a row judged by its parts: x is what was said of the P4, and n the operation's number as a word
-module _ (name p4 : List ℕ) (p1 p2 p3 n k : ℕ) (x : P4) (operands : Operand p1 × Operand p2 × Operand p3) (same : n ≡ k) (is : IsOpcode (operation_of name) k) (said : Judges x p4) where
-  opcode_is : IsOpcode (operation_of name) n
-  opcode_is = subst (IsOpcode (operation_of name)) (sym same) is
-
-  abbrev pub row_of : ℕ → ℕ → ℕ → Row
-  row_of text function aggregate = record { op = n; text = text; function = function; aggregate = aggregate; p1 = p1; p2 = p2; p3 = p3 }
-
-  fits : (text function aggregate : ℕ) → text < 2 → function < 5 → aggregate < 5 → Fits (row_of text function aggregate)
-  fits text function aggregate t f a =
-      record {
-        op = omega (arith, opcode_is.below);
-        text = omega (arith, t);
-        function = omega (arith, f);
-        aggregate = omega (arith, a);
-        p1 = operands.0;
-        p2 = operands.1;
-        p3 = operands.2;
-      }
-
-  pub judged_other : x ≡ NotUtf8 → Judged (listed name p1 p2 p3 p4) (row_of 0 0 0)
-  judged_other e =
-      let no : is_utf8 p4 ≡ false = subst (λ y. Judges y p4) e said in
-      record {
-        fits = fits 0 0 0 (omega arith) (omega arith) (omega arith);
-        op = opcode_is;
-        p1 = refl;
-        p2 = refl;
-        p3 = refl;
-        text = sym no;
-        function = λ yes. absurd (true≢false (sym yes ∙ no));
-        aggregate = λ yes. absurd (true≢false (sym yes ∙ no));
-        other = λ none. (refl, refl, refl);
-      }
-
-  module _ (f a f' a' : ℕ) (e : x ≡ Judged-text f a) (sf : f' ≡ f) (sa : a' ≡ a) where
-    text_is : JudgedText f a p4
-    text_is = subst (λ y. Judges y p4) e said
-
-    function_is : IsFunction (function_in built_in p4) f'
-    function_is = subst (IsFunction (function_in built_in p4)) (sym sf) text_is.the_function
-
-    aggregate_is : IsAggregate (aggregate_of p4) a'
-    aggregate_is = subst (IsAggregate (aggregate_of p4)) (sym sa) text_is.the_aggregate
-
-    pub judged_text : Judged (listed name p1 p2 p3 p4) (row_of 1 f' a')
-    judged_text =
-        record {
-          fits = fits 1 f' a' (omega arith) function_is.below aggregate_is.below;
-          op = opcode_is;
-          p1 = refl;
-          p2 = refl;
-          p3 = refl;
-          text = sym text_is.is_text;
-          function = λ yes. function_is;
-          aggregate = λ yes. aggregate_is;
-          other = λ no. absurd (true≢false (sym text_is.is_text ∙ no));
-        }
+  row_again = λ i. record { op = op_again i; p4 = p4_same i; p1 = p1_again i; p2 = p2_again i; p3 = p3_again i }
 
 -- the rows stay where their cells do
 pub rows_kept : (cs ds : List Cell) (from : ℕ) (rows : List Listed) → ((j : ℕ) → from ≤ j → get_or ds j blank ≡ get_or cs j blank) → HaveRows cs from rows → HaveRows ds from rows

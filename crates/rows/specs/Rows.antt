@@ -1,8 +1,15 @@
--- A judged row as a cell of two words: four bytes and an operand in the first, two operands in the second. An operand is a signed number of 32
--- bits; it stands as a word with an offset (`Signed`), and in the cell as its distance from the least. Assumes nothing.
-use Rattle.std.specs.Prelude.{ℕ, ◌+◌, ◌-◌, ◌*◌, ◌/◌, ◌%◌, ◌<◌, ◌≤◌}
+-- A judged row as a cell of two words: four bytes and an operand in the first, two operands in the second. The bytes are the operation's number,
+-- whether P4 is UTF-8, and the numbers of its function and its aggregate. An operand is a signed number of 32 bits; it stands as a word with an
+-- offset (`Signed`), and in the cell as its distance from the least. Assumes nothing.
+use Rattle.std.specs.Prelude.{Bool, true, false, List, [], ◌∷◌, ℕ, ◌+◌, ◌-◌, ◌*◌, ◌/◌, ◌%◌, ◌≡◌, ◌<◌, ◌≤◌, eqb, get_or, Option, None, Some}
 use Rattle.area.specs.Cells.{cell}
 use Rattle.area.specs.declared.Cell.{Cell}
+use Rattle.opcode.specs.declared.FunctionValue.{FunctionValue}
+use Rattle.opcode.specs.declared.FunctionValue.TheVariants as function
+use Rattle.opcode.specs.declared.Aggregate.{Aggregate}
+use Rattle.opcode.specs.declared.Aggregate.TheVariants as aggregate
+use Rattle.opcode.specs.declared.P4.{P4}
+use Rattle.opcode.specs.Opcode.{number, operation_at}
 use Rattle.rows.specs.declared.Row.{Row}
 
 -- the word of −2^31
@@ -15,26 +22,58 @@ pub record Operand (w : ℕ) : Type 0 where
   pub below : w < least + 4294967296
 
 pub record Fits (r : Row) : Type 0 where
-  pub op : r.op < 256
-  pub text : r.text < 256
-  pub function : r.function < 256
-  pub aggregate : r.aggregate < 256
+  pub p4 : r.p4 < 16777216
   pub p1 : Operand r.p1
   pub p2 : Operand r.p2
   pub p3 : Operand r.p3
 
+-- the numbers of a function, and what a number is read as
+abbrev pub function_number : Option FunctionValue → ℕ
+function_number None = 0
+function_number (Some function.Rowid) = 1
+function_number (Some function.Text) = 2
+function_number (Some function.Days) = 3
+function_number (Some function.Seconds) = 4
+
+abbrev pub function_at : ℕ → Option FunctionValue
+function_at n = get_or (None ∷ Some function.Rowid ∷ Some function.Text ∷ Some function.Days ∷ Some function.Seconds ∷ []) n None
+
+-- the same of an aggregate
+abbrev pub aggregate_number : Aggregate → ℕ
+aggregate_number aggregate.Operand = 0
+aggregate_number aggregate.Integer = 1
+aggregate_number aggregate.Real = 2
+aggregate_number aggregate.Sum = 3
+aggregate_number aggregate.OtherRow = 4
+
+abbrev pub aggregate_at : ℕ → Aggregate
+aggregate_at n = get_or (aggregate.Operand ∷ aggregate.Integer ∷ aggregate.Real ∷ aggregate.Sum ∷ aggregate.OtherRow ∷ []) n aggregate.Operand
+
+-- and of a P4, whose last byte says whether it is UTF-8
+abbrev pub p4_number : Option P4 → ℕ
+p4_number None = 0
+p4_number (Some x) = 1 + 256 * function_number x.function + 65536 * aggregate_number x.aggregate
+
+abbrev pub p4_if : Bool → P4 → Option P4
+p4_if true x = Some x
+p4_if false x = None
+
+abbrev pub p4_at : ℕ → Option P4
+p4_at n = p4_if (eqb (n % 256) 1) (record { function = function_at (n / 256 % 256); aggregate = aggregate_at (n / 65536 % 256) })
+
 abbrev pub cell_of : Row → Cell
-cell_of r =
-    cell (r.op + 256 * r.text + 65536 * r.function + 16777216 * r.aggregate + 4294967296 * (r.p1 - least)) (r.p2 - least + 4294967296 * (r.p3 - least))
+cell_of r = cell (number r.op + 256 * r.p4 + 4294967296 * (r.p1 - least)) (r.p2 - least + 4294967296 * (r.p3 - least))
 
 abbrev pub row_in : Cell → Row
 row_in c =
     record {
-      op = c.head % 256;
-      text = c.head / 256 % 256;
-      function = c.head / 65536 % 256;
-      aggregate = c.head / 16777216 % 256;
+      op = operation_at (c.head % 256);
+      p4 = c.head / 256 % 16777216;
       p1 = c.head / 4294967296 + least;
       p2 = c.payload % 4294967296 + least;
       p3 = c.payload / 4294967296 + least;
     }
+
+-- a cell is that of the row that is read from it: its first byte is the operation's own number
+abbrev pub IsWritten : Cell → Type 0
+IsWritten c = c ≡ cell_of (row_in c)

@@ -3,23 +3,29 @@
 
 ghost use Rattle.std.specs.Prelude.{◌≡◌, ◌+◌, get_or, set};
 ghost use Rattle.area.specs.Cells.{blank, cells, Inside, CellsNow};
-ghost use Rattle.rows.specs.Rows.{Operand, Fits, cell_of, row_in};
+ghost use Rattle.rows.specs.Rows.{Operand, Fits, function_number, function_at, aggregate_at, p4_number, p4_at, cell_of, row_in};
 ghost use Rattle.rows.specs.Judged.{listed, Judged};
 
 use area::Cell;
-use opcode::P4;
+use opcode::{Aggregate, FunctionValue, Operation, P4};
 
-// A row whose operation and P4 were judged. The operation is its arm's number; `text` is 1 where P4 is UTF-8, else 0; `function` and
-// `aggregate` say what it is the name of. An operand p stands as p + 2^63.
-#[derive(Clone, Copy)]
+// A row whose operation and P4 were judged. P4 stands as in a cell, since most arms never read it; an operand p stands as p + 2^63.
+#[derive(Clone, Copy, Debug, PartialEq, Eq)]
 pub struct Row {
-    pub op: u64,
-    pub text: u64,
-    pub function: u64,
-    pub aggregate: u64,
+    pub op: Operation,
+    pub p4: u64,
     pub p1: u64,
     pub p2: u64,
     pub p3: u64,
+}
+
+impl Row {
+    // What P4 says, if it is UTF-8.
+    pub fn read_p4(self) -> Option<P4>
+        ensures { result ≡ p4_at self.p4 }
+    {
+        unpack_p4(self.p4)
+    }
 }
 
 // The word of −2^31, the least operand.
@@ -30,50 +36,78 @@ pub fn judge(name: &[u8], p1: u64, p2: u64, p3: u64, p4: &[u8]) -> Row
     requires { Operand p1 × Operand p2 × Operand p3 }
     ensures { Judged (listed name.now p1 p2 p3 p4.now) result }
 {
-    let op = number(opcode::opcode(name));
-    let x = opcode::judge(p4);
-    match x {
-        P4::NotUtf8 => Row {
-            op,
-            text: 0,
-            function: 0,
-            aggregate: 0,
-            p1,
-            p2,
-            p3,
-        },
-        P4::Text {
-            function,
-            aggregate,
-        } => Row {
-            op,
-            text: 1,
-            function: number(function),
-            aggregate: number(aggregate),
-            p1,
-            p2,
-            p3,
-        },
+    Row {
+        op: opcode::opcode(name),
+        p4: pack_p4(opcode::judge(p4)),
+        p1,
+        p2,
+        p3,
     }
 }
 
-fn number(b: u8) -> u64
-    ensures { result ≡ b }
+// A function's number, 0 for none: a byte of the row's cell.
+fn pack_function(f: Option<FunctionValue>) -> u64
+    ensures { result ≡ function_number f }
 {
-    b as u64
+    match f {
+        None => 0,
+        Some(value) => value as u64 + 1,
+    }
 }
 
-// The row in one cell: an operand takes 32 bits, and the other four parts a byte each.
+fn unpack_function(n: u64) -> Option<FunctionValue>
+    ensures { result ≡ function_at n }
+{
+    match n {
+        1 => Some(FunctionValue::Rowid),
+        2 => Some(FunctionValue::Text),
+        3 => Some(FunctionValue::Days),
+        4 => Some(FunctionValue::Seconds),
+        _ => None,
+    }
+}
+
+fn unpack_aggregate(n: u64) -> Aggregate
+    ensures { result ≡ aggregate_at n }
+{
+    match n {
+        1 => Aggregate::Integer,
+        2 => Aggregate::Real,
+        3 => Aggregate::Sum,
+        4 => Aggregate::OtherRow,
+        _ => Aggregate::Operand,
+    }
+}
+
+// A P4 as three bytes: 1 if it is UTF-8, the function's number, and the aggregate's.
+fn pack_p4(p4: Option<P4>) -> u64
+    ensures { result ≡ p4_number p4 }
+{
+    match p4 {
+        None => 0,
+        Some(x) => 1 + 256 * pack_function(x.function) + 65536 * x.aggregate as u64,
+    }
+}
+
+fn unpack_p4(n: u64) -> Option<P4>
+    ensures { result ≡ p4_at n }
+{
+    if n % 256 != 1 {
+        return None;
+    }
+    Some(P4 {
+        function: unpack_function(n / 256 % 256),
+        aggregate: unpack_aggregate(n / 65536 % 256),
+    })
+}
+
+// The row in one cell: an operand takes 32 bits, the operation a byte, and P4 three.
 pub fn pack_row(r: Row) -> Cell
     requires { Fits r }
     ensures { result ≡ cell_of r }
 {
     Cell {
-        head: r.op
-            + 256 * r.text
-            + 65536 * r.function
-            + 16777216 * r.aggregate
-            + 4294967296 * (r.p1 - LEAST),
+        head: r.op as u64 + 256 * r.p4 + 4294967296 * (r.p1 - LEAST),
         payload: (r.p2 - LEAST) + 4294967296 * (r.p3 - LEAST),
     }
 }
@@ -83,10 +117,8 @@ pub fn unpack_row(c: Cell) -> Row
     ensures { result ≡ row_in c }
 {
     Row {
-        op: c.head % 256,
-        text: c.head / 256 % 256,
-        function: c.head / 65536 % 256,
-        aggregate: c.head / 16777216 % 256,
+        op: Operation::from((c.head % 256) as u8),
+        p4: c.head / 256 % 16777216,
         p1: c.head / 4294967296 + LEAST,
         p2: c.payload % 4294967296 + LEAST,
         p3: c.payload / 4294967296 + LEAST,

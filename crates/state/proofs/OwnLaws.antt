@@ -162,14 +162,12 @@ module _ {cs : List Cell} {p at : ℕ} (c : Cell) (ce : c ≡ get_or cs p blank)
   pub below_there : {low : ℕ} → low ≤ p → p ≤ at → b ≡ true → EntryBelow cs low at p
   below_there low high t = record { low = low; high = high; begins = λ _. subst (λ y. 65536 ≤ key_of y) ce (leb-true 65536 (key_of c) (sym be ∙ t)); last = behind }
 
-pub below_at : {cs : List Cell} {low at p : ℕ} → low ≤ p → p ≤ at → (65536 ≤ key_of (get_or cs p blank)) × ((q : ℕ) → p < q → q ≤ at → key_of (get_or cs q blank) < 65536) → EntryBelow cs low at p
-below_at low high it = record { low = low; high = high; begins = λ _. it.0; last = it.1 }
-
-pub below_none : {cs : List Cell} {low at : ℕ} (p : ℕ) → low ≤ at → p ≤ low → ((q : ℕ) → p < q → q ≤ at → key_of (get_or cs q blank) < 65536) → EntryBelow cs low at low
-below_none {low = low} p ordered le last = record { low = omega arith; high = ordered; begins = λ lt. absurd (omega (arith, lt)); last = λ q lt to. last q (omega (arith, le, lt)) to }
+-- of a head that reaches to `at` and `low` the one behind
+pub below_at : {cs : List Cell} {low at p r : ℕ} → low ≤ r → r ≤ at → p ≤ r → (low < r → p ≡ r) → (65536 ≤ key_of (get_or cs p blank)) × ((q : ℕ) → p < q → q ≤ at → key_of (get_or cs q blank) < 65536) → EntryBelow cs low at r
+below_at {cs = cs} low high up same it = record { low = low; high = high; begins = λ lt. subst (λ q. 65536 ≤ key_of (get_or cs q blank)) (same lt) it.0; last = λ q gt to. it.1 q (omega (arith, gt, up)) to }
 
 pub below_last : {cs : List Cell} {low at p : ℕ} → low ≤ at → p ≤ low → NoneFrom cs p at → EntryBelow cs low at low
-below_last {p = p} ordered le n = below_none p ordered le (λ q lt to. n.none q (omega (arith, lt)) to)
+below_last ordered le n = record { low = omega arith; high = ordered; begins = λ lt. absurd (omega (arith, lt)); last = λ q lt to. n.none q (omega (arith, le, lt)) to }
 
 -- a head reaches to `at`
 pub reached_to : {cs : List Cell} {base at p : ℕ} → HeldAmong cs base (at + 1) → base ≤ p → p ≤ at → (c : Cell) → c ≡ get_or cs p blank → Reaches c (at - p) → (65536 ≤ key_of (get_or cs p blank)) × ((q : ℕ) → p < q → q ≤ at → key_of (get_or cs q blank) < 65536)

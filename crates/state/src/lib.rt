@@ -45,38 +45,19 @@ pub const NEVER: u64 = 1;
 
 pub const NULLABLE: u64 = 2;
 
-// The place of a kind among the Rust's variants.
-pub fn datatype_code(d: DataType) -> u64
-    ensures { result ≡ datatype_code d }
-{
-    match d {
-        DataType::Null => 0,
-        DataType::Integer => 1,
-        DataType::Float => 2,
-        DataType::Text => 3,
-        DataType::Blob => 4,
-        DataType::Numeric => 5,
-        DataType::Bool => 6,
-        DataType::Int4 => 7,
-        DataType::Date => 8,
-        DataType::Time => 9,
-        DataType::Datetime => 10,
-    }
-}
-
 // A plain column's cell, under key 0.
 pub fn single(d: DataType, nullable: u64) -> Cell
     requires { nullable < 3 }
     ensures { result ≡ single (datatype_code d) nullable 0 }
 {
     Cell {
-        head: intmap::pack(intmap::SINGLE, datatype_code(d), nullable, 0),
+        head: intmap::pack(intmap::SINGLE, d.code(), nullable, 0),
         payload: 0,
     }
 }
 
 // Where the head of the entry is whose cell at `at` has key k, if that is a record's column and none before it is absent or a record; `base`, if
-// that is outside.
+// that is outside. No Option: both callers look at the first entry then.
 fn head_before(base: usize, at: usize, k: u64) -> usize
     requires { (base ≤ at) × (at ≤ 1048576) }
     ensures { (base ≤ result) × (result ≤ at) }
@@ -105,14 +86,9 @@ fn entry_below(area: &[u8], base: usize, low: usize, at: usize) -> usize
     }
     let head = head_before(base, at, intmap::key_of(c));
     if reaches(area::cell_at(area, head), at - head) {
-        if head < low {
-            return low;
-        }
-        return head;
+        return head.max(low);
     }
-    let mut p = at;
-    while low < p {
-        p -= 1;
+    for p in (low..at).rev() {
         if intmap::begins(area::cell_at(area, p)) {
             return p;
         }
@@ -184,8 +160,7 @@ fn near_last(area: &[u8], base: usize, end: usize, key: u64) -> Option<usize>
     ensures { Guesses (cells area.now) base end key result }
 {
     let mut high = end;
-    let mut left: usize = LAST;
-    while 0 < left {
+    for _ in 0..LAST {
         if high <= base {
             return None;
         }
@@ -198,7 +173,6 @@ fn near_last(area: &[u8], base: usize, end: usize, key: u64) -> Option<usize>
             return None;
         }
         high = p;
-        left -= 1;
     }
     None
 }
@@ -215,8 +189,8 @@ fn near_below(area: &[u8], base: usize, end: usize, p: usize, key: u64) -> Optio
     ensures { Guesses (cells area.now) base end key result }
 {
     let mut q = p;
-    let mut left: usize = GAP;
-    while 0 < left {
+    // As many turns each time: over a range of the cells it is slower.
+    for _ in 0..GAP {
         if q <= base {
             return None;
         }
@@ -231,7 +205,6 @@ fn near_below(area: &[u8], base: usize, end: usize, p: usize, key: u64) -> Optio
                 return None;
             }
         }
-        left -= 1;
     }
     None
 }
@@ -299,13 +272,7 @@ fn probe(low: usize, high: usize, guess: usize, tried: usize) -> usize
     if TRIES <= tried {
         return low + (high - low) / 2;
     }
-    if guess < low {
-        return low;
-    }
-    if high <= guess {
-        return high - 1;
-    }
-    guess
+    guess.clamp(low, high - 1)
 }
 
 // Where a key above k stands, if the entries of all keys between are behind the one at p, which begins with c and has key k, of one cell each.
@@ -349,6 +316,7 @@ fn place(area: &[u8], base: usize, end: usize, key: u64) -> usize
     let mut high = end;
     let mut guess = begins_at(base, end, key);
     let mut tried = passed(key);
+    // Both ends close in, each by as much as a turn finds: no range, and no search of the library's, goes so.
     while low < high {
         let mid = probe(low, high, guess, tried);
         tried += 1;

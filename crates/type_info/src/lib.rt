@@ -151,7 +151,7 @@ impl Affinity {
         }
     }
 
-    // The kind that says the same.
+    // The kind that stands with it. No `From`: NUMERIC gives Null, which is no conversion of it.
     pub fn kind(self) -> DataType
         ensures { result ≡ kind_of_affinity self }
     {

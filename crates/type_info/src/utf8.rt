@@ -57,10 +57,3 @@ fn state_after(state: u8, class: u8) -> u8
 {
     STATES[usize::from(state) * 12 + usize::from(class)]
 }
-
-// A byte as an index or a length.
-pub fn wide(b: u8) -> usize
-    ensures { result ≡ b }
-{
-    usize::from(b)
-}

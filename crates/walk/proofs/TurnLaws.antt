@@ -401,21 +401,18 @@ module _ {p : Program} {blocks xs cols : List ℕ} {w : Walk} {s : MemoryState} 
 
 -- ---- a row that is handled in place
 
--- what is asked for, and what is said, of its number
-pub ready_near : {limit : ℕ} {cs : List Cell} {s : MemoryState} {x : Row} {op : ℕ} → op ≡ x.op → Ready limit cs s x → ReadyAt cs s.row s.map.base (s.map.base + s.map.used) op x.p1 x.p2 x.p3
-ready_near {limit} {s = s} {x} oe ready =
+-- what is asked for
+pub ready_near : {limit : ℕ} {cs : List Cell} {s : MemoryState} {x : Row} → Ready limit cs s x → ReadyAt cs s.row s.map.base (s.map.base + s.map.used) x.op x.p1 x.p2 x.p3
+ready_near {limit} {s = s} {x} ready =
     record {
       limit = limit;
       state = s;
       judged = x;
       ready = ready;
-      number = sym oe;
+      operation = refl;
       operands = record { first = refl; second = refl; third = refl };
       stands = record { on = refl; from = refl; to = refl };
     }
-
-pub number_near : {cs ds : List Cell} {row base end op o i j k n : ℕ} {r : Option ℕ} → op ≡ o → HandlesNear cs ds row base end op i j k n r → HandlesNear cs ds row base end o i j k n r
-number_near {cs} {ds} {row} {base} {end} {i = i} {j} {k} {n} {r} e near = subst (λ z. HandlesNear cs ds row base end z i j k n r) e near
 
 module _ {p : Program} {blocks xs cols : List ℕ} {w : Walk} {s : MemoryState} (st : Standing p blocks xs cols w s) (v : Walk) (e : v ≡ charge_one w) (ys zs : List ℕ) (small : Bytes xs) (less : Bytes ys) (low : Bytes zs) (raised : Raised xs ys (counts_from p) (s.row - offset)) (long : length zs ≡ length ys) (x : Row) (read : x ≡ row_in (get_or (cells ys) (rows_from p + (s.row - offset)) blank)) (handled : ℕ) (is : handled ≡ count_at xs (counts_from p) (s.row - offset)) where
   pub turns_in_place : {next : ℕ} {near : Option ℕ} → near ≡ Some next → HandlesNear (cells ys) (cells zs) s.row s.map.base (s.map.base + s.map.used) x.op x.p1 x.p2 x.p3 p.size near → handled < 3 → Turns p blocks xs zs cols cols w v s (Ok (Some (record { map = s.map; row = next })))

@@ -58,9 +58,8 @@ fn next_in_place(s: MemoryState, area: &mut [u8], x: Row, p: Program) -> Option<
     ensures { HandlesNear (cells area.old) (cells area.new) s.row s.map.base (s.map.base + s.map.used) x.op x.p1 x.p2 x.p3 p.size result }
 {
     let m = s.map;
-    let op = explain::number(x);
     let end = m.base + m.used;
-    in_place::next_row(area, s.row, m.base, end, op, x.p1, x.p2, x.p3, p.size)
+    in_place::next_row(area, s.row, m.base, end, x.op, x.p1, x.p2, x.p3, p.size)
 }
 
 impl Walk {

@@ -1,43 +1,42 @@
--- `explain::cursor`: each number leads to its arm, and NullRow's is left. Assumes nothing.
-use mathlib.Core.Path.{ap}
-use Rattle.opcode.specs.Opcode.{arms, operation_at}
-use Rattle.opcode.proofs.Arms.{NoneOf}
-use Rattle.explain.proofs.NumberLaws.{numbers_from, number-left, cursor_number, read_number}
+-- `explain::cursor`: each operation leads to its arm, and NullRow's is left. Assumes nothing.
+use mathlib.Core.Path.{◌≡◌, refl, ap}
+use mathlib.Core.List.{[], ◌∷◌}
+use native.Mathlib.Omega.{arith}
 use borrow.Author.Rules.{rules}
+use Rattle.opcode.specs.Opcode.{arm_of}
+use Rattle.opcode.specs.declared.Operation.TheVariants.{Column, RowData, Insert, Delete, OpenPseudo, OpenDup, OpenRead, OpenEphemeral, NullRow}
+use Rattle.opcode.proofs.Arms.{numbers_from}
+use Rattle.opcode.proofs.Numbers.{NotThese, number_past, operation_is}
+use Rattle.explain.proofs.NumberLaws.{cursor_number, read_number}
 use Rattle.explain.proofs.cursor.Goals as goal
 
-pub returns-in-33 : goal.returns-in-33
-unfolding operation_at arms
-returns-in-33 c = λ from n. cursor_number c.requires.0.row c.requires.1 (ap operation_at c.in-33.is) (c.column.ensures _)
+pub returns-in-Column : goal.returns-in-Column
+returns-in-Column c = λ from n. cursor_number c.requires.0.row c.requires.1 (ap arm_of c.in-Column.is) (c.column.ensures _)
 
-pub returns-in-34 : goal.returns-in-34
-unfolding operation_at arms
-returns-in-34 c = λ from n. cursor_number c.requires.0.row c.requires.1 (ap operation_at c.in-34.is) (c.row_data.ensures _)
+pub returns-in-RowData : goal.returns-in-RowData
+returns-in-RowData c = λ from n. cursor_number c.requires.0.row c.requires.1 (ap arm_of c.in-RowData.is) (c.row_data.ensures _)
 
-pub returns-in-35 : goal.returns-in-35
-unfolding operation_at arms
-returns-in-35 c = λ from n. cursor_number c.requires.0.row c.requires.1 (ap operation_at c.in-35.is) (c.insert.ensures _)
+pub returns-in-Insert : goal.returns-in-Insert
+returns-in-Insert c = λ from n. cursor_number c.requires.0.row c.requires.1 (ap arm_of c.in-Insert.is) (c.insert.ensures _)
 
-pub returns-in-36 : goal.returns-in-36
-unfolding operation_at arms
-returns-in-36 c = λ from n. cursor_number c.requires.0.row c.requires.1 (ap operation_at c.in-36.is) (c.delete.ensures _ _ c.requires.0.current)
+pub returns-in-Delete : goal.returns-in-Delete
+returns-in-Delete c = λ from n. cursor_number c.requires.0.row c.requires.1 (ap arm_of c.in-Delete.is) (c.delete.ensures _ _ c.requires.0.current)
 
-pub returns-in-37 : goal.returns-in-37
-unfolding operation_at arms
-returns-in-37 c = λ from n. cursor_number c.requires.0.row c.requires.1 (ap operation_at c.in-37.is) (c.open_pseudo.ensures _)
+pub returns-in-OpenPseudo : goal.returns-in-OpenPseudo
+returns-in-OpenPseudo c = λ from n. cursor_number c.requires.0.row c.requires.1 (ap arm_of c.in-OpenPseudo.is) (c.open_pseudo.ensures _)
 
-pub returns-in-38 : goal.returns-in-38
-unfolding operation_at arms
-returns-in-38 c = λ from n. cursor_number c.requires.0.row c.requires.1 (ap operation_at c.in-38.is) (c.open_dup.ensures _)
+pub returns-in-OpenDup : goal.returns-in-OpenDup
+returns-in-OpenDup c = λ from n. cursor_number c.requires.0.row c.requires.1 (ap arm_of c.in-OpenDup.is) (c.open_dup.ensures _)
 
-pub returns-in-39 : goal.returns-in-39
-unfolding operation_at arms
-returns-in-39 c = λ from n. read_number c.requires.0.row c.requires.1 (ap operation_at c.in-39.is) c.open_read.ensures
+pub returns-in-OpenRead : goal.returns-in-OpenRead
+returns-in-OpenRead c = λ from n. read_number c.requires.0.row c.requires.1 (ap arm_of c.in-OpenRead.is) c.open_read.ensures
 
-pub returns-in-40 : goal.returns-in-40
-unfolding operation_at arms
-returns-in-40 c = λ from n. cursor_number c.requires.0.row c.requires.1 (ap operation_at c.in-40.is) c.open_ephemeral.ensures
+pub returns-in-OpenEphemeral : goal.returns-in-OpenEphemeral
+returns-in-OpenEphemeral c = λ from n. cursor_number c.requires.0.row c.requires.1 (ap arm_of c.in-OpenEphemeral.is) c.open_ephemeral.ensures
 
 pub returns-in_default : goal.returns-in_default
-unfolding operation_at arms NoneOf numbers_from
-returns-in_default c = λ from n. cursor_number c.requires.0.row c.requires.1 (number-left 33 8 c.requires.3 c.requires.4 (search rules)) (c.null_row.ensures _ _ c.requires.0.current)
+unfolding NotThese numbers_from
+returns-in_default c =
+    let past = number_past c.args.x.op 33 8 (OpenEphemeral ∷ OpenRead ∷ OpenDup ∷ OpenPseudo ∷ Delete ∷ Insert ∷ RowData ∷ Column ∷ []) refl c.requires.3 (search rules) in
+    let last : c.args.x.op ≡ NullRow = operation_is NullRow (omega (arith, past, c.requires.4)) in
+    λ from n. cursor_number c.requires.0.row c.requires.1 (ap arm_of last) (c.null_row.ensures _ _ c.requires.0.current)

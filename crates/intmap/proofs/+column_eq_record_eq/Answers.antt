@@ -1,10 +1,10 @@
 -- What is left of `column_eq_record_eq`, by the invariant of Invariants.antt. Assumes nothing.
 use mathlib.Core.Path.{sym, ◌∙◌}
 use Prim.Native.Nat.{◌<◌}
-use native.Mathlib.Nat.{add-zero, zero-add}
+use native.Mathlib.Nat.{sub-zero, add-zero, zero-add}
 use native.Mathlib.Omega.{arith}
 use Rattle.area.specs.Cells.{cells}
-use Rattle.intmap.proofs.RunLaws.{size_record, size-pos, sizes_room, sizes-turn, same_size, same-cell, eq_heads, eq_loads, eq_none, eq_single, eq_record, eqs_end, eqs_stop, eqs_turn}
+use Rattle.intmap.proofs.RunLaws.{size_record, size-pos, sizes_room, sizes-turn, same_size, same-cell, eq_heads, eq_loads, eq_none, eq_single, eq_record, eqs_end, eqs_stop, eqs_turn, some_left, one_less, none_left}
 use Rattle.intmap.proofs.+column_eq_record_eq.Goals as goal
 
 pub column_eq-cell_at-x-requires : goal.column_eq-cell_at-x-requires
@@ -43,8 +43,8 @@ column_eq-record_eq-requires t c =
 pub column_eq-returns : goal.column_eq-returns
 column_eq-returns t c = c.record_eq.ensures ∙ eq_record _ _ _ _ _ c.cell_at-x.ensures c.cell_at-y.ensures _ c.if-x-y.false c.if-x-y-2.false (omega (arith, c.if-depth-eq0.false)) c.if-tag-ne-RECORD.false
 
-pub record_eq-loop-left-init : goal.record_eq-loop-left-init
-record_eq-loop-left-init t c = (simp add-zero, simp (add-zero, zero-add), simp (add-zero, zero-add))
+pub record_eq-loop-init : goal.record_eq-loop-init
+record_eq-loop-init t c = (simp (sub-zero, add-zero), simp (sub-zero, add-zero, zero-add), simp (sub-zero, add-zero, zero-add))
 
 pub record_eq-overflow_add-a : goal.record_eq-overflow_add-a
 record_eq-overflow_add-a t c = omega (arith, c.requires.0.fits, c.requires.1.fits, c.requires.0.small)
@@ -54,38 +54,38 @@ record_eq-overflow_add-b t c = omega (arith, c.requires.0.fits, c.requires.1.fit
 
 pub record_eq-column_eq-requires : goal.record_eq-column_eq-requires
 record_eq-column_eq-requires t c =
-    let l = c.loop-left in
-    let ra = sizes_room _ _ _ _ _ c.loop-left-test.true l.invariant.1 in
-    let rb = sizes_room _ _ _ _ _ c.loop-left-test.true l.invariant.2 in
+    let l = c.loop in
+    let ra = sizes_room _ _ _ _ _ (some_left c.loop-test.true) l.invariant.1 in
+    let rb = sizes_room _ _ _ _ _ (some_left c.loop-test.true) l.invariant.2 in
     (omega (arith, c.requires.0), (record { fits = omega (arith, c.requires.0.fits); small = c.requires.0.small }, record { fits = omega (arith, c.requires.1.fits); small = c.requires.0.small }))
 
 pub record_eq-returns-then-not-column_eq : goal.record_eq-returns-then-not-column_eq
 record_eq-returns-then-not-column_eq t c =
-    let l = c.loop-left in
+    let l = c.loop in
     let e = c.column_eq in
-    sym (eqs_stop _ _ _ _ _ c.loop-left-test.true (sym e.ensures ∙ c.if-not-column_eq.true)) ∙ l.invariant.0
+    sym (eqs_stop _ _ _ _ _ (some_left c.loop-test.true) (sym e.ensures ∙ c.if-not-column_eq.true)) ∙ l.invariant.0
 
-pub record_eq-overflow_add-a-in-loop-left : goal.record_eq-overflow_add-a-in-loop-left
-record_eq-overflow_add-a-in-loop-left t c = omega (arith, c.requires.0.fits, c.requires.1.fits, c.requires.0.small)
+pub record_eq-overflow_add-a-in-loop : goal.record_eq-overflow_add-a-in-loop
+record_eq-overflow_add-a-in-loop t c = omega (arith, c.requires.0.fits, c.requires.1.fits, c.requires.0.small)
 
 pub record_eq-count-k-requires : goal.record_eq-count-k-requires
 record_eq-count-k-requires t c =
-    let ra = sizes_room _ _ _ _ _ c.loop-left-test.true c.loop-left.invariant.1 in
+    let ra = sizes_room _ _ _ _ _ (some_left c.loop-test.true) c.loop.invariant.1 in
     record { fits = omega (arith, c.requires.0.fits); small = c.requires.0.small }
 
 pub record_eq-overflow_add-k : goal.record_eq-overflow_add-k
 record_eq-overflow_add-k t c =
-    let ra = sizes_room _ _ _ _ _ c.loop-left-test.true c.loop-left.invariant.1 in
+    let ra = sizes_room _ _ _ _ _ (some_left c.loop-test.true) c.loop.invariant.1 in
     omega (arith, c.requires.0.fits, c.requires.0.small, c.count-k.ensures)
 
-pub record_eq-loop-left-preserved : goal.record_eq-loop-left-preserved
-record_eq-loop-left-preserved t c =
-    let l = c.loop-left in
-    let more = c.loop-left-test.true in
+pub record_eq-loop-preserved : goal.record_eq-loop-preserved
+record_eq-loop-preserved t c =
+    let l = c.loop in
+    let more = some_left c.loop-test.true in
     let e = c.column_eq in
     let same = sym e.ensures ∙ c.if-not-column_eq.false in
     let r = c.count-k.ensures in
-    (eqs_turn _ _ _ _ _ _ _ more same r ∙ l.invariant.0, sizes-turn _ _ _ _ _ _ more r l.invariant.1, sizes-turn _ _ _ _ _ _ more (r ∙ sym (same_size _ _ _ _ same)) l.invariant.2)
+    rw (one_less c.args.n l.counter) (eqs_turn _ _ _ _ _ _ _ more same r ∙ l.invariant.0, sizes-turn _ _ _ _ _ _ more r l.invariant.1, sizes-turn _ _ _ _ _ _ more (r ∙ sym (same_size _ _ _ _ same)) l.invariant.2)
 
 pub record_eq-returns : goal.record_eq-returns
-record_eq-returns t c = eqs_end _ _ _ _ _ c.loop-left-test.false ∙ c.loop-left.invariant.0
+record_eq-returns t c = eqs_end _ _ _ _ _ (none_left c.loop-test.false) ∙ c.loop.invariant.0

@@ -1,6 +1,6 @@
 -- `depth_of` goes over a record's columns, and calls `depth_from` for each, which calls it for a record. The invariant: what was found and the columns
 -- left make the whole, the cells counted and those left are the column's, and what was found is below the depth. The measure is twice the
--- depth, and one more for `depth_from`; the loop's is the number of columns left. Assumes nothing.
+-- depth, and one more for `depth_from`. Assumes nothing.
 use mathlib.Core.Path.{◌≡◌}
 use Prim.Native.Nat.{◌+◌, ◌-◌, ◌≤◌, max}
 use Rattle.area.specs.Cells.{cells}
@@ -14,10 +14,7 @@ decreases-depth_of l = l.depth + l.depth
 abbrev pub decreases-depth_from : goal.decreases-depth_from
 decreases-depth_from l = l.depth + l.depth + 1
 
-abbrev pub invariant-depth_of-loop-left : goal.invariant-depth_of-loop-left
-invariant-depth_of-loop-left l = (max l.best (nestings (cells l.area) (l.depth - 1) l.left (l.at + l.k)) ≡ nestings (cells l.area) (l.depth - 1) l.initial.left (l.at + 1))
-    × (l.k + sizes (size (cells l.area) (l.depth - 1)) l.left (l.at + l.k) ≡ size (cells l.area) l.depth l.at)
+abbrev pub invariant-depth_of-loop : goal.invariant-depth_of-loop
+invariant-depth_of-loop l = (max l.best (nestings (cells l.area) (l.depth - 1) (l.end - l.counter) (l.at + l.k)) ≡ nestings (cells l.area) (l.depth - 1) l.end (l.at + 1))
+    × (l.k + sizes (size (cells l.area) (l.depth - 1)) (l.end - l.counter) (l.at + l.k) ≡ size (cells l.area) l.depth l.at)
     × (l.best ≤ l.depth - 1)
-
-abbrev pub decreases-depth_of-loop-left : goal.decreases-depth_of-loop-left
-decreases-depth_of-loop-left l = l.left

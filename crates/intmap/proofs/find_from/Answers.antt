@@ -1,49 +1,51 @@
 -- What is left of `find_from`, by the invariant of Invariants.antt. Assumes nothing.
 use mathlib.Core.Path.{refl, ◌∙◌}
-use Prim.Native.Nat.{◌<◌}
+use Prim.Native.Nat.{◌-◌, ◌<◌}
+use native.Mathlib.Nat.{sub-zero}
 use native.Mathlib.Omega.{arith}
 use Rattle.area.specs.Cells.{cells}
 use Rattle.intmap.specs.Runs.{size}
-use Rattle.intmap.proofs.RunLaws.{size-pos, sizes_step, sizes_on}
+use Rattle.intmap.proofs.RunLaws.{size-pos, sizes_step, one_less, sizes_on}
 use Rattle.intmap.proofs.FindLaws.{seek_end, seek_here, seek_on}
 use Rattle.intmap.proofs.find_from.Goals as goal
 
-pub loop-rest-init : goal.loop-rest-init
-loop-rest-init c = (refl, c.requires.fits)
+pub loop-passed-init : goal.loop-passed-init
+loop-passed-init c = rw sub-zero (refl, c.requires.fits)
 
 pub cell_at-c-requires : goal.cell_at-c-requires
 cell_at-c-requires c =
     let a = c.args in
     let cs = cells a.area.now in
-    let l = c.loop-rest in
-    let more : 0 < l.rest = omega (arith, c.loop-rest-test.true) in
-    omega (arith, sizes_step (size cs a.depth) l.rest l.p more, size-pos cs a.depth l.p)
+    let l = c.loop-passed in
+    let more : 0 < c.args.n - l.passed = omega (arith, c.loop-passed-test.true) in
+    omega (arith, sizes_step (size cs a.depth) (c.args.n - l.passed) l.p more, size-pos cs a.depth l.p)
 
 pub returns-then-key-k : goal.returns-then-key-k
 returns-then-key-k c =
-    let l = c.loop-rest in
-    let more : 0 < l.rest = omega (arith, c.loop-rest-test.true) in
+    let l = c.loop-passed in
+    let more : 0 < c.args.n - l.passed = omega (arith, c.loop-passed-test.true) in
     seek_here _ _ _ _ _ _ more c.cell_at-c.ensures c.if-key-k.true ∙ l.invariant.0
 
 pub count_from-p-requires : goal.count_from-p-requires
 count_from-p-requires c =
-    let l = c.loop-rest in
-    let more : 0 < l.rest = omega (arith, c.loop-rest-test.true) in
-    (record { fits = omega (arith, sizes_step (size (cells c.args.area.now) c.args.depth) l.rest l.p more, l.invariant.1); small = c.requires.small }, c.cell_at-c.ensures)
+    let l = c.loop-passed in
+    let more : 0 < c.args.n - l.passed = omega (arith, c.loop-passed-test.true) in
+    (record { fits = omega (arith, sizes_step (size (cells c.args.area.now) c.args.depth) (c.args.n - l.passed) l.p more, l.invariant.1); small = c.requires.small }, c.cell_at-c.ensures)
 
 pub overflow_add-p : goal.overflow_add-p
 overflow_add-p c =
-    let l = c.loop-rest in
-    let more : 0 < l.rest = omega (arith, c.loop-rest-test.true) in
-    omega (arith, sizes_on (size (cells c.args.area.now) c.args.depth) l.rest l.p c.count_from-p.result _ more c.count_from-p.ensures l.invariant.1, c.requires.small)
+    let l = c.loop-passed in
+    let more : 0 < c.args.n - l.passed = omega (arith, c.loop-passed-test.true) in
+    omega (arith, sizes_on (size (cells c.args.area.now) c.args.depth) (c.args.n - l.passed) l.p c.count_from-p.result _ more c.count_from-p.ensures l.invariant.1, c.requires.small)
 
-pub loop-rest-preserved : goal.loop-rest-preserved
-loop-rest-preserved c =
-    let l = c.loop-rest in
-    let more : 0 < l.rest = omega (arith, c.loop-rest-test.true) in (
+pub loop-passed-preserved : goal.loop-passed-preserved
+loop-passed-preserved c =
+    let l = c.loop-passed in
+    let more : 0 < c.args.n - l.passed = omega (arith, c.loop-passed-test.true) in
+    rw (one_less c.args.n l.passed) (
       seek_on _ _ _ _ _ _ _ more c.cell_at-c.ensures c.if-key-k.false c.count_from-p.ensures ∙ l.invariant.0,
       sizes_on _ _ _ _ _ more c.count_from-p.ensures l.invariant.1,
     )
 
 pub returns : goal.returns
-returns c = seek_end _ _ _ _ _ (omega (arith, c.loop-rest-test.false)) ∙ c.loop-rest.invariant.0
+returns c = seek_end _ _ _ _ _ (omega (arith, c.loop-passed-test.false)) ∙ c.loop-passed.invariant.0

@@ -1,6 +1,6 @@
--- `from_elem` writes one cell a turn. The invariant: k of them stand, and the rest is as it was. The measure is how many are left. Assumes nothing.
+-- `from_elem` writes one cell a turn. The invariant: k of them stand, and the rest is as it was. Assumes nothing.
 use mathlib.Core.Path.{◌≡◌}
-use Prim.Native.Nat.{◌-◌, ◌≤◌}
+use Prim.Native.Nat.{◌≤◌}
 use lib.ListN.{length}
 use Rattle.area.specs.Cells.{cells}
 use Rattle.intmap.proofs.ChangeLaws.{Elems}
@@ -8,6 +8,3 @@ use Rattle.intmap.proofs.from_elem.Given as goal
 
 abbrev pub invariant-loop-k : goal.invariant-loop-k
 invariant-loop-k l = (length l.area ≡ length l.initial.area) × (l.k ≤ l.n) × Elems (cells l.initial.area) (cells l.area) l.at l.c l.k
-
-abbrev pub decreases-loop-k : goal.decreases-loop-k
-decreases-loop-k l = l.n - l.k

@@ -1,10 +1,12 @@
 -- What is left of `null_run`, by the invariant of Invariants.antt. Assumes nothing.
 use Rattle.std.specs.Prelude.{Ok}
-use mathlib.Core.Path.{refl, ap, ◌∙◌}
+use mathlib.Core.Path.{◌≡◌, refl, ap, subst, ◌∙◌}
 use native.Mathlib.Omega.{arith}
 use borrow.Author.Rules.{rules}
+use Rattle.area.specs.Cells.{cells}
 use Rattle.intmap.specs.Pack.{tag_of}
 use Rattle.state.proofs.LeadsLaws.{current_held}
+use Rattle.register_arms.specs.Nulls.{NullsRun}
 use Rattle.register_arms.proofs.RunLaws.{run_none, nulling_first, nulling_stop, nulling_on}
 use Rattle.register_arms.proofs.null_run.Goals as goal
 
@@ -32,14 +34,8 @@ overwrite-requires c = (current_held c.loop-done.invariant.1.current, c.loop-don
 pub returns-then-not-overwrite : goal.returns-then-not-overwrite
 returns-then-not-overwrite c = nulling_stop c.loop-done.invariant.1 c.overwrite.ensures c.if-not-overwrite.true
 
-pub overflow_add-done : goal.overflow_add-done
-overflow_add-done c = omega (arith, c.loop-done-test.true, c.requires.1)
-
-pub loop-done-smaller : goal.loop-done-smaller
-loop-done-smaller c = omega (arith, c.loop-done-test.true)
-
 pub loop-done-preserved : goal.loop-done-preserved
 loop-done-preserved c = (search rules, nulling_on c.loop-done.invariant.1 c.overwrite.ensures c.requires.0 c.loop-done-test.true c.single-c.ensures c.if-not-overwrite.false)
 
 pub returns : goal.returns
-returns c = c.loop-done.invariant.1.run
+returns c = let all : c.loop-done.done ≡ c.args.n = omega (arith, c.loop-done-test.false) in subst (λ d. NullsRun c.args.limit (cells c.args.area.now) (cells c.loop-done.area) c.args.map c.args.from c.args.n d) all c.loop-done.invariant.1.run

@@ -1,16 +1,20 @@
 -- `rows::judge` puts the answers about the name and the P4 together. Assumes nothing.
-use Rattle.rows.proofs.RowLaws.{judged_other, judged_text}
+use mathlib.Core.Path.{refl, sym, subst, ap, ◌∙◌}
+use Prim.Native.Nat.{◌<◌}
+use Rattle.opcode.specs.P4.{Judges}
+use Rattle.rows.specs.Rows.{p4_number, p4_at}
+use Rattle.rows.proofs.RowLaws.{p4-small, p4_again}
 use Rattle.rows.proofs.judge.Goals as goal
 
-pub returns-in-NotUtf8 : goal.returns-in-NotUtf8
-returns-in-NotUtf8 c =
-    let a = c.args in
-    judged_other a.name.now a.p4.now a.p1 a.p2 a.p3 c.number-op.result c.opcode.result c.judge-x.result c.requires
-    c.number-op.ensures c.opcode.ensures c.judge-x.ensures c.in-NotUtf8.is
-
-pub returns-in-Text : goal.returns-in-Text
-returns-in-Text c =
-    let a = c.args in
-    judged_text a.name.now a.p4.now a.p1 a.p2 a.p3 c.number-op.result c.opcode.result c.judge-x.result c.requires
-    c.number-op.ensures c.opcode.ensures c.judge-x.ensures _ _ c.number.result c.number-in-Text.result c.in-Text.is
-    c.number.ensures c.number-in-Text.ensures
+pub returns : goal.returns
+returns c =
+    let p4 = c.judge.result in
+    record {
+      fits = record { p4 = subst (λ n. n < 16777216) (sym c.pack_p4.ensures) (p4-small p4); p1 = c.requires.0; p2 = c.requires.1; p3 = c.requires.2 };
+      op = c.opcode.ensures;
+      p1 = refl;
+      p2 = refl;
+      p3 = refl;
+      p4 = subst (λ j. Judges j c.args.p4.now) (sym (ap p4_at c.pack_p4.ensures ∙ p4_again p4)) c.judge.ensures;
+      written = c.pack_p4.ensures ∙ ap p4_number (sym (ap p4_at c.pack_p4.ensures ∙ p4_again p4));
+    }

@@ -1,6 +1,6 @@
 -- What is left of `entry_below`, by the invariant of Invariants.antt. Assumes nothing.
 use native.Mathlib.Omega.{arith}
-use Rattle.state.proofs.OwnLaws.{among_inside, none_there, below_there, below_at, below_none, below_last, reached_to}
+use Rattle.state.proofs.OwnLaws.{among_inside, none_there, below_there, below_at, below_last, reached_to}
 use Rattle.state.proofs.entry_below.Goals as goal
 
 pub cell_at-c-requires : goal.cell_at-c-requires
@@ -15,11 +15,8 @@ head_before-head-requires c = let i = among_inside c.requires.0 in omega (arith,
 pub cell_at-requires : goal.cell_at-requires
 cell_at-requires c = let i = among_inside c.requires.0 in omega (arith, i.0, i.1, c.head_before-head.ensures.1)
 
-pub returns-then-head-low : goal.returns-then-head-low
-returns-then-head-low c = below_none _ c.requires.2 (omega (arith, c.if-head-low.true)) (reached_to c.requires.0 c.head_before-head.ensures.0 c.head_before-head.ensures.1 _ c.cell_at.ensures (c.reaches.ensures c.if-reaches.true)).1
-
 pub returns-then-reaches : goal.returns-then-reaches
-returns-then-reaches c = below_at (omega (arith, c.if-head-low.false)) c.head_before-head.ensures.1 (reached_to c.requires.0 c.head_before-head.ensures.0 c.head_before-head.ensures.1 _ c.cell_at.ensures (c.reaches.ensures c.if-reaches.true))
+returns-then-reaches c = below_at (omega (arith, c.max.ensures)) (omega (arith, c.max.ensures, c.requires.2, c.head_before-head.ensures.1)) (omega (arith, c.max.ensures)) (λ lt. omega (arith, lt, c.max.ensures)) (reached_to c.requires.0 c.head_before-head.ensures.0 c.head_before-head.ensures.1 _ c.cell_at.ensures (c.reaches.ensures c.if-reaches.true))
 
 pub loop-p-init : goal.loop-p-init
 loop-p-init c = (c.requires.2, omega arith, none_there _ c.cell_at-c.ensures _ c.begins.ensures (λ q gt le. absurd (omega (arith, gt, le))) c.if-begins.false)

@@ -7,7 +7,7 @@ use Rattle.encoding.proofs.Packing.{code_small}
 use Rattle.state.proofs.single.Goals as goal
 
 pub pack-requires : goal.pack-requires
-pack-requires c = record { tag_small = omega arith; kind_small = omega (arith, c.datatype_code.ensures, code_small c.args.d); nullable_small = omega arith; key_small = omega arith }
+pack-requires c = record { tag_small = omega arith; kind_small = omega (arith, c.code.ensures, code_small c.args.d); nullable_small = omega arith; key_small = omega arith }
 
 pub returns : goal.returns
-returns c = ap (λ h. cell h 0) (c.pack.ensures ∙ ap (λ k. head 1 k c.args.nullable 0) c.datatype_code.ensures)
+returns c = ap (λ h. cell h 0) (c.pack.ensures ∙ ap (λ k. head 1 k c.args.nullable 0) c.code.ensures)
