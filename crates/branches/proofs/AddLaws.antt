@@ -13,6 +13,7 @@ use Rattle.area.proofs.CellLaws.{length-cells, cells-kept}
 use Rattle.intmap.specs.Runs.{Agree}
 use Rattle.intmap.specs.Map.{runs_at, IsMap}
 use Rattle.intmap.proofs.MapLaws.{placed, placed_map, placed_runs}
+use Rattle.intmap.proofs.StoreLaws.{few_entries}
 use Rattle.encoding.proofs.Held.{held_used}
 use Rattle.state.specs.Steps.{HoldsState}
 use Rattle.state.specs.declared.MemoryState.{MemoryState}
@@ -28,7 +29,6 @@ use Rattle.branches.proofs.HashLaws.{hashes_equal}
 use Rattle.branches.proofs.BlockLaws.{end_at, Apart, blocks_low, blocks_span, blocks_apart, blocks_same, waiting_same, waiting_low}
 use Rattle.branches.proofs.PathLaws.{Adds, path_kept, path_more}
 use Rattle.branches.proofs.RememberLaws.{Bytes, counted-kept, SameBlock, kept_same, way_same}
-use Rattle.branches.proofs.SaveLaws.{map_few}
 use Rattle.branches.proofs.SearchLaws.{at_equal, equal_at, known-true, known-false}
 
 -- where a state ends that is added, the list with it, and what is kept of it
@@ -141,7 +141,7 @@ module _
       most = omega (arith, ok.offers.most, r.limited)
 
       len_most : s.map.len ≤ 65535
-      len_most = omega (arith, most, map_few (cells xs) s.map ok.offers.map)
+      len_most = omega (arith, most, few_entries (cells xs) s.map ok.offers.map)
 
       used_new : used_at (cells ys) b.top ≡ s.map.used
       used_new = used_part (cells ys) b.top _ _ _ sizes_new len_most most

@@ -9,10 +9,9 @@ use Rattle.area.proofs.CellLaws.{cells-kept}
 use Rattle.area.proofs.MoveLaws.{moved_below, moved_above, moved_in}
 use Rattle.area.proofs.CountLaws.{count_same}
 use Rattle.intmap.specs.Runs.{Agree}
-use Rattle.intmap.specs.Map.{levels, runs_at, IsMap, HasRoom, CopiedMap}
+use Rattle.intmap.specs.Map.{runs_at, IsMap, HasRoom, CopiedMap}
 use Rattle.intmap.specs.Signed.{int_of}
 use Rattle.intmap.specs.declared.IntMap.{IntMap}
-use Rattle.intmap.proofs.EntryLaws.{entries_few}
 use Rattle.intmap.proofs.MapLaws.{placed, placed_map, placed_runs, placed_room}
 use Rattle.encoding.proofs.Held.{held-copied, held_elsewhere}
 use Rattle.state.specs.Leads.{HoldsMap}
@@ -23,10 +22,6 @@ use Rattle.branches.specs.Lists.{Loads}
 use Rattle.branches.specs.Changes.{Savable, Saves, Linkable, Connects, Loadable}
 use Rattle.branches.proofs.HeaderLaws.{child-read, third_there, third_other, third_fits}
 use Rattle.branches.proofs.RememberLaws.{Bytes, counted_same}
-
--- a map has no more entries than cells
-pub map_few : (cs : List Cell) (m : IntMap) → IsMap cs m → m.len ≤ m.used
-map_few cs m is = omega (arith, entries_few cs levels m.len m.base, is.used)
 
 -- ---- save: bs is the area with the map copied, ds with the counts, es with the first header cell
 module _
@@ -139,9 +134,6 @@ module _ (xs : List ℕ) (p bits q s : ℕ) (c : Cell) (ok : Linkable xs p bits 
               };
           bytes = put.bytes;
         }
-
-pub linked-none : (xs : List ℕ) (p bits q : ℕ) → p ≡ 0 → Connects xs xs p bits q
-linked-none xs p bits q e = record { none = λ z. refl; linked = λ ne. absurd (ne e); bytes = refl }
 
 -- ---- load: bs is the area with the map copied
 module _

@@ -32,11 +32,11 @@ use Rattle.intmap.proofs.EntryLaws.{opened}
 use Rattle.intmap.proofs.RunLaws.{size-pos, size_record}
 use Rattle.encoding.specs.Encode.{run_column, run_columns}
 use Rattle.rows.specs.Judged.{Judged}
-use Rattle.rows.specs.declared.Row.{Row}
+use Rattle.rows.specs.declared.row.Row.{Row}
 use Rattle.state.specs.Leads.{Current, HoldsMap, Tells, Leads}
 use Rattle.state.specs.Arms.{Standard, CursorArm}
+use Rattle.state.proofs.LeadsLaws.{unchanged}
 use Rattle.cursor_arms.specs.StandsFor.{TellsColumns, FindsCursor}
-use Rattle.cursor_arms.proofs.DupLaws.{frame_same}
 use Rattle.cursor_arms.proofs.StandsLaws.{cursor_led, cursor_tells}
 use Rattle.column_arms.specs.Columns.{ColumnsAt, FindsColumn, StoresRun, store_column, store_row, LeadsWith}
 use Rattle.column_arms.proofs.ColumnLaws.{behind_size}
@@ -44,16 +44,6 @@ use Rattle.column_arms.proofs.ColumnLaws.{behind_size}
 -- ---- what is stored where nothing was written over
 
 module _ {limit : ℕ} {cs es : List Cell} (same : es ≡ cs) (a : IntMap) (at : ℕ) (c : Cell) where
-  pub still_headed : Current limit cs a → a.base ≤ at → at + size cs levels at ≤ a.base + a.used → tag_of c ≡ tag_of (get_or cs at blank) → c.payload ≡ (get_or cs at blank).payload
-      → Current limit es a × (a.base ≤ at) × (at + size es levels at ≤ a.base + a.used) × (tag_of c ≡ tag_of (get_or es at blank)) × (c.payload ≡ (get_or es at blank).payload)
-  still_headed current above below tag number =
-      subst (λ l. Current limit l a × (a.base ≤ at) × (at + size l levels at ≤ a.base + a.used) × (tag_of c ≡ tag_of (get_or l at blank)) × (c.payload ≡ (get_or l at blank).payload)) (sym same)
-      (current, above, below, tag, number)
-
-  pub still_storable : Current limit cs a → a.base ≤ at → at + size cs levels at ≤ a.base + a.used → c ≡ get_or cs at blank
-      → Current limit es a × (a.base ≤ at) × (at + size es levels at ≤ a.base + a.used) × (tag_of c ≡ tag_of (get_or es at blank)) × (c.payload ≡ (get_or es at blank).payload)
-  still_storable current above below ce = still_headed current above below (ap (λ (y : Cell). tag_of y) ce) (ap (λ (y : Cell). y.payload) ce)
-
   pub still_stored : {ds : List Cell} {j : ℕ} {r : Stored} → StoresRun limit es ds a at c j r → StoresRun limit cs ds a at c j r
   still_stored {ds} {j} {r} st = subst (λ l. StoresRun limit l ds a at c j r) same st
 
@@ -65,27 +55,18 @@ module _ (limit : ℕ) (cs : List Cell) (a : IntMap) (at : ℕ) (current : Curre
     found : FindsColumn cs at k (Ok (Some q))
     found = subst (FindsColumn cs at k) f finds
 
-    pub column_inside : (a.base ≤ q) × (q + size cs levels q ≤ a.base + a.used)
-    column_inside = (omega (arith, found.within.0, above), omega (arith, found.within.1, below))
-
-    pub column_place : q + 1 ≤ length cs
-    column_place = omega (arith, column_inside.1, size-pos cs levels q, current.room.room, current.room.most)
-
   module _ (i j : ℕ) (x : Index) (judges : Judges i x) where
     abbrev chosen : MemoryState → Columns → Tried ℕ → Tried MemoryState
     chosen m y t = (t >>= λ k. done (or_else default (get k (entries y)))) >>= λ v. store_register limit (int_of j) (Column v) m
 
     pub column_index : (n : Refusal) → x ≡ Err n → LeadsWith limit cs cs a at (Err n) (store_column limit (int_of i) (int_of j))
     unfolding store_column column_of
-    column_index n e = record { says = λ bound m le h y behind. ap (chosen m y) (sym judges.answer ∙ ap index_of e); leaves = tt; frame = frame_same cs _ _ }
+    column_index n e = record { says = λ bound m le h y behind. ap (chosen m y) (sym judges.answer ∙ ap index_of e); leaves = tt; frame = unchanged cs _ _ }
 
     module _ (k : ℕ) (e : x ≡ Ok k) (s : Slot) (finds : FindsColumn cs at k s) where
       is_column : (m : MemoryState) (y : Columns) (o : Option ColumnType) → get k (entries y) ≡ o → store_register limit (int_of j) (Column (or_else default o)) m ≡ store_column limit (int_of i) (int_of j) (Some y) m
       unfolding store_column column_of
       is_column m y o f = ap (λ u. store_register limit (int_of j) (Column (or_else default u)) m) (sym f) ∙ sym (ap (chosen m y) (sym judges.answer ∙ ap index_of e))
-
-      pub column_bad : (n : Refusal) → s ≡ Err n → LeadsWith limit cs cs a at (Err n) (store_column limit (int_of i) (int_of j))
-      column_bad n f = record { says = λ bound m le h y behind. absurd ((subst (FindsColumn cs at k) f finds).says y behind); leaves = tt; frame = frame_same cs _ _ }
 
       pub column_absent : s ≡ (Ok None) → (ds : List Cell) (r : Stored) → Leads limit cs ds a r (store_register limit (int_of j) (Column default)) → LeadsWith limit cs ds a at r (store_column limit (int_of i) (int_of j))
       column_absent f ds r st =
@@ -179,9 +160,6 @@ module _ (limit : ℕ) (cs : List Cell) (a : IntMap) (x : Row) (current : Curren
     pub head_below : p + size cs levels p ≤ a.base + a.used
     head_below = omega (arith, (cursor_led cs a arm_map p x.p1 s found e).below, size_record cs 9 p (get_or cs p blank) refl (omega arith) head_tag)
 
-    pub head_place : p + 1 ≤ length cs
-    head_place = omega (arith, head_below, size-pos cs levels p, arm_map.inside)
-
   module _ (o : CursorOperation) (f : Option Columns → MemoryState → Tried MemoryState) (goes : (row : ℕ) → GoesOn limit row x o f) where
     told : (t : Slot) → s ≡ t → (bound : ℕ) (m : MemoryState) → HoldsMap limit bound cs a m → TellsColumns cs a t (read_cursor (int_of x.p1) m >>= λ c. cursor_columns c m)
     told t e bound m h = subst (λ y. TellsColumns cs a y (read_cursor (int_of x.p1) m >>= λ c. cursor_columns c m)) e (cursor_tells h x.p1 s found)
@@ -189,35 +167,26 @@ module _ (limit : ℕ) (cs : List Cell) (a : IntMap) (x : Row) (current : Curren
     pub arm_bad : (n : Refusal) → s ≡ Err n → (row : ℕ) → CursorArm limit cs cs a row x o (Err n)
     arm_bad n e row =
         record {
-          leads = λ meaning l st j.
-              record {
-                says = λ bound m le h. sym (goes row meaning l st j m) ∙ ap (λ t. t >>= λ y. f y m) (told (Err n) e bound m h);
-                leaves = tt;
-                frame = frame_same cs _ _;
-              };
+          says = λ meaning l st j bound m le h. sym (goes row meaning l st j m) ∙ ap (λ t. t >>= λ y. f y m) (told (Err n) e bound m h);
+          leaves = tt;
+          frame = unchanged cs _ _;
         }
 
     pub arm_absent : s ≡ (Ok None) → (ds : List Cell) (r : Stored) → Leads limit cs ds a r (f None) → (row : ℕ) → CursorArm limit cs ds a row x o r
     arm_absent e ds r led row =
         record {
-          leads = λ meaning l st j.
-              record {
-                says = λ bound m le h. subst (Tells limit bound ds r) (sym (ap (λ t. t >>= λ y. f y m) (told (Ok None) e bound m h)) ∙ goes row meaning l st j m) (led.says bound m le h);
-                leaves = led.leaves;
-                frame = led.frame;
-              };
+          says = λ meaning l st j bound m le h. subst (Tells limit bound ds r) (sym (ap (λ t. t >>= λ y. f y m) (told (Ok None) e bound m h)) ∙ goes row meaning l st j m) (led.says bound m le h);
+          leaves = led.leaves;
+          frame = led.frame;
         }
 
     pub arm_there : (p : ℕ) → s ≡ Ok (Some p) → (ds : List Cell) (r : Stored) → LeadsWith limit cs ds a p r f → (row : ℕ) → CursorArm limit cs ds a row x o r
     arm_there p e ds r led row =
         record {
-          leads = λ meaning l st j.
-              record {
-                says = λ bound m le h.
-                    (let y = told (Ok (Some p)) e bound m h in
-                    subst (Tells limit bound ds r) (sym (ap (λ t. t >>= λ z. f z m) y.answer) ∙ goes row meaning l st j m)
-                    (led.says bound m le h y.columns (record { depth = y.depth; sorted = y.sorted; number = y.number; stands = y.stands })));
-                leaves = led.leaves;
-                frame = led.frame;
-              };
+          says = λ meaning l st j bound m le h.
+              (let y = told (Ok (Some p)) e bound m h in
+              subst (Tells limit bound ds r) (sym (ap (λ t. t >>= λ z. f z m) y.answer) ∙ goes row meaning l st j m)
+              (led.says bound m le h y.columns (record { depth = y.depth; sorted = y.sorted; number = y.number; stands = y.stands })));
+          leaves = led.leaves;
+          frame = led.frame;
         }

@@ -26,7 +26,7 @@ use Rattle.intmap.specs.Runs.{size, sizes, IsColumn, AreColumns}
 use Rattle.intmap.specs.Swap.{lookup}
 use Rattle.intmap.specs.declared.Found.{Found}
 use Rattle.intmap.specs.declared.IntMap.{IntMap}
-use Rattle.intmap.proofs.EntryLaws.{length-span, total-sizes}
+use Rattle.intmap.proofs.EntryLaws.{length-span, total-sizes, entries_few}
 use Rattle.intmap.proofs.FindLaws.{found_within, found-whole}
 use Rattle.intmap.proofs.RunLaws.{size-pos, size-single, size_record}
 use Rattle.intmap.proofs.Swapped.{seek_some, seek_none}
@@ -36,7 +36,6 @@ use Rattle.encoding.proofs.Lengths.{length-flatten, count_runs}
 use Rattle.encoding.proofs.Standing.{entries_stand, column_whole, columns_whole}
 use Rattle.encoding.proofs.StateRuns.{get_column}
 use Rattle.encoding.proofs.Flat.{Rise, rise_columns, direct, flat_sizes}
-use Rattle.encoding.proofs.Places.{sizes-many}
 use Rattle.state.specs.Own.{is_flat}
 use Rattle.state.proofs.OwnLaws.{flat_told}
 use Rattle.column_arms.specs.Columns.{columns_in, counted, ColumnsAt, DirectAt, IsColumnAt, FindsColumn}
@@ -218,7 +217,7 @@ module _ (cs : List Cell) (a : IntMap) (p key : ℕ) (is : IsColumn cs levels p)
         says = λ x at.
             (let w = sought_there x at in
             is_there cs key q _ (there cs p x at key q (seek_some cs 8 key n (p + 1) w.1 ∙ ap (λ k. Some (span cs k (size cs 8 k))) w.0)));
-        within = (omega arith, omega (arith, own_size, behind cs p is tag c ce, sizes-many cs 8 c.payload (p + 1), near.below));
+        within = (omega arith, omega (arith, own_size, behind cs p is tag c ce, entries_few cs 8 c.payload (p + 1), near.below));
       }
 
 pub direct_place : (cs : List Cell) (a : IntMap) (p n key : ℕ) → is_flat cs a p n ≡ true → key < n → p + 1 + key < a.base + a.used

@@ -1,9 +1,8 @@
 -- A run stored in a register: behind the map that of an entry, with another head, and an empty record; a cell alone; and a record of plain
 -- columns put over another where that stands. Assumes nothing.
 use Rattle.refusal.specs.declared.Refusal.TheVariants.{TooManyCells}
-use Rattle.refusal.specs.Numbers.{number_of}
 use Rattle.refusal.specs.declared.Refusal.{Refusal}
-use Rattle.std.specs.Prelude.{Ok, Err}
+use Rattle.std.specs.Prelude.{None, Ok, Err}
 use mathlib.Core.Path.{◌≡◌, refl, sym, ap, ap₂, subst, ◌∙◌}
 use mathlib.Core.Bool.{Bool, true, false}
 use mathlib.Core.List.{List, [], ◌∷◌, flatten}
@@ -20,7 +19,7 @@ use Rattle.model.specs.Cells.{column_cells, register_cells, cells, column_depth,
 use Rattle.model.specs.Access.{◌>>=◌, judge_depth, cells_if, judge_cells, with_registers, store_register}
 use Rattle.model.specs.Good.{SortedColumn}
 use Rattle.model.proofs.IntMap.{total_insert}
-use Rattle.area.specs.Cells.{blank, cell, cells as area_cells, Inside}
+use Rattle.area.specs.Cells.{blank, cell}
 use Rattle.area.specs.declared.Cell.{Cell}
 use Rattle.intmap.specs.Change.{on_head}
 use Rattle.intmap.specs.Depth.{nesting}
@@ -31,7 +30,7 @@ use Rattle.intmap.specs.Over.{Plain}
 use Rattle.intmap.specs.Pack.{head, tag_of, with_nullable}
 use Rattle.intmap.specs.Runs.{size, Agree}
 use Rattle.intmap.specs.Signed.{int_of}
-use Rattle.intmap.specs.Store.{store_runs, stored_of, Stores, RunAbove, Stored}
+use Rattle.intmap.specs.Store.{store_runs, Stores, RunAbove, Stored}
 use Rattle.intmap.specs.declared.IntMap.{IntMap}
 use Rattle.intmap.proofs.EntryLaws.{length-span, span_same, opened}
 use Rattle.intmap.proofs.MapLaws.{placed_room}
@@ -45,10 +44,9 @@ use Rattle.encoding.proofs.Standing.{column_whole}
 use Rattle.state.specs.Leads.{Current, HoldsMap, Tells, Leaves, Leads}
 use Rattle.state.specs.Own.{StoresCell}
 use Rattle.state.specs.Over.{OverRegister}
-use Rattle.state.proofs.LeadsLaws.{frame-within, frame_then}
+use Rattle.state.proofs.LeadsLaws.{frame-within, frame_then, unchanged, tells_stored, leaves_stored}
 use Rattle.state.proofs.StoreLeads.{wider}
 use Rattle.cursor_arms.specs.Behind.{RunBehind}
-use Rattle.cursor_arms.proofs.DupLaws.{frame_same}
 use Rattle.cursor_arms.proofs.TableLaws.{size_alike}
 use Rattle.column_arms.specs.Columns.{StoresRun}
 
@@ -85,15 +83,6 @@ written limit cs es fs a c current some-room same framed is =
 
 -- ---- a run behind the map stored
 
--- an answer in runs is the definition's
-tells : (limit bound : ℕ) (ds : List Cell) (a : IntMap) (r : Stored) (t : Tried MemoryState) → Carried limit bound (stored_of ds r) t → Leaves limit ds a r → Tells limit bound ds r t
-tells limit bound ds a (Err n) t c l = c.refuses (number_of n) refl
-tells limit bound ds a (Ok b) t c l = c.next ds b.base b.len b.used (runs_at ds b) refl refl l.room.used
-
-left : (fs ds : List Cell) (limit : ℕ) (a : IntMap) (j depth : ℕ) (run : List Cell) (r : Stored) → Stores fs ds limit a 0 j depth run r → Leaves limit ds a r
-left fs ds limit a j depth run (Err n) st = tt
-left fs ds limit a j depth run (Ok b) st = record { base = st.leaves.base; room = st.leaves.room }
-
 above_room : (limit : ℕ) (fs : List Cell) (a : IntMap) → a.base + limit + size fs levels (a.base + limit) ≤ length fs → RunAbove fs limit a (a.base + limit) (size fs levels (a.base + limit))
 above_room limit fs a fits = record { whole = refl; above = omega arith; fits = fits }
 
@@ -101,7 +90,7 @@ module _ {limit : ℕ} {cs es fs : List Cell} {a : IntMap} {c : Cell} (put : Wri
     (st : Stores fs ds limit a 0 j (nesting fs levels (a.base + limit)) (span fs (a.base + limit) (size fs levels (a.base + limit))) r)
   where
     stored_leaves : Leaves limit ds a r
-    stored_leaves = left fs ds limit a j _ _ r st
+    stored_leaves = leaves_stored fs ds limit a j _ _ r st
 
     stored_frame : Frame cs ds a.base (limit + limit)
     stored_frame =
@@ -112,7 +101,7 @@ module _ {limit : ℕ} {cs es fs : List Cell} {a : IntMap} {c : Cell} (put : Wri
     unfolding run_register register_depth
     stored_tells bound m h key v deep sorted stands =
         let there = held_elsewhere limit bound cs a.base a.len a.used m h fs a.base put.kept in
-        tells limit bound ds a r (store_register limit (int_of j) (Column v) m)
+        tells_stored limit bound ds a r (store_register limit (int_of j) (Column v) m)
         (subst (λ u. Carried limit bound u (store_register limit (int_of j) (Column v) m)) (sym st.answer)
         (held_register_from there (a.base + limit) key (int_of j) (Column v) stands deep (λ _. sorted) tt)) stored_leaves
 
@@ -122,11 +111,7 @@ module _ (limit : ℕ) (cs : List Cell) (a : IntMap) (at n : ℕ) (current : Cur
   some_cell : 0 < limit
   some_cell = omega (arith, below, above, size-pos cs levels at, current.room.most)
 
-  pub behind_inside : (bytes : List ℕ) → RunBehind limit cs (area_cells bytes) a at 0 n → Inside bytes (a.base + limit) 1
-  behind_inside bytes behind =
-      record { within = omega (arith, some_cell, current.scratch, behind.frame.long); small = omega (arith, behind.frame.long, current.room.small) }
-
-  module _ (es fs : List Cell) (c : Cell) (tag : tag_of c ≡ tag_of (get_or cs at blank)) (load : c.payload ≡ (get_or cs at blank).payload) (behind : RunBehind limit cs es a at 0 n) (is : fs ≡ set es (a.base + limit) c) where
+  module _ (es fs : List Cell) (c : Cell) (tag : tag_of c ≡ tag_of (get_or cs at blank)) (load : c.payload ≡ (get_or cs at blank).payload) (behind : RunBehind limit cs es a at None n) (is : fs ≡ set es (a.base + limit) c) where
     put : Written limit cs es fs a c
     put = written limit cs es fs a c current some_cell behind.kept behind.frame is
 
@@ -207,7 +192,7 @@ module _ (limit : ℕ) (cs : List Cell) (a : IntMap) (at : ℕ) (c : Cell) (tag 
         says = λ bound m h key v deep sorted is.
             (let run = sym alone ∙ is in
             let stores = st.says bound m h in
-            tells limit bound ds a r (store_register limit (int_of j) (Column v) m)
+            tells_stored limit bound ds a r (store_register limit (int_of j) (Column v) m)
             (subst (λ u. Carried limit bound u (store_register limit (int_of j) (Column v) m))
             (sym (stores.answer ∙ ap₂ (λ d l. store_runs limit 0 (int_of j) d l (runs_at cs a)) (no_record key v run) run))
             (held_register h (int_of j) key (Column v) (λ _. sorted) tt)) st.leaves);
@@ -254,7 +239,7 @@ stores-over limit cs ds a at c j r room over e =
           let st = over.yes e limit (column_depth v) room low in
           (held_register h (int_of j) key (Column v) (λ _. sorted) tt).next ds a.base a.len a.used (runs_at ds a)
           (ap (λ l. store_runs limit 0 (int_of j) (column_depth v) l (runs_at cs a)) (sym is) ∙ sym st.answer) refl st.leaves.room.used);
-      leaves = left cs ds limit a j 0 (c ∷ span cs (at + 1) (size cs levels at - 1)) (Ok a) (over.yes e limit 0 room (omega arith));
+      leaves = leaves_stored cs ds limit a j 0 (c ∷ span cs (at + 1) (size cs levels at - 1)) (Ok a) (over.yes e limit 0 room (omega arith));
       frame = wider cs ds a.base limit (over.yes e limit 0 room (omega arith)).frame;
     }
 
@@ -269,7 +254,7 @@ module _ (limit : ℕ) (cs : List Cell) (a : IntMap) (j : ℕ) (x : Index) (judg
 
   pub empty_bad : (n : Refusal) → x ≡ Err n → Leads limit cs cs a (Err n) (store_register limit (int_of j) (Column (Record end)))
   unfolding store_register
-  empty_bad n e = record { says = λ bound m le h. ap (judged m) (sym judges.answer ∙ ap index_of e); leaves = tt; frame = frame_same cs _ _ }
+  empty_bad n e = record { says = λ bound m le h. ap (judged m) (sym judges.answer ∙ ap index_of e); leaves = tt; frame = unchanged cs _ _ }
 
   -- there is no room for its one cell
   pub empty_full : (k : ℕ) → x ≡ Ok k → limit ≡ 0 → Leads limit cs cs a (Err TooManyCells) (store_register limit (int_of j) (Column (Record end)))
@@ -281,12 +266,12 @@ module _ (limit : ℕ) (cs : List Cell) (a : IntMap) (j : ℕ) (x : Index) (judg
             ∙ ap (λ b. cells_if b (with_registers (insert k nothing m.r) m))
             (lt-leb (cells (with_registers (insert k nothing m.r) m)) limit (omega (arith, total_insert register_cells k nothing m.r)));
         leaves = tt;
-        frame = frame_same cs _ _;
+        frame = unchanged cs _ _;
       }
 
 module _ (limit : ℕ) (cs fs : List Cell) (a : IntMap) (current : Current limit cs a) (some-room : limit ≡ 0 → ⊥) (is : fs ≡ set cs (a.base + limit) (cell 2 0)) where
   empty_put : Written limit cs cs fs a (cell 2 0)
-  empty_put = written limit cs cs fs a (cell 2 0) current (omega arith) (λ i lt. refl) (frame_same cs _ _) is
+  empty_put = written limit cs cs fs a (cell 2 0) current (omega arith) (λ i lt. refl) (unchanged cs _ _) is
 
   empty_stands : Stands fs (a.base + limit) (run_column 0 (Record end))
   unfolding span run_column flatten

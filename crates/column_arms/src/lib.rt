@@ -12,7 +12,6 @@ ghost use Rattle.intmap.specs.Map.{levels, IsMap};
 ghost use Rattle.intmap.specs.Pack.{tag_of};
 ghost use Rattle.intmap.specs.Runs.{size, IsColumn};
 ghost use Rattle.intmap.specs.Signed.{int_of};
-ghost use Rattle.rows.specs.Judged.{IsRow};
 ghost use Rattle.state.specs.Leads.{Held, Current, Leads};
 ghost use Rattle.state.specs.Own.{OverwritesOwn};
 ghost use Rattle.state.specs.Arms.{CursorArm};
@@ -112,7 +111,7 @@ fn store_behind(
     if intmap::tag_of(c) != intmap::RECORD {
         return state::store_cell(map, area, intmap::Class::Registers, j, c, limit);
     }
-    cursor_arms::run_behind(map, area, at, state::UNKNOWN, limit);
+    cursor_arms::run_behind(map, area, at, None, limit);
     let to = map.base + limit;
     area::put_cell(area, to, c);
     map.store_run(area, intmap::Class::Registers, j, to, limit)
@@ -177,7 +176,7 @@ fn store_column(
 {
     let k = intmap::judge_index(i)?;
     let Some(q) = find_column(map, area, at, k)? else {
-        return state::store_single(map, area, j, DataType::Null, state::UNKNOWN, limit);
+        return state::store_single(map, area, j, DataType::Null, None, limit);
     };
     let c = area::cell_at(area, q);
     if store_over(map, area, c, j) {
@@ -188,18 +187,18 @@ fn store_column(
 
 // Column: register P3 becomes column P2 of cursor P1. P2 is looked at only where there are columns.
 pub fn column(map: IntMap, area: &mut [u8], x: Row, limit: usize) -> Result<IntMap, Refusal>
-    requires { Current limit (cells area.old) map × IsRow x }
+    requires { Current limit (cells area.old) map }
     ensures { (row : ℕ) → CursorArm limit (cells area.old) (cells area.new) map row x op_column result }
 {
     let Some(at) = cursor_arms::columns_of(map, area, x.p1)? else {
-        return state::store_single(map, area, x.p3, DataType::Null, state::UNKNOWN, limit);
+        return state::store_single(map, area, x.p3, DataType::Null, None, limit);
     };
     store_column(map, area, at, x.p2, x.p3, limit)
 }
 
 // RowData, SorterData: register P2 becomes the record of cursor P1's columns, an empty one, if it has none.
 pub fn row_data(map: IntMap, area: &mut [u8], x: Row, limit: usize) -> Result<IntMap, Refusal>
-    requires { Current limit (cells area.old) map × IsRow x }
+    requires { Current limit (cells area.old) map }
     ensures { (row : ℕ) → CursorArm limit (cells area.old) (cells area.new) map row x op_row_data result }
 {
     let Some(at) = cursor_arms::columns_of(map, area, x.p1)? else {

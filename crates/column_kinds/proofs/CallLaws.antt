@@ -4,12 +4,11 @@ use Rattle.refusal.specs.Numbers.{number_of}
 use mathlib.Core.Path.{◌≡◌, refl, sym, ap, subst, ◌∙◌}
 use mathlib.Core.Bool.{Bool, true, false, and-eq-true_iff}
 use Rattle.std.specs.Prelude.{Option, None, Some, Result, Ok, Err}
-use mathlib.Core.List.{List}
-use Prim.Native.Nat.{ℕ, ◌+◌, ◌-◌, ◌*◌, ◌/◌, ◌<◌, ◌≤◌}
+use mathlib.Core.List.{List, []}
+use Prim.Native.Nat.{ℕ, ◌+◌, ◌*◌, ◌/◌, ◌<◌, ◌≤◌}
 use native.Mathlib.Omega.{arith}
 use lib.Dec.{leb, ltb}
 use lib.ListN.{length, take, get_or, replicate, length-replicate}
-use lib.Seq.{length-take-le}
 use borrow.Author.Tests.{leb-true, ltb-true, ltb-false}
 use Rattle.std.specs.Prelude.{Result}
 use Rattle.std.proofs.lemmas.List.{get_or-take, get_or_past}
@@ -20,6 +19,8 @@ use Rattle.model.specs.State.{MemoryState as Defined}
 use Rattle.model.specs.Results.{ResultColumn, ResultRow, columns_of}
 use Rattle.model.proofs.TestLaws.{cases}
 use Rattle.merge.specs.Columns.{unsaid, column_byte, HasColumns}
+use Rattle.merge.specs.declared.columns.Columns.{Columns}
+use Rattle.merge.proofs.ByteLaws.{no_columns}
 use Rattle.model.specs.Access.{◌>>=◌}
 use Rattle.model.specs.Answer.{answer_of, outcome_of}
 use Rattle.model.specs.Catalogue.{CatalogueRecord}
@@ -31,73 +32,52 @@ use Rattle.model.specs.Call.{or_refused, done_if, rows_of, records_of, area_fits
 use Rattle.model.specs.CallClaims.{CallClaims}
 use Rattle.model.proofs.CallTheorems.{call_claims}
 use Rattle.area.specs.Cells.{cells}
-use Rattle.area.specs.Counts.{HasCounts, CountsCleared}
+use Rattle.area.specs.Counts.{CountsCleared}
 use Rattle.area.proofs.CellLaws.{length-cells}
 use Rattle.text.specs.Counts.{counted_as, length_of}
 use Rattle.listing.specs.ListingRows.{Room, Loaded}
-use Rattle.answer.specs.Text.{answer_with, Small, called_of, Writes}
+use Rattle.answer.specs.Text.{answer_with, called_of, Writes}
 use Rattle.root_block.specs.Build.{Indexable, Indexed}
 use Rattle.rows.specs.Judged.{HaveRows}
 use Rattle.walk.proofs.BranchLaws.{rows_kept}
-use Rattle.walk.specs.Walks.{Counts, Few}
+use Rattle.walk.specs.Walks.{Counts}
 use Rattle.walk.specs.declared.Walk.{Walk}
 use Rattle.column_kinds.specs.Inner.{serves, RowRoom, Prepared, TellsWalk, WalksRows, Writable, WritesWalk, MayWalk, Catalogued, AnswersRows, CallsInner}
 use Rattle.column_kinds.specs.Calls.{Calls}
+use Rattle.model.proofs.Tried.{done-same}
 
 -- ---- what was tried
-
-abbrev IsDone : {A : Type 0} → Tried A → Type 0
-IsDone (refused k) = ⊥
-IsDone (done a) = Unit {0}
-
-refused_done : {A : Type 0} {k : ℕ} {a : A} → ◌≡◌ {A = Tried A} (refused k) (done a) → ⊥
-refused_done e = subst IsDone (sym e) tt
-
-done-same : {A : Type 0} {a b : A} → ◌≡◌ {A = Tried A} (done a) (done b) → a ≡ b
-done-same {a = a} e = ap (λ t. elim t [ refused k ↦ a | done x ↦ x ]) e
 
 refused_same : {A : Type 0} {k j : ℕ} → ◌≡◌ {A = Tried A} (refused k) (refused j) → k ≡ j
 refused_same {k = k} e = ap (λ t. elim t [ refused i ↦ i | done x ↦ k ]) e
 
 -- ---- the answer of a walk
 
-pub small_few : {w : Walk} → Few w → Small w.width w.counts
-small_few f = record { width_small = f.width; charged_small = f.charged; loopstops_small = f.loopstops; gasstops_small = f.gasstops; repeats_small = f.repeats }
-
 -- the bytes of the columns alone
-part_stands : (bytes : List ℕ) (width : ℕ) (columns : List ResultColumn) → width ≤ length bytes → HasColumns bytes width columns → HasColumns (take width bytes) (length (take width bytes)) columns
+part_stands : (bytes : List ℕ) (width : ℕ) (columns : List ResultColumn) → length (take width bytes) ≡ width → HasColumns bytes width columns → HasColumns (take width bytes) (length (take width bytes)) columns
 unfolding column_byte
-part_stands bytes width columns fits has = record { wide = has.wide ∙ sym long; stand = λ j. cases (ltb j width) (λ e. within j (ltb-true j width e)) (λ e. past j (ltb-false j width e)) }
+part_stands bytes width columns long has = record { wide = has.wide ∙ sym long; stand = λ j. cases (ltb j width) (λ e. within j (ltb-true j width e)) (λ e. past j (ltb-false j width e)) }
   where
-    long : length (take width bytes) ≡ width
-    long = length-take-le width bytes fits
-
     within : (j : ℕ) → j < width → get_or (take width bytes) j 0 ≡ column_byte (get_or columns j unsaid)
     within j lt = get_or-take width bytes j 0 lt ∙ has.stand j
 
     past : (j : ℕ) → width ≤ j → get_or (take width bytes) j 0 ≡ column_byte (get_or columns j unsaid)
     past j far = get_or_past (take width bytes) j 0 (omega (arith, long)) ∙ ap column_byte (sym (get_or_past columns j unsaid (omega (arith, has.wide))))
 
-module _ (cols answer : List ℕ) (x : Result Walk Refusal) where
-  pub part_fits : (w : Walk) → x ≡ Ok w → Writable cols x → w.width ≤ length cols
-  part_fits w e h = let t = subst (Writable cols) e h in omega (arith, t.0.width, t.1)
+pub writes_refused : (cols : Columns 2000) (answer : List ℕ) (x : Result Walk Refusal) (k : Refusal) → x ≡ Err k → WritesWalk cols x answer answer (Err k)
+unfolding outcome_of leave
+writes_refused cols answer x k e =
+    subst (λ y. WritesWalk cols y answer answer (Err k)) (sym e)
+    (record { says = λ w t. sym (ap (λ v. leave answer (outcome_of v >>= λ a. print_into (length answer) a)) t.is) })
 
-  pub may_write : (w : Walk) → x ≡ Ok w → Writable cols x → Small (length (take w.width cols)) w.counts
-  may_write w e h = let t = subst (Writable cols) e h in rw (length-take-le w.width cols (part_fits w e h)) (small_few t.0)
-
-  pub writes_refused : (k : Refusal) → x ≡ Err k → WritesWalk cols x answer answer (Err k)
-  unfolding outcome_of leave
-  writes_refused k e =
-      subst (λ y. WritesWalk cols y answer answer (Err k)) (sym e)
-      (record { says = λ w t. sym (ap (λ v. leave answer (outcome_of v >>= λ a. print_into (length answer) a)) t.is) })
-
-  pub writes_ended : (w : Walk) (answer_then : List ℕ) (r : Result ℕ Refusal) → x ≡ Ok w → w.width ≤ length cols → Writes (take w.width cols) w.counts answer answer_then r → WritesWalk cols x answer answer_then r
+module _ (cols : Columns 2000) (part : List ℕ) (is : part ≡ take cols.width cols.bytes) (long : length part ≡ cols.width) (answer : List ℕ) (x : Result Walk Refusal) where
+  pub writes_ended : (w : Walk) (answer_then : List ℕ) (r : Result ℕ Refusal) → x ≡ Ok w → Writes part w.counts answer answer_then r → WritesWalk cols x answer answer_then r
   unfolding outcome_of
-  writes_ended w answer_then r e fits writes =
+  writes_ended w answer_then r e writes =
       subst (λ y. WritesWalk cols y answer answer_then r) (sym e)
       (record {
         says = λ v t.
-            (writes.says (columns_of t.notes.counted) (part_stands cols w.width (columns_of t.notes.counted) fits t.columns)).is ∙
+            (writes.says (columns_of t.notes.counted) (subst (λ l. HasColumns l (length l) (columns_of t.notes.counted)) (sym is) (part_stands cols.bytes cols.width (columns_of t.notes.counted) (sym (ap length is) ∙ long) t.columns))).is ∙
             ap (λ a. leave answer (print_into (length answer) a)) (same_answer t.notes t.counts) ∙
             sym (ap (λ u. leave answer (outcome_of u >>= λ a. print_into (length answer) a)) t.is);
       })
@@ -109,12 +89,12 @@ module _ (cols answer : List ℕ) (x : Result Walk Refusal) where
 
 -- at most so many items, where more are refused
 few_items : {A : Type 0} (k most : ℕ) (o : Option (List A)) (items : List A) → (or_refused k o >>= λ xs. done_if 3 (leb (length xs) most) xs) ≡ done items → length items ≤ most
-few_items k most None items g = absurd (refused_done g)
+few_items k most None items g = cc
 few_items {A} k most (Some xs) items g = inner (leb (length xs) most) refl g
   where
     inner : (b : Bool) → leb (length xs) most ≡ b → done_if 3 b xs ≡ done items → length items ≤ most
     inner true f h = subst (λ l. length l ≤ most) (done-same h) (leb-true (length xs) most f)
-    inner false f h = absurd (refused_done h)
+    inner false f h = cc
 
 few_rows : (listing : List ℕ) (rows : List Listed) → rows_of listing ≡ done rows → length rows ≤ 2048
 unfolding rows_of
@@ -130,10 +110,10 @@ catalogue_read catalogue records e = by (read_catalogue catalogue) e
   where
     inner : (xs : List CatalogueRecord) (b : Bool) → done_if 3 b xs ≡ done records → xs ≡ records
     inner xs true g = done-same g
-    inner xs false g = absurd (refused_done g)
+    inner xs false g = cc
 
     by : (o : Option (List CatalogueRecord)) → (or_refused 2 o >>= λ xs. done_if 3 (leb (length xs) 4096) xs) ≡ done records → o ≡ Some records
-    by None g = absurd (refused_done g)
+    by None g = cc
     by (Some xs) g = ap Some (inner xs (leb (length xs) 4096) g)
 
 -- the call, where nothing is refused before the walk
@@ -166,15 +146,6 @@ served bytes n e =
 
 -- ---- room for rows
 
-pub no_room : (bytes : ℕ) → 16777216 < bytes → RowRoom bytes 0
-no_room bytes l = record { inside = λ lt. absurd (omega arith); most = λ n e. absurd (omega (arith, (served bytes n e).most)) }
-
-pub little_room : (bytes : ℕ) → bytes / 16 < 1024 → RowRoom bytes 0
-little_room bytes l = record { inside = λ lt. absurd (omega arith); most = λ n e. absurd (omega (arith, (served bytes n e).enough)) }
-
-pub room_behind : (bytes r : ℕ) → bytes ≤ 16777216 → 1024 ≤ bytes / 16 → r ≡ (bytes / 16 - 1024) / 2 → RowRoom bytes r
-room_behind bytes r l g e = record { inside = λ lt. (omega arith, l); most = λ n s. omega (arith, (served bytes n s).enough) }
-
 pub has_room : (xs : List ℕ) (r : ℕ) → RowRoom (length xs) r → Room xs 1024 r
 has_room xs r h =
     record { inside = λ lt. record { within = omega (arith, length-cells xs, (h.inside lt).0); small = omega (arith, length-cells xs, (h.inside lt).1) } }
@@ -190,15 +161,12 @@ indexable catalogue bs records size c zeros enough any small =
 -- ---- the walk
 
 module _ {catalogue blocks area : List ℕ} {n : ℕ} (m : MayWalk area n) (i : Indexable catalogue blocks) where
-  pub has_counts : HasCounts area (1024 + n) n
-  has_counts = record { within = omega (arith, (served (length area) n m.fits).enough) }
-
   module _ (ys zs : List ℕ) (cleared : CountsCleared area ys (1024 + n) n) (indexed : Indexed catalogue blocks zs) where
     kept : (rows : List Listed) → length rows ≡ n → HaveRows (cells area) 1024 rows → HaveRows (cells ys) 1024 rows
     kept rows size h = rows_kept (cells area) (cells ys) 1024 rows (λ i lt. cleared.below (1024 + i) (omega (arith, size))) h
 
-    pub is_prepared : (cols : List ℕ) → cols ≡ replicate 2000 0 → Prepared zs ys cols n
-    is_prepared cols zeros =
+    pub is_prepared : (cols : Columns 2000) → cols.width ≡ 0 → cols.bytes ≡ replicate 2000 0 → Prepared zs ys cols n
+    is_prepared cols none zeros =
         let s = served (length area) n m.fits in
         record {
           rows = m.rows;
@@ -210,20 +178,20 @@ module _ {catalogue blocks area : List ℕ} {n : ℕ} (m : MayWalk area n) (i : 
           fits = omega (arith, cleared.same, length-cells area, s.enough);
           small = omega (arith, cleared.same, length-cells area, s.most);
           zero = cleared.zero;
-          columns = zeros;
+          columns = subst (λ k. HasColumns cols.bytes k []) (sym none) (subst (λ l. HasColumns l 0 []) (sym zeros) (no_columns 2000));
         }
 
-    module _ (ts cols : List ℕ) (x : Result Walk Refusal) (walks : WalksRows zs ys ts cols n x) where
+    module _ (ts : List ℕ) (cols : Columns 2000) (x : Result Walk Refusal) (walks : WalksRows zs ys ts cols n x) where
       told : (rows : List Listed) (records : List CatalogueRecord) → HaveRows (cells area) 1024 rows → length rows ≡ n → read_catalogue catalogue ≡ Some records → TellsWalk cols x (walk_listing (standard records) rows (length area))
       told rows records h size read =
           subst (λ k. TellsWalk cols x (walk_listing (standard records) rows k)) cleared.bytes (walks.says rows records (kept rows size h) size (indexed.says records read))
 
-      pub can_write : Writable cols x
+      pub can_write : Writable x
       can_write = by x (told m.rows i.records m.listed m.size i.reads)
         where
-          by : (y : Result Walk Refusal) → TellsWalk cols y (walk_listing (standard i.records) m.rows (length area)) → Writable cols y
+          by : (y : Result Walk Refusal) → TellsWalk cols y (walk_listing (standard i.records) m.rows (length area)) → Writable y
           by (Err k) t = tt
-          by (Ok w) t = (t.few, walks.columns)
+          by (Ok w) t = t.few
 
       pub answers_walk : (answer answer_then : List ℕ) (q : Result ℕ Refusal) → WritesWalk cols x answer answer_then q → AnswersRows catalogue area ts answer answer_then n q
       answers_walk answer answer_then q writes =
@@ -245,13 +213,13 @@ module _ {A : Type 0} (t : Tried (List A)) (r : Result ℕ Refusal) (count : cou
     where
       by : (u : Tried (List A)) → refused (number_of k) ≡ length_of u → u ≡ refused (number_of k)
       by (refused j) f = ap refused (sym (refused_same f))
-      by (done xs) f = absurd (refused_done f)
+      by (done xs) f = cc
 
   counted_read : (n : ℕ) → r ≡ Ok n → Read t n
   counted_read n e = by t refl (sym (ap counted_as e) ∙ count)
     where
       by : (u : Tried (List A)) → t ≡ u → done n ≡ length_of u → Read t n
-      by (refused j) f g = absurd (refused_done (sym g))
+      by (refused j) f g = cc
       by (done xs) f g = record { items = xs; is = f; size = sym (done-same g) }
 
 -- ---- the refusals before the walk
@@ -320,9 +288,6 @@ module _ (listing catalogue area ys answer : List ℕ) (room : ℕ) (r : Result 
 module _ (listing catalogue area ys answer answer_then : List ℕ) (q : Result ℕ Refusal) (inner : CallsInner listing catalogue area ys answer answer_then q) where
   claims : CallClaims listing catalogue (length area) answer
   claims = call_claims listing catalogue (length area) answer
-
-  pub refusal_small : (k : Refusal) → q ≡ Err k → number_of k ≤ 12
-  refusal_small k e = subst (λ c. c.number ≤ 12) (sym inner.is ∙ ap (called_of answer_then) e) claims.number
 
   module _ (zs : List ℕ) (cleared : zs ≡ replicate (length ys) 0) where
     zeros : zs ≡ replicate (length area) 0

@@ -6,7 +6,7 @@ use mathlib.Core.List.{List, [], ◌∷◌}
 use Prim.Native.Nat.{ℕ, ◌+◌, ◌-◌, ◌<◌}
 use native.Mathlib.Omega.{arith}
 use lib.IntN.{pos}
-use lib.ListN.{length, replicate, length-replicate}
+use lib.ListN.{length}
 use Rattle.model.specs.Walk.{Notes, start_notes, note_taken, Front as Fronted, none_left, on_row, begin, take_up, Walked, answered, Progress as Progressed, paused, ended, walk_on, walk, times}
 use Rattle.model.specs.Row.{Row as Listed}
 use Rattle.model.specs.State.{MemoryState as Defined, fresh}
@@ -33,17 +33,13 @@ use Rattle.branches.specs.Entries.{none as no_branches}
 use Rattle.branches.specs.declared.BranchList.{BranchList}
 use Rattle.branches.proofs.RememberLaws.{remembers_none}
 use Rattle.counters.specs.declared.Counters.{Counters}
-use Rattle.merge.specs.Columns.{HasColumns}
-use Rattle.merge.proofs.ByteLaws.{no_columns}
+use Rattle.merge.specs.declared.columns.Columns.{Columns}
 use Rattle.walk.specs.Walks.{Given, bound_of, HoldsList, HoldsWalk, HoldsRow, the_run, TellsRun}
 use Rattle.walk.specs.Loop.{Running, Runs}
 use Rattle.walk.specs.declared.Program.{Program}
 use Rattle.walk.specs.declared.Walk.{Walk}
 use Rattle.walk.proofs.ListLaws.{element_within}
 use Rattle.column_kinds.specs.Inner.{Prepared, WalkAnswered, TellsWalk, WalksRows}
-
-zeros_long : length {A = ℕ} (replicate 2000 0) ≡ 2000
-zeros_long = length-replicate {A = ℕ} 2000 0
 
 same-walk : {w v : Walked Defined ResultRow} → ◌≡◌ {A = Progressed Defined ResultRow} (ended w) (ended v) → w ≡ v
 same-walk {w} e = ap (λ x. elim x [ paused gas f ↦ w | ended y ↦ y ]) e
@@ -60,7 +56,7 @@ abbrev program_of : ℕ → Program
 program_of n = record { limit = 512; size = n }
 
 abbrev walk_of : Counters → BranchList → Walk
-walk_of k b = record { gas = 100000; counts = k; width = 0; branches = b }
+walk_of k b = record { gas = 100000; counts = k; branches = b }
 
 abbrev walk_with : BranchList → Walk
 walk_with b = walk_of (record { charged = 0; loopstops = 0; gasstops = 0; repeats = 0 }) b
@@ -115,7 +111,7 @@ module _ (rows : List Listed) (records : List CatalogueRecord) (area : ℕ) wher
   unfolding walk
   runs-whole f e = run_all eq_state (row_of rows) (ways (standard records) rows) (units rows) 100000 100000 f (omega arith) ∙ ap (λ x. ended (walk_on eq_state (row_of rows) (ways (standard records) rows) (units rows) 100000 x)) (sym e)
 
-module _ {blocks xs cols : List ℕ} {n : ℕ} (q : Prepared blocks xs cols n) (b : BranchList) (is_b : b ≡ no_branches (512 + 512 + n + n)) where
+module _ {blocks xs : List ℕ} {cols : Columns 2000} {n : ℕ} (q : Prepared blocks xs cols n) (b : BranchList) (is_b : b ≡ no_branches (512 + 512 + n + n)) where
   module _ (rows : List Listed) (records : List CatalogueRecord) (listed : HaveRows (cells xs) 1024 rows) (size : length rows ≡ n) (read : HasBlocks blocks records) where
     space_is : length (cells xs) - (512 + 512 + n + n) ≡ space rows records (length xs)
     unfolding space_of
@@ -133,8 +129,7 @@ module _ {blocks xs cols : List ℕ} {n : ℕ} (q : Prepared blocks xs cols n) (
           few = q.few;
           rows = listed;
           records = read;
-          columns = subst (λ l. HasColumns l 0 []) (sym q.columns) (no_columns 2000);
-          wide = omega arith;
+          columns = q.columns;
           all = [];
           wait = [];
           remembers = remembers_none 512 (bound_of (walk_with b)) n xs (512 + 512 + n + n) (omega arith) (omega (arith, q.fits)) q.small (omega arith);
@@ -183,7 +178,7 @@ module _ {blocks xs cols : List ℕ} {n : ℕ} (q : Prepared blocks xs cols n) (
           is = none_walk;
           counts = start_walk.counts;
           columns = start_list.columns;
-          few = record { charged = omega arith; loopstops = omega arith; gasstops = omega arith; repeats = omega arith; width = omega arith };
+          few = record { charged = omega arith; loopstops = omega arith; gasstops = omega arith; repeats = omega arith };
         }
       where
         none_walk : walk_listing (standard records) rows (length xs) ≡ answered (notes rows (space rows records (length xs)))
@@ -196,41 +191,36 @@ module _ {blocks xs cols : List ℕ} {n : ℕ} (q : Prepared blocks xs cols n) (
         given = given_of q.rows q.records;
         front = front_is q.rows q.records q.listed q.size q.has;
         holds = start_row q.rows q.records q.listed q.size q.has lt a e;
-        width = ap length q.columns ∙ zeros_long;
         unclosed = refl;
       }
 
   none_from : n ≡ 0 → WalksRows blocks xs xs cols n (Ok (walk_with b))
-  none_from z = record { says = λ rows records listed size read. start_none rows records listed size read z; bytes = refl; columns = ap length q.columns ∙ zeros_long }
+  none_from z = record { says = λ rows records listed size read. start_none rows records listed size read z; bytes = refl }
 
   -- a run with all the units for its budget does not pause
-  module _ (lt : 0 < n) (a : IntMap) (e : a ≡ empty 0) (ys dols : List ℕ) (v : Walk) where
+  module _ (lt : 0 < n) (a : IntMap) (e : a ≡ empty 0) (ys : List ℕ) (dols : Columns 2000) (v : Walk) where
     told : (r : Result (Option MemoryState) Refusal) → Runs (program_of n) blocks xs ys cols dols (walk_with b) v (state_with a) 100000 r → (rows : List Listed) (records : List CatalogueRecord) → HaveRows (cells xs) 1024 rows → length rows ≡ n → HasBlocks blocks records → TellsRun (program_of n) (given_of rows records) blocks ys dols v r (ended (walk_listing (standard records) rows (length xs)))
     told r runs rows records listed size read =
         subst (TellsRun (program_of n) (given_of rows records) blocks ys dols v r)
         (ap (λ k. the_run (program_of k) (given_of rows records) 100000 100000 (front_is rows records listed size read)) (sym size) ∙ runs-whole rows records (length xs) (front_is rows records listed size read) (begins_on rows (space rows records (length xs)) (omega (arith, size, lt))))
         (runs.says (given_of rows records) (front_is rows records listed size read) (start_row rows records listed size read lt a e) refl)
 
-    long : (r : Result (Option MemoryState) Refusal) → Runs (program_of n) blocks xs ys cols dols (walk_with b) v (state_with a) 100000 r → length dols ≡ 2000
-    long r runs = runs.columns ∙ ap length q.columns ∙ zeros_long
-
     refused_from : (k : Refusal) → Runs (program_of n) blocks xs ys cols dols (walk_with b) v (state_with a) 100000 (Err k) → WalksRows blocks xs ys dols n (Err k)
     refused_from k runs =
         record {
           says = λ rows records listed size read. let t = told (Err k) runs rows records listed size read in record { notes = t.notes; is = same-walk t.is };
           bytes = runs.bytes;
-          columns = long (Err k) runs;
         }
 
     ended_from : (o : Option MemoryState) → Runs (program_of n) blocks xs ys cols dols (walk_with b) v (state_with a) 100000 (Ok o) → WalksRows blocks xs ys dols n (Ok v)
-    ended_from o runs = record { says = λ rows records listed size read. by o rows records (told (Ok o) runs rows records listed size read); bytes = runs.bytes; columns = long (Ok o) runs }
+    ended_from o runs = record { says = λ rows records listed size read. by o rows records (told (Ok o) runs rows records listed size read); bytes = runs.bytes }
       where
         by : (o : Option MemoryState) (rows : List Listed) (records : List CatalogueRecord) → TellsRun (program_of n) (given_of rows records) blocks ys dols v (Ok o) (ended (walk_listing (standard records) rows (length xs))) → WalkAnswered dols v (walk_listing (standard records) rows (length xs))
         by (Some m) rows records t = absurd (paused_ended t.is)
         by None rows records t = record { notes = t.notes; is = same-walk t.is; counts = t.end.walk.counts; columns = t.end.walk.list.columns; few = t.end.few }
 
 -- the same with the counts as the code makes them
-module _ {blocks xs cols : List ℕ} {n : ℕ} (q : Prepared blocks xs cols n) (b : BranchList) (is_b : b ≡ no_branches (512 + 512 + n + n)) (k : Counters) (zero : None-counted k) where
+module _ {blocks xs : List ℕ} {cols : Columns 2000} {n : ℕ} (q : Prepared blocks xs cols n) (b : BranchList) (is_b : b ≡ no_branches (512 + 512 + n + n)) (k : Counters) (zero : None-counted k) where
   pub walks_none : n ≡ 0 → WalksRows blocks xs xs cols n (Ok (walk_of k b))
   walks_none z = subst (λ (x : Counters). WalksRows blocks xs xs cols n (Ok (walk_of x b))) (none_counted k zero) (none_from q b is_b z)
 
@@ -238,7 +228,7 @@ module _ {blocks xs cols : List ℕ} {n : ℕ} (q : Prepared blocks xs cols n) (
     pub may_run : Running (program_of n) blocks xs cols (walk_of k b) (state_with a)
     may_run = subst (λ (x : Counters). Running (program_of n) blocks xs cols (walk_of x b) (state_with a)) (none_counted k zero) (runs_from q b is_b lt a e)
 
-    module _ (ys dols : List ℕ) (v : Walk) where
+    module _ (ys : List ℕ) (dols : Columns 2000) (v : Walk) where
       run_as : (r : Result (Option MemoryState) Refusal) → Runs (program_of n) blocks xs ys cols dols (walk_of k b) v (state_with a) 100000 r → Runs (program_of n) blocks xs ys cols dols (walk_with b) v (state_with a) 100000 r
       run_as r runs = subst (λ (x : Counters). Runs (program_of n) blocks xs ys cols dols (walk_of x b) v (state_with a) 100000 r) (sym (none_counted k zero)) runs
 

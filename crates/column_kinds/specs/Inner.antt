@@ -1,7 +1,7 @@
 -- What the parts of the call say. Assumes nothing.
 use Rattle.refusal.specs.Numbers.{number_of}
 use Rattle.refusal.specs.declared.Refusal.{Refusal}
-use Rattle.std.specs.Prelude.{◌≡◌, Bool, true, ◌&&◌, List, ℕ, ◌+◌, ◌*◌, ◌/◌, ◌<◌, ◌≤◌, leb, length, replicate, Some, Result, Ok, Err}
+use Rattle.std.specs.Prelude.{◌≡◌, Bool, true, ◌&&◌, List, [], ℕ, ◌+◌, ◌*◌, ◌/◌, ◌<◌, ◌≤◌, leb, length, Some, Result, Ok, Err}
 use Rattle.model.specs.Walk.{Notes, Walked, refused_with, answered}
 use Rattle.model.specs.Row.{Row as Listed}
 use Rattle.model.specs.State.{MemoryState as Defined}
@@ -18,6 +18,7 @@ use Rattle.area.specs.Cells.{cells}
 use Rattle.area.specs.Counts.{count}
 use Rattle.rows.specs.Judged.{HaveRows}
 use Rattle.merge.specs.Columns.{HasColumns}
+use Rattle.merge.specs.declared.columns.Columns.{Columns}
 use Rattle.answer.specs.Text.{called_of}
 use Rattle.walk.specs.Walks.{Counts, Few}
 use Rattle.walk.specs.declared.Walk.{Walk}
@@ -31,8 +32,8 @@ pub record RowRoom (bytes r : ℕ) : Type 0 where
   pub inside : 0 < r → (1024 + r + r ≤ bytes / 16) × (bytes ≤ 16777216)
   pub most : (n : ℕ) → serves bytes n ≡ true → n ≤ r
 
--- the rows of a listing are in the area behind two rooms of 512 cells, the counts of n rows behind them are zero, and no column is known
-pub record Prepared (blocks xs cols : List ℕ) (n : ℕ) : Type 0 where
+-- the rows of a listing are in the area behind two rooms of 512 cells, the counts of n rows behind them are zero, and there are no columns
+pub record Prepared (blocks xs : List ℕ) (cols : Columns 2000) (n : ℕ) : Type 0 where
   pub rows : List Listed
   pub records : List CatalogueRecord
   pub listed : HaveRows (cells xs) 1024 rows
@@ -42,28 +43,27 @@ pub record Prepared (blocks xs cols : List ℕ) (n : ℕ) : Type 0 where
   pub fits : 1024 + n + n ≤ length (cells xs)
   pub small : length (cells xs) ≤ 1048576
   pub zero : (i : ℕ) → i < n → count xs (1024 + n) i ≡ 0
-  pub columns : cols ≡ replicate 2000 0
+  pub columns : HasColumns cols.bytes cols.width []
 
 -- a walk is refused, or answered with these counts and columns
 pub record WalkRefused (k : ℕ) (w : Walked Defined ResultRow) : Type 0 where
   pub notes : Notes Defined ResultRow
   pub is : w ≡ refused_with k notes
 
-pub record WalkAnswered (cols : List ℕ) (e : Walk) (w : Walked Defined ResultRow) : Type 0 where
+pub record WalkAnswered (cols : Columns 2000) (e : Walk) (w : Walked Defined ResultRow) : Type 0 where
   pub notes : Notes Defined ResultRow
   pub is : w ≡ answered notes
   pub counts : Counts e notes
-  pub columns : HasColumns cols e.width (columns_of notes.counted)
+  pub columns : HasColumns cols.bytes cols.width (columns_of notes.counted)
   pub few : Few e
 
-abbrev pub TellsWalk : List ℕ → Result Walk Refusal → Walked Defined ResultRow → Type 0
+abbrev pub TellsWalk : Columns 2000 → Result Walk Refusal → Walked Defined ResultRow → Type 0
 TellsWalk cols (Err e) x = WalkRefused (number_of e) x
 TellsWalk cols (Ok w) x = WalkAnswered cols w x
 
-pub record WalksRows (blocks xs ys dols : List ℕ) (n : ℕ) (r : Result Walk Refusal) : Type 0 where
+pub record WalksRows (blocks xs ys : List ℕ) (dols : Columns 2000) (n : ℕ) (r : Result Walk Refusal) : Type 0 where
   pub says : (rows : List Listed) (records : List CatalogueRecord) → HaveRows (cells xs) 1024 rows → length rows ≡ n → HasBlocks blocks records → TellsWalk dols r (walk_listing (standard records) rows (length xs))
   pub bytes : length ys ≡ length xs
-  pub columns : length dols ≡ 2000
 
 -- the call, but for the area that is left
 pub record CallsInner (listing catalogue area area_then answer answer_then : List ℕ) (r : Result ℕ Refusal) : Type 0 where
@@ -71,12 +71,12 @@ pub record CallsInner (listing catalogue area area_then answer answer_then : Lis
   pub bytes : length area_then ≡ length area
 
 -- the numbers of a walk that ended can be printed
-abbrev pub Writable : List ℕ → Result Walk Refusal → Type 0
-Writable cols (Err k) = Unit {0}
-Writable cols (Ok w) = Few w × (length cols ≡ 2000)
+abbrev pub Writable : Result Walk Refusal → Type 0
+Writable (Err k) = Unit {0}
+Writable (Ok w) = Few w
 
 -- what is left of a buffer: of the walk, the definition's
-pub record WritesWalk (cols : List ℕ) (x : Result Walk Refusal) (answer answer_then : List ℕ) (r : Result ℕ Refusal) : Type 0 where
+pub record WritesWalk (cols : Columns 2000) (x : Result Walk Refusal) (answer answer_then : List ℕ) (r : Result ℕ Refusal) : Type 0 where
   pub says : (w : Walked Defined ResultRow) → TellsWalk cols x w → called_of answer_then r ≡ leave answer (outcome_of w >>= λ a. print_into (length answer) a)
 
 -- n rows of a listing in an area that serves them

@@ -9,6 +9,7 @@ ghost use Rattle.root_block.specs.Build.{Indexable};
 use branches::BranchList;
 use counters::Counters;
 use intmap::IntMap;
+use merge::Columns;
 use refusal::Refusal;
 use state::MemoryState;
 use walk::{Program, Walk};
@@ -41,14 +42,18 @@ fn row_room(bytes: usize) -> usize
 }
 
 // The walk over n rows that are in the area, from the fresh start to its end: all its units are its budget, so that it does not pause.
-fn walk_rows(area: &mut [u8], columns: &mut [u8], blocks: &[u8], n: usize) -> Result<Walk, Refusal>
+fn walk_rows(
+    area: &mut [u8],
+    columns: &mut Columns<2000>,
+    blocks: &[u8],
+    n: usize,
+) -> Result<Walk, Refusal>
     requires { Prepared blocks.now area.old columns.old n }
     ensures { WalksRows blocks.now area.old area.new columns.new n result }
 {
     let mut w = Walk {
         gas: GAS,
         counts: Counters::default(),
-        width: 0,
         branches: BranchList::new(LIMIT + LIMIT + n + n),
     };
     if n == 0 {
@@ -68,12 +73,16 @@ fn walk_rows(area: &mut [u8], columns: &mut [u8], blocks: &[u8], n: usize) -> Re
 }
 
 // The answer of a walk that was answered, or the refusal.
-fn write_walk(answer: &mut [u8], columns: &[u8], x: Result<Walk, Refusal>) -> Result<usize, Refusal>
-    requires { Writable columns.now x }
+fn write_walk(
+    answer: &mut [u8],
+    columns: &Columns<2000>,
+    x: Result<Walk, Refusal>,
+) -> Result<usize, Refusal>
+    requires { Writable x }
     ensures { WritesWalk columns.now x answer.old answer.new result }
 {
     let w = x?;
-    answer::write_answer(answer, &columns[..w.width], &w.counts)
+    answer::write_answer(answer, columns.as_slice(), &w.counts)
 }
 
 // The walk over n rows that are in the area, and its answer. The catalogue's columns go into the blocks first.
@@ -89,7 +98,7 @@ fn answer_rows(
 {
     area::clear_counts(work, 2 * LIMIT + n, n);
     root_block::root_block_columns(catalogue, blocks);
-    let mut columns = [0u8; 2000];
+    let mut columns = Columns::new();
     let x = walk_rows(work, &mut columns, blocks, n);
     write_walk(answer, &columns, x)
 }

@@ -18,6 +18,7 @@ use Rattle.model.specs.Cells.{register_cells}
 use Rattle.model.specs.Access.{◌>>=◌, index, read_register, store_register}
 use Rattle.model.specs.Good.{GoodRegister}
 use Rattle.model.proofs.InPlace.{NeverLarger, plain_good, to_int}
+use Rattle.model.proofs.Tried.{done-same}
 use Rattle.area.specs.Cells.{blank}
 use Rattle.area.specs.declared.Cell.{Cell}
 use Rattle.intmap.specs.Change.{rekey}
@@ -49,9 +50,6 @@ use Rattle.state.proofs.LeadsLaws.{frame_then}
 use Rattle.copy_arms.specs.Copies.{carry_some, carry_one}
 use Rattle.copy_arms.specs.InPlace.{Alone, FoundAt, CarriesCell}
 use Rattle.copy_arms.proofs.PlaceLaws.{alike_found}
-
-done-same : {A : Type 0} {a b : A} → done a ≡ done b → a ≡ b
-done-same e = cc
 
 -- a value of one cell takes the place of any other
 one_cell : (v : RegDataType) → register_cells v ≡ 1 → GoodRegister v → NeverLarger register_cells GoodRegister (λ u. v)

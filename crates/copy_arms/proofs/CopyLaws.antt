@@ -29,11 +29,11 @@ use Rattle.intmap.specs.Depth.{nesting}
 use Rattle.intmap.specs.Entries.{span}
 use Rattle.intmap.specs.Map.{levels, runs_at, Frame, HasRoom}
 use Rattle.intmap.specs.Signed.{int_of}
-use Rattle.intmap.specs.Store.{stored_of, store_runs, Stores, Stored}
+use Rattle.intmap.specs.Store.{store_runs, Stores, Stored}
 use Rattle.intmap.specs.Get.{Gets, Slot}
 use Rattle.intmap.specs.declared.IntMap.{IntMap}
 use Rattle.intmap.proofs.DepthLaws.{nesting-single}
-use Rattle.intmap.proofs.RunLaws.{size-pos, size-single}
+use Rattle.intmap.proofs.RunLaws.{size-single}
 use Rattle.intmap.proofs.EntryLaws.{span_same, length-span}
 use Rattle.intmap.proofs.SameCells.{copied, size_same}
 use Rattle.intmap.proofs.MapLaws.{copied_frame, copied_agree, placed_room}
@@ -46,7 +46,7 @@ use Rattle.encoding.proofs.HeldAfter.{Carried, held_register}
 use Rattle.encoding.proofs.HeldFrom.{held_register_from}
 use Rattle.encoding.proofs.HeldRead.{Value, told_register}
 use Rattle.rows.specs.Judged.{Judged}
-use Rattle.rows.specs.declared.Row.{Row}
+use Rattle.rows.specs.declared.row.Row.{Row}
 use Rattle.state.specs.Leads.{Current, HoldsMap, Tells, Leaves, Leads}
 use Rattle.state.specs.Arms.{Standard}
 use Rattle.state.specs.Own.{StoresCell}
@@ -55,20 +55,11 @@ use Rattle.state.specs.Reads.{Reads}
 use Rattle.state.proofs.OverLaws.{headed_here}
 use Rattle.state.proofs.StoreLeads.{wider}
 use Rattle.state.proofs.ReadLaws.{read_bad, read_absent}
-use Rattle.state.proofs.LeadsLaws.{frame-within, frame_then, Reached, reached_next, reached_as}
+use Rattle.state.proofs.LeadsLaws.{frame-within, frame_then, Reached, reached_next, reached_as, tells_stored, leaves_stored}
 use Rattle.copy_arms.specs.Copies.{StoresFrom, carry_some, carry_one, carry_many}
 use Rattle.copy_arms.specs.Gaps.{gap_if, gap, Gap}
 
 -- ---- a store from the room behind the map
-
--- an answer in runs is the definition's
-tells : (limit bound : ℕ) (ds : List Cell) (r : Stored) (t : Tried MemoryState) → Carried limit bound (stored_of ds r) t → (a : IntMap) → Leaves limit ds a r → Tells limit bound ds r t
-tells limit bound ds (Err n) t c a l = c.refuses (number_of n) refl
-tells limit bound ds (Ok b) t c a l = c.next ds b.base b.len b.used (runs_at ds b) refl refl l.room.used
-
-left : (cs ds : List Cell) (limit : ℕ) (a : IntMap) (j depth : ℕ) (run : List Cell) (r : Stored) → Stores cs ds limit a 0 j depth run r → Leaves limit ds a r
-left cs ds limit a j depth run (Err n) st = tt
-left cs ds limit a j depth run (Ok b) st = record { base = st.leaves.base; room = st.leaves.room }
 
 -- the entry at `at`, of n cells, stands behind the map too
 module _ (limit : ℕ) (cs es : List Cell) (a : IntMap) (at n : ℕ) (current : Current limit cs a)
@@ -102,8 +93,8 @@ module _ (limit : ℕ) (cs es : List Cell) (a : IntMap) (at n : ℕ) (current : 
               (let run : span es (a.base + limit) n ≡ run_register key v = span_same cs es n at (a.base + limit) agree ∙ ap (span cs at) counted ∙ is in
               let size-run : length (run_register key v) ≡ n = ap length (sym run) ∙ length-span es (a.base + limit) n in
               let c = held_register_from (held_elsewhere limit bound cs a.base a.len a.used m h es a.base kept) (a.base + limit) key (int_of j) v (ap (span es (a.base + limit)) size-run ∙ run) (omega (arith, good.depth)) (λ _. good.sorted) small in
-              tells limit bound ds r (store_register limit (int_of j) v m) (subst (λ u. Carried limit bound u (store_register limit (int_of j) v m)) (sym st.answer) c) a (left es ds limit a j _ _ r st));
-          leaves = left es ds limit a j _ _ r st;
+              tells_stored limit bound ds a r (store_register limit (int_of j) v m) (subst (λ u. Carried limit bound u (store_register limit (int_of j) v m)) (sym st.answer) c) (leaves_stored es ds limit a j _ _ r st));
+          leaves = leaves_stored es ds limit a j _ _ r st;
           frame =
               frame_then cs es ds a.base (limit + limit) (frame-within cs es (a.base + limit) n a.base (limit + limit) (omega arith) (omega (arith, current.room.most)) frame)
               (frame-within es ds a.base limit a.base (limit + limit) (omega arith) (omega arith) st.frame);
@@ -119,14 +110,11 @@ stores-over limit cs ds a at j c r room ce over e =
           let st = over.yes e limit (register_depth v) room good.depth in
           (held_register h (int_of j) key v (λ _. good.sorted) small).next ds a.base a.len a.used (runs_at ds a)
           (ap (λ l. store_runs limit 0 (int_of j) (register_depth v) l (runs_at cs a)) (sym run) ∙ sym st.answer) refl st.leaves.room.used);
-      leaves = left cs ds limit a j 0 (headed cs at c) (Ok a) (over.yes e limit 0 room (omega arith));
+      leaves = leaves_stored cs ds limit a j 0 (headed cs at c) (Ok a) (over.yes e limit 0 room (omega arith));
       frame = wider cs ds a.base limit (over.yes e limit 0 room (omega arith)).frame;
     }
 
 -- ---- a cell alone
-
-pub alone-inside : {limit : ℕ} {cs : List Cell} {a : IntMap} {at : ℕ} → Current limit cs a → at + size cs levels at ≤ a.base + a.used → at < length cs
-alone-inside {cs = cs} {at = at} current fits = omega (arith, fits, size-pos cs levels at, current.room.most, current.room.room)
 
 pub stores-alone : (limit : ℕ) (cs ds : List Cell) (a : IntMap) (at j : ℕ) (c : Cell) (r : Stored) → c ≡ get_or cs at blank → (tag_of c ≡ 2 → ⊥) → StoresCell limit cs ds a 0 j c r → StoresFrom limit cs ds a at j r
 unfolding span
@@ -136,8 +124,8 @@ stores-alone limit cs ds a at j c r ce plain st =
       says = λ bound m key v h good small is.
           (let stands = ap (span cs at) (ap length (sym is) ∙ length-span cs at (size cs levels at)) ∙ is in
           let carried = held_register_from h at key (int_of j) v stands (omega (arith, good.depth)) (λ _. good.sorted) small in
-          tells limit bound ds r (store_register limit (int_of j) v m)
-          (subst (λ u. Carried limit bound u (store_register limit (int_of j) v m)) (sym ((st.says bound m h).answer ∙ ap₂ (λ d l. store_runs limit 0 (int_of j) d l (runs_at cs a)) (nesting-single cs levels at c ce plain) run)) carried) a st.leaves);
+          tells_stored limit bound ds a r (store_register limit (int_of j) v m)
+          (subst (λ u. Carried limit bound u (store_register limit (int_of j) v m)) (sym ((st.says bound m h).answer ∙ ap₂ (λ d l. store_runs limit 0 (int_of j) d l (runs_at cs a)) (nesting-single cs levels at c ce plain) run)) carried) st.leaves);
       leaves = st.leaves;
       frame = frame-within cs ds a.base limit a.base (limit + limit) (omega arith) (omega arith) st.frame;
     }

@@ -9,7 +9,6 @@ ghost use Rattle.area.specs.Cells.{cells};
 ghost use Rattle.intmap.specs.Map.{levels, IsMap};
 ghost use Rattle.intmap.specs.Runs.{size};
 ghost use Rattle.intmap.specs.Signed.{offset, int_of};
-ghost use Rattle.rows.specs.Judged.{IsRow};
 ghost use Rattle.state.specs.Leads.{Held, Current, Leads};
 ghost use Rattle.state.specs.Arms.{RegisterArm};
 ghost use Rattle.copy_arms.specs.Copies.{StoresFrom, carry_one, carry_many};
@@ -80,7 +79,7 @@ fn carry_register(
     if !moves {
         return Ok(b);
     }
-    state::store_single(b, area, i, DataType::Null, state::NULLABLE, limit)
+    state::store_single(b, area, i, DataType::Null, Some(true), limit)
 }
 
 // Stores what register i holds, if there is something, in register j.
@@ -99,7 +98,7 @@ pub fn copy_register(
 
 // SCopy, IntCopy, Not: r[P2] = r[P1].
 pub fn scopy(map: IntMap, area: &mut [u8], x: Row, limit: usize) -> Result<IntMap, Refusal>
-    requires { Current limit (cells area.old) map × IsRow x }
+    requires { Current limit (cells area.old) map }
     ensures { RegisterArm limit (cells area.old) (cells area.new) map x op_copy_one result }
 {
     copy_register(map, area, x.p1, x.p2, limit)
@@ -168,7 +167,7 @@ fn carry_cell(map: IntMap, area: &mut [u8], p: usize, q: usize, k: u64, l: u64, 
     if !moves {
         return;
     }
-    let null = state::single(DataType::Null, state::NULLABLE);
+    let null = state::single(DataType::Null, Some(true));
     area::put_cell(
         area,
         p,
@@ -257,7 +256,7 @@ fn carry_many(
 
 // Copy: P3 + 1 registers from P1 on to those from P2 on, none if P3 is negative.
 pub fn copy(map: IntMap, area: &mut [u8], x: Row, limit: usize) -> Result<IntMap, Refusal>
-    requires { Current limit (cells area.old) map × IsRow x }
+    requires { Current limit (cells area.old) map }
     ensures { RegisterArm limit (cells area.old) (cells area.new) map x op_copy result }
 {
     let n = (x.p3 + 1).saturating_sub(intmap::ZERO);
@@ -266,7 +265,7 @@ pub fn copy(map: IntMap, area: &mut [u8], x: Row, limit: usize) -> Result<IntMap
 
 // Move: P3 registers from P1 on to those from P2 on, none if P3 is negative.
 pub fn move_(map: IntMap, area: &mut [u8], x: Row, limit: usize) -> Result<IntMap, Refusal>
-    requires { Current limit (cells area.old) map × IsRow x }
+    requires { Current limit (cells area.old) map }
     ensures { RegisterArm limit (cells area.old) (cells area.new) map x op_move result }
 {
     let n = x.p3.saturating_sub(intmap::ZERO);

@@ -20,12 +20,13 @@ use Rattle.area.specs.declared.Cell.{Cell}
 use Rattle.intmap.specs.Signed.{int_of}
 use Rattle.encoding.proofs.Updates.{update_stored}
 use Rattle.rows.specs.Judged.{Judged, HaveRows}
-use Rattle.rows.specs.declared.Row.{Row}
+use Rattle.rows.specs.declared.row.Row.{Row}
 use Rattle.state.specs.Leads.{Tells, Leads}
 use Rattle.state.specs.Steps.{HoldsState, Offered, TellsStep, offered}
 use Rattle.state.specs.declared.MemoryState.{MemoryState}
+use Rattle.state.proofs.LeadsLaws.{unchanged}
 use Rattle.jump_arms.specs.Arms.{step_after, Knows}
-use Rattle.jump_arms.proofs.StepLaws.{unchanged, held_at, ends_here}
+use Rattle.jump_arms.proofs.StepLaws.{held_at, ends_here}
 use Rattle.jump_arms.proofs.StoreSteps.{goes_after, leaves_after}
 use Rattle.jump_arms.proofs.ReturnLaws.{remove-row}
 use Rattle.jump_arms.proofs.NullLaws.{update-row}
@@ -97,7 +98,7 @@ module _ (limit : ℕ) (cs : List Cell) (s : MemoryState) (x : Row) (from n : �
               subst (TellsStep limit bound ds (step_after row r))
               (sym (end_is t told rows have len l j bound m h ∙ ap (λ y. end_coroutine_to l m (option_map int_of y)) e ∙ ap (λ i. remove_register i (go_to (int_of row) m) >>= λ k. goes_on k) (sym j.p1)))
               (goes_after r row bound (go_to (int_of row) m) le leads (remove-row (int_of x.p1) (go_to (int_of row) m)) (held_at row (int_of row) refl h.map));
-          leaves = leaves_after s r row leads;
+          leaves = leaves_after limit ds s r row leads.leaves;
           frame = leads.frame;
         }
 
@@ -121,7 +122,7 @@ module _ (limit : ℕ) (cs : List Cell) (s : MemoryState) (x : Row) (from n : �
               (let i = row_after_yield (yield_target (row_at rows (int_of w))) (int_of w) in
               subst (TellsStep limit bound ds (step_after row r)) (sym (is rows l j bound m h))
               (goes_after r row bound (go_to i m) le (number_stored ds r (int_of s.row) leads) (update-row _ _ _) (held_at row i (follows.says rows have len) h.map)));
-          leaves = leaves_after s r row leads;
+          leaves = leaves_after limit ds s r row leads.leaves;
           frame = leads.frame;
         }
       where

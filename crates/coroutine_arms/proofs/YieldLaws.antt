@@ -8,8 +8,10 @@ use native.Mathlib.Omega.{arith}
 use lib.Dec.{eqb, ltb}
 use lib.ListN.{length, get_or}
 use borrow.Author.Tests.{eqb-true, ltb-true, ltb-false}
+use Rattle.std.proofs.lemmas.Option.{slice_get_past}
 use Rattle.type_info.specs.Ascii.{ascii, equals}
 use Rattle.type_info.proofs.Tables.{passes, passes_at}
+use Rattle.type_info.proofs.Words.{same_equals}
 use Rattle.model.specs.Row.{Row as Listed}
 use Rattle.model.specs.TextTable.{Named, first_for, or_else}
 use Rattle.model.specs.IntMap.{get_if}
@@ -17,7 +19,7 @@ use Rattle.model.specs.Operation.{Operation as Arm, JumpOperation, jumps, op_if_
 use Rattle.model.specs.Offer.{row_at}
 use Rattle.model.specs.JumpArms.{is_yield, target_if, yield_target, row_after_yield}
 use Rattle.model.proofs.TestLaws.{cases}
-use Rattle.model.proofs.ReaderLaws.{never, equals-same}
+use Rattle.model.proofs.ReaderLaws.{never}
 use Rattle.area.specs.Cells.{blank}
 use Rattle.area.specs.declared.Cell.{Cell}
 use Rattle.intmap.specs.Signed.{offset, int_of}
@@ -26,9 +28,9 @@ use Rattle.opcode.specs.Opcode.{arm_of, number, operations, operation_at}
 use Rattle.opcode.specs.declared.Operation.{Operation}
 use Rattle.opcode.specs.declared.Operation.TheVariants.{Yield}
 use Rattle.opcode.proofs.Numbers.{read_again, number-below}
-use Rattle.rows.specs.Rows.{row_in}
-use Rattle.rows.specs.Judged.{Judged, HaveRows}
-use Rattle.rows.specs.declared.Row.{Row}
+use Rattle.rows.specs.Rows.{parts, row_in}
+use Rattle.rows.specs.Judged.{JudgedParts, Judged, HaveRows}
+use Rattle.rows.specs.declared.row.Row.{Row}
 use Rattle.jump_arms.specs.Arms.{RowAfter}
 use Rattle.coroutine_arms.specs.Arms.{RowsInside, Targets, Follows}
 
@@ -90,7 +92,7 @@ name_is name [] e y = absurd (false≢true y)
 name_is name (n ∷ more) e y =
     let (first, rest) = (and-eq-true_iff (not (yields n.value) || equals n.text (ascii "Yield")) (named more)).0 e in
     cases (equals name n.text)
-    (λ same. ap (λ t. equals t (ascii "Yield")) (equals-same name n.text same) ∙ implied first (sym (ap (λ b. yields (or_else no_arm (get_if b n.value (first_for equals name more)))) same) ∙ y))
+    (λ same. ap (λ t. equals t (ascii "Yield")) (same_equals name n.text same) ∙ implied first (sym (ap (λ b. yields (or_else no_arm (get_if b n.value (first_for equals name more)))) same) ∙ y))
     (λ other. name_is name more rest (sym (ap (λ b. yields (or_else no_arm (get_if b n.value (first_for equals name more)))) other) ∙ y))
 
 yield_named : yields (operation_of (ascii "Yield")) ≡ true
@@ -101,15 +103,10 @@ pub yield_named_only : (l : Listed) (x : Row) → Judged l x → is_yield l ≡ 
 unfolding is_yield operation_of
 yield_named_only l x j =
     iff
-    (λ e. ap yields j.op ∙ ap (λ t. yields (operation_of t)) (equals-same l.op (ascii "Yield") e) ∙ yield_named)
+    (λ e. ap yields j.op ∙ ap (λ t. yields (operation_of t)) (same_equals l.op (ascii "Yield") e) ∙ yield_named)
     (λ e. name_is l.op names all_named (sym (ap yields j.op) ∙ e))
 
 -- ---- the row that a word names
-
-past_none : {A : Type 0} (xs : List A) (k : ℕ) → length xs ≤ k → slice_get xs k ≡ None
-past_none [] k h = refl
-past_none (a ∷ xs) zero h = absurd (omega arith)
-past_none (a ∷ xs) (suc k) h = past_none xs k (omega arith)
 
 within-some : {A : Type 0} (xs : List A) (k : ℕ) → k < length xs → slice_get xs k ≡ None → ⊥
 within-some [] k h e = absurd (omega arith)
@@ -126,9 +123,9 @@ module _ (cs : List Cell) (from n w : ℕ) where
 
   module _ (above : offset ≤ w) where
     pub target_past : n ≤ w - offset → Targets cs from n w None
-    target_past h = record { says = λ rows have len. sym (ap yield_target (row_above w rows above ∙ past_none rows (w - offset) (omega (arith, len)))) }
+    target_past h = record { says = λ rows have len. sym (ap yield_target (row_above w rows above ∙ slice_get_past rows (w - offset) (omega (arith, len)))) }
 
-    module _ (x : Row) (lt : w - offset < n) (is : x ≡ row_in (get_or cs (from + (w - offset)) blank)) where
+    module _ (x : Row) (lt : w - offset < n) (is : parts x ≡ row_in (get_or cs (from + (w - offset)) blank)) where
       -- a row of the listing stands there
       row_told : (t : Bool) → yields (arm_of x.op) ≡ t → (rows : List Listed) → HaveRows cs from rows → length rows ≡ n → option_map int_of (found t x.p2) ≡ yield_target (row_at rows (int_of w))
       row_told t e rows have len = go (slice_get rows (w - offset)) refl
@@ -140,7 +137,7 @@ module _ (cs : List Cell) (from n w : ℕ) where
           go : (o : Option Listed) → slice_get rows (w - offset) ≡ o → option_map int_of (found t x.p2) ≡ yield_target (row_at rows (int_of w))
           go None q = absurd (within-some rows (w - offset) (omega (arith, len)) q)
           go (Some l) q =
-              let j : Judged l x = subst (Judged l) (sym is) (have (w - offset) l q) in
+              let j : Judged l x = subst (JudgedParts l) (sym is) (have (w - offset) l q) in
               sym (ap yield_target (row_above w rows above ∙ q) ∙ ap (λ b. target_if b l) (yield_named_only l x j ∙ e) ∙ goes t l j)
 
       pub target_yield : x.op ≡ Yield → Targets cs from n w (Some x.p2)
@@ -149,18 +146,13 @@ module _ (cs : List Cell) (from n w : ℕ) where
       pub target_other : (x.op ≡ Yield → ⊥) → Targets cs from n w None
       target_other ne = record { says = row_told false (cases (yields (arm_of x.op)) (λ y. absurd (ne (yield_is x.op y))) (λ no. no)) }
 
-  -- the row after it
-  pub follows_it : (t : Option ℕ) → Targets cs from n w t → t ≡ None → Follows cs from n w w
-  follows_it t told e =
-      record { says = λ rows have len. ap (λ o. row_after_yield o (int_of w)) (ap (option_map int_of) (sym e) ∙ told.says rows have len) }
-
   -- a word that names a Yield row is not the last word
   named_low : RowsInside cs from n → (t : Option ℕ) (p : ℕ) → Targets cs from n w t → t ≡ Some p → (rows : List Listed) → HaveRows cs from rows → length rows ≡ n → w < 18446744073709551615
   named_low inside t p told e rows have len =
       cases (ltb w 18446744073709551615) (ltb-true w 18446744073709551615)
       (λ f.
       let high = ltb-false w 18446744073709551615 f in
-      absurd (never (sym (ap (option_map int_of) (sym e) ∙ told.says rows have len ∙ ap yield_target (row_above w rows (omega (arith, high)) ∙ past_none rows (w - offset) (omega (arith, high, len, inside.small, inside.held.inside)))))))
+      absurd (never (sym (ap (option_map int_of) (sym e) ∙ told.says rows have len ∙ ap yield_target (row_above w rows (omega (arith, high)) ∙ slice_get_past rows (w - offset) (omega (arith, high, len, inside.small, inside.held.inside)))))))
 
   pub follows_next : RowsInside cs from n → (t : Option ℕ) (p r : ℕ) → Targets cs from n w t → t ≡ Some p → RowAfter w r → Follows cs from n w r
   follows_next inside t p r told e after =

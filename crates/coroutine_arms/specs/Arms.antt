@@ -1,6 +1,6 @@
 -- The arms of `explain` that look at another row of the listing, EndCoroutine and Yield: the listing's n rows lie in the cells from `from` on.
 -- And where the Yield row that a number names goes, and which row follows a Yield. Assumes nothing.
-use Rattle.std.specs.Prelude.{◌≡◌, List, ℕ, ◌+◌, ◌≤◌, ℤ, length, Option, None, Some, option_map}
+use Rattle.std.specs.Prelude.{◌≡◌, List, ℕ, ◌+◌, ◌≤◌, length, Option, option_map}
 use Rattle.model.specs.Row.{Row as Listed}
 use Rattle.model.specs.State.{MemoryState as Defined}
 use Rattle.model.specs.Operation.{JumpOperation}
@@ -10,7 +10,7 @@ use Rattle.area.specs.declared.Cell.{Cell}
 use Rattle.intmap.specs.Map.{Frame}
 use Rattle.intmap.specs.Signed.{int_of}
 use Rattle.rows.specs.Judged.{Judged, HaveRows, SomeRows}
-use Rattle.rows.specs.declared.Row.{Row}
+use Rattle.rows.specs.declared.row.Row.{Row}
 use Rattle.state.specs.Leads.{operands}
 use Rattle.state.specs.Steps.{HoldsState, TellsStep, LeavesStep, Step}
 use Rattle.state.specs.declared.MemoryState.{MemoryState}

@@ -41,7 +41,7 @@ pub fn end_coroutine(
     n: usize,
     limit: usize,
 ) -> Result<Ways, Refusal>
-    requires { Ready limit (cells area.old) s x × SomeRows (cells area.old) from n }
+    requires { Ready limit (cells area.old) s × SomeRows (cells area.old) from n }
     ensures { RowsArm limit (cells area.old) (cells area.new) s x from n op_end_coroutine result }
 {
     let map = s.map;
@@ -78,7 +78,7 @@ pub fn yield_(
     n: usize,
     limit: usize,
 ) -> Result<Ways, Refusal>
-    requires { Ready limit (cells area.old) s x × SomeRows (cells area.old) from n }
+    requires { Ready limit (cells area.old) s × SomeRows (cells area.old) from n }
     ensures { RowsArm limit (cells area.old) (cells area.new) s x from n op_yield result }
 {
     let map = s.map;

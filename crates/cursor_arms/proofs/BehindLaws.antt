@@ -19,6 +19,9 @@ use Rattle.intmap.proofs.SameCells.{size_same}
 use Rattle.state.specs.Leads.{Current}
 use Rattle.cursor_arms.specs.Behind.{RunBehind}
 use Rattle.cursor_arms.proofs.TableLaws.{size_kept, here, other, long}
+use Rattle.std.specs.Prelude.{Option}
+use mathlib.Core.Bool.{Bool}
+use Rattle.encoding.specs.Encode.{nullable_code}
 
 module _ {limit : ℕ} {cs es : List Cell} {a : IntMap} {at n : ℕ} (current : Current limit cs a) (above : a.base ≤ at) (below : at + size cs levels at ≤ a.base + a.used) (new : Copied cs es at (a.base + limit) (size cs levels at) n) where
   moved_frame : Frame cs es (a.base + limit) (size cs levels at)
@@ -33,7 +36,10 @@ module _ {limit : ℕ} {cs es : List Cell} {a : IntMap} {at n : ℕ} (current : 
   pub behind_inside : (a.base + limit < length es) × (length es ≤ 1048576)
   behind_inside = (behind_within, omega (arith, new.long, current.room.small))
 
-  module _ (k : ℕ) (ds : List Cell) (b c : Cell) (be : b ≡ get_or es (a.base + limit) blank) (ce : c ≡ with_nullable k b) (written : ds ≡ set es (a.base + limit) c) where
+  module _ (nullable : Option Bool) (ds : List Cell) (b c : Cell) (be : b ≡ get_or es (a.base + limit) blank) (ce : c ≡ with_nullable (nullable_code nullable) b) (written : ds ≡ set es (a.base + limit) c) where
+    abbrev k : ℕ
+    k = nullable_code nullable
+
     is : ds ≡ set es (a.base + limit) (with_nullable k (get_or es (a.base + limit) blank))
     is = written ∙ ap (set es (a.base + limit)) (ce ∙ ap (with_nullable k) be)
 
@@ -55,7 +61,7 @@ module _ {limit : ℕ} {cs es : List Cell} {a : IntMap} {at n : ℕ} (current : 
         (span_same es ds (n - 1) (p + 1) (p + 1) (λ j lt. behind_other (p + 1 + j) (omega arith)))
         ∙ ap (on_head (with_nullable k)) (opened es p n some ∙ ap (span es p) new.count ∙ span_same cs es (size cs levels at) at p moved_agree)
 
-    pub run_behind : RunBehind limit cs ds a at k n
+    pub run_behind : RunBehind limit cs ds a at nullable n
     run_behind =
         record {
           run = run;

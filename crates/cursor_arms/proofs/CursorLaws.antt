@@ -5,7 +5,7 @@ use mathlib.Core.Path.{◌≡◌, refl, sym, ap, subst, ◌∙◌}
 use mathlib.Core.Bool.{Bool, true, false}
 use Rattle.std.specs.Prelude.{Option, Some, Ok, Err, None}
 use mathlib.Core.List.{List, [], ◌∷◌}
-use Prim.Native.Nat.{ℕ, zero, suc, ◌+◌, ◌-◌, ◌%◌, ◌<◌, ◌≤◌}
+use Prim.Native.Nat.{ℕ, ◌+◌, ◌-◌, ◌%◌, ◌<◌, ◌≤◌}
 use native.Mathlib.Omega.{arith}
 use lib.Dec.{eqb}
 use lib.ListN.{get_or}
@@ -27,11 +27,12 @@ use Rattle.intmap.specs.Get.{Gets, Slot}
 use Rattle.intmap.specs.declared.IntMap.{IntMap}
 use Rattle.intmap.proofs.RunLaws.{size-pos}
 use Rattle.intmap.proofs.SignedLaws.{int_word}
+use Rattle.intmap.proofs.EntryLaws.{opened}
 use Rattle.encoding.specs.Encode.{run_cursor}
 use Rattle.encoding.specs.Holds.{SmallCursor}
 use Rattle.encoding.proofs.Injective.{first-is}
 use Rattle.encoding.proofs.HeldRead.{told_cursor}
-use Rattle.cursor_arms.specs.Cursors.{cursor_in, TellsCursor, RowWithin, Reading, ReadsCursor}
+use Rattle.cursor_arms.specs.Cursors.{cursor_in, TellsCursor, RowWithin, ReadsCursor}
 use Rattle.cursor_arms.specs.declared.CursorDataType.{CursorDataType}
 use Rattle.cursor_arms.specs.declared.CursorDataType.TheVariants as cursor
 
@@ -84,11 +85,6 @@ module _ (cs : List Cell) (a : IntMap) (i : ℕ) (x : Slot) (g : Gets cs a 1 i x
     pub read_within : p < a.base + a.used
     read_within = omega (arith, there.place.1, size-pos cs levels p)
 
-    opened : (n : ℕ) → 0 < n → get_or cs p blank ∷ span cs (p + 1) (n - 1) ≡ span cs p n
-    unfolding span
-    opened zero h = absurd (omega arith)
-    opened (suc n) h = let z : suc n - 1 ≡ n = omega arith in rw z
-
     pub read_at : (c : Cell) (r : CursorDataType) → c ≡ get_or cs p blank → r ≡ cursor_in c → ReadsCursor cs a i (Ok (Some r))
     read_at c r ce re =
         record {
@@ -96,14 +92,11 @@ module _ (cs : List Cell) (a : IntMap) (i : ℕ) (x : Slot) (g : Gets cs a 1 i x
               (let v = (told_cursor h (int_of i)).present (span cs p (size cs levels p)) (sym there.answer) in
               subst (λ y. TellsCursor bound y (read_cursor (int_of i) m)) (sym re)
               (cursor_told bound c (span cs (p + 1) (size cs levels p - 1)) (class_key 1 (turns (int_of i))) (read_cursor (int_of i) m) (omega (arith, h.small.bounded)) v.value
-              (ap (λ y. y ∷ span cs (p + 1) (size cs levels p - 1)) ce ∙ opened (size cs levels p) (size-pos cs levels p) ∙ v.is) v.has.0 v.has.1 v.answer));
+              (ap (λ y. y ∷ span cs (p + 1) (size cs levels p - 1)) ce ∙ opened cs p (size cs levels p) (size-pos cs levels p) ∙ v.is) v.has.0 v.has.1 v.answer));
           within = subst RowWithin (sym re) (in_within c);
         }
 
--- a cursor that was read: its row is an index, and some cursor of the definition is it
-pub row_within : (cs : List Cell) (a : IntMap) (i : ℕ) (r : Reading) → ReadsCursor cs a i r → (c : CursorDataType) → r ≡ Ok (Some c) → RowWithin c
-row_within cs a i r reads c e = (subst (ReadsCursor cs a i) e reads).within
-
+-- some cursor of the definition is the one that was read
 pub told_some : (bound : ℕ) (c : CursorDataType) (t : Tried (Option Cursor)) → TellsCursor bound c t → (o : Option Cursor) × (t ≡ done o) × TellsCursor bound c (done o)
 told_some bound (cursor.Normal row) t told = (Some (Normal row), told.answer, record { answer = refl; index = told.index })
 told_some bound (cursor.Pseudo w) t told = (Some (Pseudo (int_of w)), told.answer, record { answer = refl; small = told.small })

@@ -21,15 +21,15 @@ use Rattle.intmap.specs.declared.IntMap.{IntMap}
 use Rattle.encoding.specs.Encode.{run_cursor}
 use Rattle.encoding.specs.Holds.{SmallCursor, HeldNext}
 use Rattle.intmap.proofs.SignedLaws.{word_int, small_int}
-use Rattle.rows.specs.Rows.{Operand}
-use Rattle.rows.specs.declared.Row.{Row}
+use Rattle.rows.specs.Parts.{Operand}
+use Rattle.rows.specs.declared.row.Row.{Row}
 use Rattle.encoding.proofs.HeldAfter.{held_cursor}
-use Rattle.state.specs.Leads.{HoldsMap, operands, Leads}
+use Rattle.state.specs.Leads.{HoldsMap, Tells, operands, Leads}
 use Rattle.state.specs.Arms.{CursorArm}
 use Rattle.cursor_arms.specs.Cursors.{cell_of}
 use Rattle.cursor_arms.specs.declared.CursorDataType.{CursorDataType}
 use Rattle.cursor_arms.specs.declared.CursorDataType.TheVariants as cursor
-use Rattle.state.proofs.StoreLeads.{wider, leads_as}
+use Rattle.state.proofs.StoreLeads.{wider}
 
 -- t is what storing v gives, and v may be stored
 pub record Storable (limit bound i : ℕ) (v : Cursor) (m : MemoryState) (t : Tried MemoryState) : Type 0 where
@@ -93,9 +93,11 @@ module _ (limit : ℕ) (cs ds : List Cell) (a : IntMap) (x : Row) (r : Stored) w
   unfolding cursor_arm
   pseudo_arm l row =
       record {
-        leads = λ meaning y st j.
-            leads_as r
-            (λ m.
-            ap (λ n. store_cursor n (int_of x.p1) (Pseudo (int_of x.p2)) m) (sym st.cells)
-            ∙ ap₂ (λ p q. store_cursor meaning.cell_limit p (Pseudo q) m) j.p1 j.p2) l;
+        says = λ meaning y st j bound m le h.
+            subst (Tells limit bound ds r)
+            (ap (λ n. store_cursor n (int_of x.p1) (Pseudo (int_of x.p2)) m) (sym st.cells)
+            ∙ ap₂ (λ p q. store_cursor meaning.cell_limit p (Pseudo q) m) j.p1 j.p2)
+            (l.says bound m le h);
+        leaves = l.leaves;
+        frame = l.frame;
       }

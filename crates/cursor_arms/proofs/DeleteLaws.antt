@@ -18,14 +18,14 @@ use Rattle.area.specs.declared.Cell.{Cell}
 use Rattle.intmap.specs.Signed.{int_of}
 use Rattle.intmap.specs.declared.IntMap.{IntMap}
 use Rattle.rows.specs.Judged.{Judged}
-use Rattle.rows.specs.declared.Row.{Row}
+use Rattle.rows.specs.declared.row.Row.{Row}
 use Rattle.state.specs.Leads.{Current}
 use Rattle.state.specs.Arms.{CursorArm}
+use Rattle.state.proofs.LeadsLaws.{unchanged}
 use Rattle.cursor_arms.specs.Cursors.{Reading, ReadsCursor}
 use Rattle.cursor_arms.specs.StandsFor.{CursorTableChanged}
 use Rattle.cursor_arms.specs.declared.CursorDataType.{CursorDataType}
 use Rattle.cursor_arms.proofs.CursorLaws.{told_some}
-use Rattle.cursor_arms.proofs.DupLaws.{frame_same}
 
 -- the arm, by what was read
 module _ (row : ℕ) (x : Row) (meaning : Meaning) (l : Listed) (j : Judged l x) (m : MemoryState) where
@@ -40,39 +40,30 @@ module _ (cs : List Cell) (a : IntMap) (x : Row) (r : Reading) (reads : ReadsCur
   pub delete_bad : (n : Refusal) → r ≡ Err n → (limit row : ℕ) → Current limit cs a → CursorArm limit cs cs a row x op_delete (Err n)
   delete_bad n e limit row current =
       record {
-        leads = λ meaning l st j.
-            record {
-              says = λ bound m le h. delete_is row x meaning l j m (refused (number_of n)) ((as_read (Err n) e).says limit bound m h);
-              leaves = tt;
-              frame = frame_same cs _ _;
-            };
+        says = λ meaning l st j bound m le h. delete_is row x meaning l j m (refused (number_of n)) ((as_read (Err n) e).says limit bound m h);
+        leaves = tt;
+        frame = unchanged cs _ _;
       }
 
   pub delete_absent : r ≡ Ok None → (limit row : ℕ) → Current limit cs a → CursorArm limit cs cs a row x op_delete (Ok a)
   unfolding update_cursor_table
   delete_absent e limit row current =
       record {
-        leads = λ meaning l st j.
-            record {
-              says = λ bound m le h. record { state = m; answer = delete_is row x meaning l j m (done None) ((as_read (Ok None) e).says limit bound m h); holds = h };
-              leaves = record { base = refl; room = current.room };
-              frame = frame_same cs _ _;
-            };
+        says = λ meaning l st j bound m le h. record { state = m; answer = delete_is row x meaning l j m (done None) ((as_read (Ok None) e).says limit bound m h); holds = h };
+        leaves = record { base = refl; room = current.room };
+        frame = unchanged cs _ _;
       }
 
   pub delete_changed : (c : CursorDataType) → r ≡ Ok (Some c) → (ds : List Cell) → CursorTableChanged after_delete cs ds a c → (limit row : ℕ) → Current limit cs a → CursorArm limit cs ds a row x op_delete (Ok a)
   delete_changed c e ds change limit row current =
       record {
-        leads = λ meaning l st j.
+        says = λ meaning l st j bound m le h.
+            (let told = told_some bound c (read_cursor (int_of x.p1) m) ((as_read (Ok (Some c)) e).says limit bound m h) in
             record {
-              says = λ bound m le h.
-                  (let told = told_some bound c (read_cursor (int_of x.p1) m) ((as_read (Ok (Some c)) e).says limit bound m h) in
-                  record {
-                    state = update_cursor_table after_delete told.0 m;
-                    answer = delete_is row x meaning l j m (done told.0) told.1;
-                    holds = change.holds limit bound m h told.0 told.2;
-                  });
-              leaves = record { base = refl; room = change.room limit current.room };
-              frame = record { long = change.frame.long; below = change.frame.below; above = λ j le. change.frame.above j (omega (arith, current.room.most)) };
-            };
+              state = update_cursor_table after_delete told.0 m;
+              answer = delete_is row x meaning l j m (done told.0) told.1;
+              holds = change.holds limit bound m h told.0 told.2;
+            });
+        leaves = record { base = refl; room = change.room limit current.room };
+        frame = record { long = change.frame.long; below = change.frame.below; above = λ j le. change.frame.above j (omega (arith, current.room.most)) };
       }

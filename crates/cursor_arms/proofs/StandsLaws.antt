@@ -1,5 +1,4 @@
 -- What a cursor stands for, by the entry that the search finds. Assumes nothing.
-use Rattle.refusal.specs.Numbers.{number_of}
 use Rattle.refusal.specs.declared.Refusal.{Refusal}
 use mathlib.Core.Path.{◌≡◌, refl, sym, ap, subst, ◌∙◌}
 use mathlib.Core.Bool.{Bool, true, false}
@@ -18,13 +17,13 @@ use Rattle.model.specs.Cells.{column_depth, register_depth}
 use Rattle.model.specs.Access.{◌>>=◌, index, read_register, read_cursor}
 use Rattle.model.specs.Cursor.{record_of, table_columns, cursor_columns, table_is_empty, cursor_is_empty}
 use Rattle.model.specs.Good.{SortedColumn, GoodRegister}
-use Rattle.model.proofs.Tried.{Kept, value}
+use Rattle.model.proofs.Tried.{Kept, value, done-same}
 use Rattle.model.proofs.Access.{index_small}
 use Rattle.area.specs.Cells.{cell, blank}
 use Rattle.area.specs.declared.Cell.{Cell}
 use Rattle.intmap.specs.Entries.{span}
 use Rattle.intmap.specs.Find.{seek}
-use Rattle.intmap.specs.Get.{index_of, Judges, Index, Slot}
+use Rattle.intmap.specs.Get.{Slot}
 use Rattle.intmap.specs.Map.{levels, IsMap}
 use Rattle.intmap.specs.Pack.{head, tag_of, class_key}
 use Rattle.intmap.specs.Pick.{pick}
@@ -40,7 +39,6 @@ use Rattle.intmap.proofs.Swapped.{seek_some, seek_none}
 use Rattle.encoding.specs.Decode.{nullable_in, nullables}
 use Rattle.encoding.specs.Encode.{nullable_code, count, run_column, run_columns, run_register, run_table}
 use Rattle.encoding.specs.Holds.{SmallRegister}
-use Rattle.encoding.proofs.Accesses.{apart}
 use Rattle.encoding.proofs.BySearch.{search_no_table}
 use Rattle.encoding.proofs.Reading.{register_record}
 use Rattle.encoding.proofs.HeldRead.{Value, told_register_at, told_table}
@@ -49,10 +47,10 @@ use Rattle.encoding.proofs.Packing.{nullable_small, nullable_coded}
 use Rattle.encoding.proofs.Flat.{flat_sizes}
 use Rattle.encoding.proofs.Standing.{stands_head, stands_rest}
 use Rattle.state.specs.Leads.{HoldsMap, Held}
-use Rattle.state.specs.Own.{entry_slot, is_flat}
+use Rattle.state.specs.Own.{entry_slot, is_flat, index_slot, place_of}
 use Rattle.state.proofs.OwnLaws.{case, entry_led, flat_told}
 use Rattle.cursor_arms.specs.Cursors.{Reading, TellsReading, ReadsCursor}
-use Rattle.cursor_arms.specs.StandsFor.{place_of, register_slot, head_slot, table_slot, columns_slot, empty_in, emptiness_in, SlotWithin, cursor_table, IsTable, TellsTable, HasColumns, TellsColumns, emptiness_of, FindsTable, FindsColumns, FindsReading, FindsCursor, TellsEmpty}
+use Rattle.cursor_arms.specs.StandsFor.{head_slot, table_slot, columns_slot, empty_in, emptiness_in, SlotWithin, cursor_table, IsTable, TellsTable, HasColumns, TellsColumns, emptiness_of, FindsTable, FindsColumns, FindsReading, FindsCursor, TellsEmpty}
 use Rattle.cursor_arms.specs.declared.CursorDataType.{CursorDataType}
 use Rattle.cursor_arms.specs.declared.CursorDataType.TheVariants as cursor
 
@@ -93,21 +91,9 @@ module _ (cs : List Cell) (a : IntMap) (class k : ℕ) where
 
 -- ---- a register by its index
 
-module _ (cs : List Cell) (a : IntMap) (i : ℕ) (x : Index) (judged : Judges i x) where
-  pub judged_bad : (n : Refusal) → x ≡ Err n → refused (number_of n) ≡ register_slot cs a (index (int_of i))
-  unfolding register_slot
-  judged_bad n e = ap (register_slot cs a) (subst (λ y. index_of y ≡ index (int_of i)) e judged.answer)
-
-  pub judged_at : (k : ℕ) → x ≡ Ok k → (s : Option ℕ) → s ≡ entry_slot cs a 0 k → done s ≡ register_slot cs a (index (int_of i))
-  unfolding register_slot
-  judged_at k e s is = ap done is ∙ ap (register_slot cs a) (subst (λ y. index_of y ≡ index (int_of i)) e judged.answer)
-
-pub done-same : {A : Type 0} {u v : A} → done u ≡ done v → u ≡ v
-done-same e = cc
-
-pub register_within : (cs : List Cell) (a : IntMap) → IsMap cs a → (t : Tried ℕ) (s : Option ℕ) → done s ≡ register_slot cs a t → SlotWithin cs s
-unfolding register_slot
-register_within cs a is (refused n) s e = absurd (apart n s (sym e))
+pub register_within : (cs : List Cell) (a : IntMap) → IsMap cs a → (t : Tried ℕ) (s : Option ℕ) → done s ≡ index_slot cs a 0 t → SlotWithin cs s
+unfolding index_slot
+register_within cs a is (refused n) s e = cc
 register_within cs a is (done k) s e = entry-within cs a 0 k is s (done-same e)
 
 -- ---- the head at a place
@@ -237,14 +223,14 @@ module _ {limit bound : ℕ} {cs : List Cell} {a : IntMap} {m : MemoryState} (h 
   record_tells k le None e = ap (λ o. done (record_of o)) (done-same ((told_register_at h k le).absent (ap done (seek_none cs levels (class_key 0 k) a.len a.base (led_nowhere cs a 0 k e)))))
   record_tells k le (Some p) e = record_at_lem k p le (led_at cs a 0 k p e)
 
-  register_tells : (i : ℤ) (r : Slot) → place_of r ≡ (register_slot cs a (index i) >>= λ o. done (head_slot cs o)) → TellsColumns cs a r (read_register i m >>= λ v. done (record_of v))
-  unfolding read_register register_slot
+  register_tells : (i : ℤ) (r : Slot) → place_of r ≡ (index_slot cs a 0 (index i) >>= λ o. done (head_slot cs o)) → TellsColumns cs a r (read_register i m >>= λ v. done (record_of v))
+  unfolding read_register index_slot
   register_tells i = go (index i) (index_small i)
     where
-      go : (t : Tried ℕ) → Kept (λ k. k ≤ 65535) t → (r : Slot) → place_of r ≡ (register_slot cs a t >>= λ o. done (head_slot cs o)) → TellsColumns cs a r (t >>= (λ k. done (get k m.r)) >>= λ v. done (record_of v))
+      go : (t : Tried ℕ) → Kept (λ k. k ≤ 65535) t → (r : Slot) → place_of r ≡ (index_slot cs a 0 t >>= λ o. done (head_slot cs o)) → TellsColumns cs a r (t >>= (λ k. done (get k m.r)) >>= λ v. done (record_of v))
       go (refused n) le (Err e) is = sym (ap (λ t. t >>= λ _. done None) is)
-      go (refused n) le (Ok o) is = absurd (apart n o (sym is))
-      go (done k) (value le) (Err e) is = absurd (apart (number_of e) (head_slot cs (entry_slot cs a 0 k)) is)
+      go (refused n) le (Ok o) is = cc
+      go (done k) (value le) (Err e) is = cc
       go (done k) (value le) (Ok o) is = subst (λ y. TellsColumns cs a (Ok y) (done (record_of (get k m.r)))) (sym (done-same is)) (record_tells k le (entry_slot cs a 0 k) refl)
 
 -- ---- the three methods: what they find tells what the definition's give
@@ -258,7 +244,7 @@ module _ (cs : List Cell) (a : IntMap) where
 
   pub finds_columns : (c : CursorDataType) (r : Slot) → place_of r ≡ columns_slot cs a c → FindsColumns cs a c r
   unfolding cursor_columns
-  finds_columns (cursor.Normal row) (Err e) is = absurd (apart (number_of e) _ is)
+  finds_columns (cursor.Normal row) (Err e) is = cc
   finds_columns (cursor.Normal row) (Ok o) is =
       record {
         place = is;
@@ -271,10 +257,6 @@ module _ (cs : List Cell) (a : IntMap) where
         place = is;
         says = λ limit bound m h t told. subst (TellsColumns cs a r) (sym (ap (λ u. u >>= λ c. cursor_columns c m) told.answer)) (register_tells h (int_of w) r is);
       }
-
-  -- of a cursor on the table of a row, by the entry
-  pub columns_normal : (c : CursorDataType) (row : ℕ) → c ≡ cursor.Normal row → (s : Option ℕ) → s ≡ entry_slot cs a 2 row → (o : Option ℕ) → o ≡ head_slot cs s → FindsColumns cs a c (Ok o)
-  columns_normal c row e s se o oe = finds_columns c (Ok o) (ap done (oe ∙ ap (head_slot cs) se) ∙ ap (columns_slot cs a) (sym e))
 
   pub tells_empty : (c : CursorDataType) (r : Option Bool) → r ≡ emptiness_in cs a c → TellsEmpty cs a c r
   unfolding cursor_is_empty
@@ -307,11 +289,11 @@ module _ (cs : List Cell) (a : IntMap) (is : IsMap cs a) (p : ℕ) where
           record { tag = tag; above = inside.0; below = omega (arith, inside.1, size_record cs 9 p (get_or cs p blank) refl (omega arith) tag) }
 
   columns_led : (c : CursorDataType) (r : Slot) → FindsColumns cs a c r → r ≡ Ok (Some p) → HeadLed
-  unfolding register_slot
+  unfolding index_slot
   columns_led c r finds e = go c (sym finds.place ∙ ap place_of e)
     where
-      register : (t : Tried ℕ) → (register_slot cs a t >>= λ o. done (head_slot cs o)) ≡ done (Some p) → HeadLed
-      register (refused n) h = absurd (apart n (Some p) h)
+      register : (t : Tried ℕ) → (index_slot cs a 0 t >>= λ o. done (head_slot cs o)) ≡ done (Some p) → HeadLed
+      register (refused n) h = cc
       register (done k) h = head_led 0 k (entry_slot cs a 0 k) refl (done-same h)
 
       go : (d : CursorDataType) → columns_slot cs a d ≡ done (Some p) → HeadLed
@@ -322,7 +304,7 @@ module _ (cs : List Cell) (a : IntMap) (is : IsMap cs a) (p : ℕ) where
   cursor_led i r found e = go found.reading found.finds
     where
       go : (q : Reading) → FindsReading cs a q r → HeadLed
-      go (Err n) is = absurd (apart (number_of n) (Some p) (ap place_of (sym is ∙ e)))
+      go (Err n) is = cc (ap place_of (sym is ∙ e))
       go (Ok None) is = absurd (omega (arith, ap case (done-same (ap place_of (sym is ∙ e)))))
       go (Ok (Some c)) is = columns_led c r is e
 

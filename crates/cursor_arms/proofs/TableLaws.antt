@@ -12,6 +12,7 @@ use lib.Seq.{get_or-set_same, get_or-set_other}
 use Rattle.model.specs.Walk.{done}
 use Rattle.model.specs.State.{TableDataType}
 use Rattle.model.specs.Cursor.{set_empty, update_cursor_table}
+use Rattle.model.proofs.Tried.{done-same}
 use Rattle.area.specs.Cells.{blank}
 use Rattle.area.specs.declared.Cell.{Cell}
 use Rattle.intmap.specs.Pack.{tag_of, class_key, with_nullable}
@@ -24,9 +25,9 @@ use Rattle.encoding.specs.Encode.{nullable_code}
 use Rattle.encoding.specs.Decode.{nullable_in}
 use Rattle.encoding.proofs.BySearch.{search_table_kept, search_empty}
 use Rattle.state.specs.Leads.{HoldsMap}
-use Rattle.cursor_arms.proofs.DupLaws.{frame_same}
 use Rattle.state.proofs.OwnLaws.{case}
-use Rattle.cursor_arms.proofs.StandsLaws.{done-same, Led, led_at, led_nowhere, led_inside}
+use Rattle.state.proofs.LeadsLaws.{unchanged}
+use Rattle.cursor_arms.proofs.StandsLaws.{Led, led_at, led_nowhere, led_inside}
 use Rattle.cursor_arms.specs.Cursors.{TellsCursor, TableChanged}
 use Rattle.cursor_arms.specs.StandsFor.{table_slot, FindsTable, CursorTableChanged}
 use Rattle.cursor_arms.specs.declared.CursorDataType.{CursorDataType}
@@ -102,7 +103,7 @@ module _ (e : Option Bool → Option Bool) (cs : List Cell) (a : IntMap) (row : 
       record {
         holds = λ limit bound m held. subst (λ s. HoldsMap limit bound cs a s) (sym (search_table_kept held row f h)) held;
         room = λ limit r. r;
-        frame = frame_same cs a.base a.used;
+        frame = unchanged cs a.base a.used;
       }
 
   module _ (p : ℕ) (is : IsMap cs a) (led : Led cs a 2 row p) where
@@ -149,7 +150,7 @@ module _ (cs : List Cell) (a : IntMap) (c : CursorDataType) (r : Option ℕ) (fi
               subst (λ u. HoldsMap limit bound cs a (update_cursor_table g u m)) (sym (done-same (subst (λ y. TellsCursor bound y (done o)) is told).answer)) h;
           other = λ no. refl;
           room = λ limit x. x;
-          frame = frame_same cs a.base a.used;
+          frame = unchanged cs a.base a.used;
         }
     none_by (cursor.Normal row) is p none = of_table g cs row is (none_changed e cs a row (led_nowhere cs a 2 row (sym p ∙ none)))
 

@@ -21,21 +21,12 @@ use Rattle.encoding.specs.Decode.{nullable_in}
 use Rattle.encoding.specs.Encode.{count, run_columns, run_table}
 use Rattle.encoding.specs.Holds.{Stands}
 use Rattle.state.specs.Leads.{HoldsMap}
-use Rattle.state.specs.Own.{entry_slot}
+use Rattle.state.specs.Own.{entry_slot, place_of, index_slot}
 use Rattle.cursor_arms.specs.Cursors.{TellsCursor, Reading, ReadsCursor}
 use Rattle.cursor_arms.specs.declared.CursorDataType.{CursorDataType}
 use Rattle.cursor_arms.specs.declared.CursorDataType.TheVariants as cursor
 
 -- ---- places
-
--- the refusal of a place, or the place
-abbrev pub place_of : Slot → Tried (Option ℕ)
-place_of (Err e) = refused (number_of e)
-place_of (Ok o) = done o
-
--- a register by its index, which is judged
-unfoldable pub register_slot : List Cell → IntMap → Tried ℕ → Tried (Option ℕ)
-register_slot cs a t = t >>= λ k. done (entry_slot cs a 0 k)
 
 -- a place, if a record's or table's head is there
 abbrev pub head_slot : List Cell → Option ℕ → Option ℕ
@@ -48,7 +39,7 @@ table_slot cs a (cursor.Pseudo w) = None
 
 abbrev pub columns_slot : List Cell → IntMap → CursorDataType → Tried (Option ℕ)
 columns_slot cs a (cursor.Normal row) = done (head_slot cs (entry_slot cs a 2 row))
-columns_slot cs a (cursor.Pseudo w) = register_slot cs a (index (int_of w)) >>= λ o. done (head_slot cs o)
+columns_slot cs a (cursor.Pseudo w) = index_slot cs a 0 (index (int_of w)) >>= λ o. done (head_slot cs o)
 
 -- the emptiness that a table's head says; where there is no table, the cursor is empty
 abbrev pub empty_in : List Cell → Option ℕ → Option Bool

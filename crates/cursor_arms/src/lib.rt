@@ -5,7 +5,7 @@
 
 ghost use Rattle.std.specs.Prelude.{◌≡◌, ℕ, ◌+◌, ◌<◌, ◌≤◌, length};
 ghost use Rattle.model.specs.State.{Normal, Pseudo};
-ghost use Rattle.model.specs.Access.{index, store_cursor};
+ghost use Rattle.model.specs.Access.{store_cursor};
 ghost use Rattle.model.specs.Cursor.{set_empty};
 ghost use Rattle.model.specs.CursorArms.{empty_after_delete, after_delete};
 ghost use Rattle.model.specs.Operation.{op_open_pseudo, op_open_dup, op_delete};
@@ -16,40 +16,17 @@ ghost use Rattle.intmap.specs.Runs.{size};
 ghost use Rattle.intmap.specs.Signed.{int_of};
 ghost use Rattle.encoding.specs.Encode.{nullable_code};
 ghost use Rattle.encoding.specs.Decode.{nullable_in};
-ghost use Rattle.rows.specs.Judged.{IsRow};
-ghost use Rattle.rows.specs.Rows.{Operand};
+ghost use Rattle.rows.specs.Parts.{Operand};
 ghost use Rattle.state.specs.Leads.{Held, Current, SomeCurrent, Leads};
 ghost use Rattle.state.specs.Arms.{CursorArm};
 ghost use Rattle.cursor_arms.specs.Cursors.{cursor_in, cell_of, RowWithin, ReadsCursor};
 ghost use Rattle.cursor_arms.specs.Behind.{RunBehind};
-ghost use Rattle.cursor_arms.specs.StandsFor.{place_of, register_slot, head_slot, empty_in, SlotWithin, FindsTable, FindsColumns, FindsCursor, TellsEmpty, CursorTableChanged};
+ghost use Rattle.cursor_arms.specs.StandsFor.{head_slot, empty_in, SlotWithin, FindsTable, FindsColumns, FindsCursor, TellsEmpty, CursorTableChanged};
 
 use area::Cell;
 use intmap::IntMap;
 use refusal::Refusal;
 use rows::Row;
-
-// The code that a table's head has for its emptiness, which may be unknown.
-pub fn nullable_code(empty: Option<bool>) -> u64
-    ensures { result ≡ nullable_code empty }
-{
-    match empty {
-        None => 0,
-        Some(false) => 1,
-        Some(true) => 2,
-    }
-}
-
-// The emptiness that a table's head says.
-fn emptiness_in(head: Cell) -> Option<bool>
-    ensures { result ≡ nullable_in head }
-{
-    match intmap::nullable_of(head) {
-        1 => Some(false),
-        2 => Some(true),
-        _ => None,
-    }
-}
 
 // What a cursor is. One on a table is told by the row that opened it, a pseudo cursor by its register's word.
 #[derive(Clone, Copy)]
@@ -79,15 +56,6 @@ pub fn read_cursor(map: IntMap, area: &[u8], i: u64) -> Result<Option<CursorData
     }
 }
 
-// Where register i is, if it is there.
-fn register_at(map: IntMap, area: &[u8], i: u64) -> Result<Option<usize>, Refusal>
-    requires { Held (cells area.now) map }
-    ensures { place_of result ≡ register_slot (cells area.now) map (index (int_of i)) }
-{
-    let k = intmap::judge_index(i)?;
-    Ok(state::entry_at(map, area, intmap::Class::Registers, k))
-}
-
 // A place, if a record's or table's head is there. A table's always is in a state, and asking makes it one in any cells.
 fn head_at(area: &[u8], x: Option<usize>) -> Option<usize>
     requires { SlotWithin (cells area.now) x × (length (cells area.now) ≤ 1048576) }
@@ -107,7 +75,7 @@ fn empty_at(area: &[u8], x: Option<usize>) -> Option<bool>
 {
     match x {
         None => Some(true),
-        Some(at) => emptiness_in(area::cell_at(area, at)),
+        Some(at) => state::nullable_in(area::cell_at(area, at)),
     }
 }
 
@@ -115,11 +83,11 @@ fn empty_at(area: &[u8], x: Option<usize>) -> Option<bool>
 fn after_delete(head: Cell) -> Cell
     ensures { result ≡ with_nullable (nullable_code (empty_after_delete (nullable_in head))) head }
 {
-    let empty = match emptiness_in(head) {
+    let empty = match state::nullable_in(head) {
         Some(true) => Some(true),
         _ => None,
     };
-    intmap::with_nullable(head, nullable_code(empty))
+    state::with_nullable(head, empty)
 }
 
 impl CursorDataType {
@@ -159,7 +127,10 @@ impl CursorDataType {
             CursorDataType::Normal(row) => {
                 Ok(head_at(area, state::entry_at(map, area, intmap::Class::Tables, row)))
             }
-            CursorDataType::Pseudo(i) => Ok(head_at(area, register_at(map, area, i)?)),
+            CursorDataType::Pseudo(i) => {
+                let at = state::get(map, area, intmap::Class::Registers, i)?;
+                Ok(head_at(area, at))
+            }
         }
     }
 
@@ -185,7 +156,7 @@ impl CursorDataType {
         let Some(at) = self.table(map, area) else {
             return;
         };
-        let c = intmap::with_nullable(area::cell_at(area, at), nullable_code(empty));
+        let c = state::with_nullable(area::cell_at(area, at), empty);
         area::put_cell(area, at, c);
     }
 
@@ -246,20 +217,26 @@ pub fn store_normal(
 
 // Copies the run of the entry at `at` to the room behind the map, with another nullable in its head, and gives how many cells it has. A store
 // may move that entry, so what is stored of it is taken from there.
-pub fn run_behind(map: IntMap, area: &mut [u8], at: usize, nullable: u64, limit: usize) -> usize
-    requires { Current limit (cells area.old) map × (map.base ≤ at) × (at + size (cells area.old) levels at ≤ map.base + map.used) × (nullable < 3) }
+pub fn run_behind(
+    map: IntMap,
+    area: &mut [u8],
+    at: usize,
+    nullable: Option<bool>,
+    limit: usize,
+) -> usize
+    requires { Current limit (cells area.old) map × (map.base ≤ at) × (at + size (cells area.old) levels at ≤ map.base + map.used) }
     ensures { RunBehind limit (cells area.old) (cells area.new) map at nullable result }
 {
     let to = map.base + limit;
     let n = intmap::copy_run(area, at, to, intmap::LEVELS);
-    let c = intmap::with_nullable(area::cell_at(area, to), nullable);
+    let c = state::with_nullable(area::cell_at(area, to), nullable);
     area::put_cell(area, to, c);
     n
 }
 
 // OpenPseudo: cursor P1 reads register P2.
 pub fn open_pseudo(map: IntMap, area: &mut [u8], x: Row, limit: usize) -> Result<IntMap, Refusal>
-    requires { Current limit (cells area.old) map × IsRow x }
+    requires { Current limit (cells area.old) map }
     ensures { (row : ℕ) → CursorArm limit (cells area.old) (cells area.new) map row x op_open_pseudo result }
 {
     store_pseudo(map, area, x.p1, x.p2, limit)
@@ -267,7 +244,7 @@ pub fn open_pseudo(map: IntMap, area: &mut [u8], x: Row, limit: usize) -> Result
 
 // OpenDup: cursor P1 becomes what cursor P2 is, if there is one.
 pub fn open_dup(map: IntMap, area: &mut [u8], x: Row, limit: usize) -> Result<IntMap, Refusal>
-    requires { Current limit (cells area.old) map × IsRow x }
+    requires { Current limit (cells area.old) map }
     ensures { (row : ℕ) → CursorArm limit (cells area.old) (cells area.new) map row x op_open_dup result }
 {
     let Some(p) = read_cursor(map, area, x.p2)? else {
@@ -278,7 +255,7 @@ pub fn open_dup(map: IntMap, area: &mut [u8], x: Row, limit: usize) -> Result<In
 
 // Delete: the table of cursor P1 might be empty now.
 pub fn delete(map: IntMap, area: &mut [u8], x: Row) -> Result<IntMap, Refusal>
-    requires { SomeCurrent (cells area.old) map × IsRow x }
+    requires { SomeCurrent (cells area.old) map }
     ensures { (limit row : ℕ) → Current limit (cells area.old) map → CursorArm limit (cells area.old) (cells area.new) map row x op_delete result }
 {
     let Some(p) = read_cursor(map, area, x.p1)? else {

@@ -1,7 +1,7 @@
 -- An access to the runs of a good state is the definition's access to the state, with the same refusals: what is read is the run of what is
 -- read there, and what is left are the runs of what is left there. From `StateRuns`, by key, and `Lengths`. Assumes nothing.
 use mathlib.Core.Path.{◌≡◌, refl, sym, ap, ◌∙◌}
-use mathlib.Core.Bool.{Bool, true, false, false≢true}
+use mathlib.Core.Bool.{Bool, true, false}
 use Rattle.std.specs.Prelude.{Option, None, Some, option_map}
 use mathlib.Core.List.{List, [], ◌∷◌}
 use Prim.Native.Nat.{ℕ, ◌≤◌}
@@ -41,14 +41,6 @@ use Rattle.encoding.proofs.InPlace.{register_not_null, table_empty}
 pub map_bind : {A B C : Type 0} (f : B → C) (t : Tried A) (g : A → Tried B) → map_tried f (t >>= g) ≡ (t >>= λ a. map_tried f (g a))
 map_bind f (refused n) g = refl
 map_bind f (done a) g = refl
-
--- a refusal is no answer
-abbrev is_done : {A : Type 0} → Tried A → Bool
-is_done (refused n) = false
-is_done (done a) = true
-
-pub apart : {A : Type 0} (n : ℕ) (a : A) → refused n ≡ done a → ⊥
-apart n a e = false≢true (ap is_done e)
 
 -- after a judged index
 by_index : {A : Type 0} (i : ℤ) (f g : ℕ → Tried A) → ((k : ℕ) → k ≤ 65535 → f k ≡ g k) → (index i >>= f) ≡ (index i >>= g)

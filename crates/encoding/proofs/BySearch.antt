@@ -15,7 +15,7 @@ use Rattle.model.specs.State.{RegDataType, TableDataType, MemoryState, to_not_nu
 use Rattle.model.specs.Access.{◌>>=◌, index, read_register, update_register, update_table}
 use Rattle.model.specs.Cursor.{set_empty, null_table, null_record}
 use Rattle.model.specs.Good.{GoodRegister, GoodTable, OnSome}
-use Rattle.model.proofs.Tried.{kept}
+use Rattle.model.proofs.Tried.{kept, done-same}
 use Rattle.model.proofs.Access.{index_small}
 use Rattle.area.specs.Cells.{blank}
 use Rattle.area.specs.declared.Cell.{Cell}
@@ -33,9 +33,6 @@ use Rattle.encoding.proofs.Reading.{register_record, register_plain, table_colum
 use Rattle.encoding.proofs.Updates.{update_kept, table_kept}
 use Rattle.encoding.proofs.HeldRead.{Value, told_register_at, told_table}
 use Rattle.encoding.proofs.HeldInPlace.{held_not_null, held_record_null, held_empty, held_table_null}
-
-done-same : {A : Type 0} {a b : A} → done a ≡ done b → a ≡ b
-done-same e = cc
 
 -- a run is its head and what follows
 head-rest : (cs : List Cell) (p n : ℕ) → 0 < n → span cs p n ≡ get_or cs p blank ∷ span cs (p + 1) (n - 1)

@@ -18,14 +18,14 @@ use Rattle.intmap.specs.Entries.{Runs, span, entries, total, key_run}
 use Rattle.intmap.specs.Find.{seek}
 use Rattle.intmap.specs.Pack.{key_of}
 use Rattle.intmap.specs.Runs.{size, sizes}
-use Rattle.intmap.proofs.EntryLaws.{total-sizes}
+use Rattle.intmap.proofs.EntryLaws.{total-sizes, entries_few}
 use Rattle.intmap.proofs.FindLaws.{seek_here, seek_past}
 use Rattle.intmap.proofs.RunLaws.{size-pos}
 use Rattle.encoding.specs.Encode.{count, run_column, column_runs, run_columns}
 use Rattle.encoding.specs.Holds.{Stands}
 use Rattle.encoding.proofs.Lengths.{length-flatten, count_runs}
 use Rattle.encoding.proofs.Packing.{column_key}
-use Rattle.encoding.proofs.Places.{Inner, inner_columns, inner_at, first_key, sizes-many}
+use Rattle.encoding.proofs.Places.{Inner, inner_columns, inner_at, first_key}
 use Rattle.encoding.proofs.Standing.{entries_stand, columns_whole}
 
 -- entries whose keys rise from `low` on
@@ -59,7 +59,7 @@ module _ (cs : List Cell) (d : ℕ) where
   direct (suc n) p low (suc r) flat rise lt =
       let z = size cs d p in
       let key = first_key cs p z (size-pos cs d p) in
-      let one : z ≡ 1 = omega (arith, size-pos cs d p, flat, sizes-many cs d n (p + z)) in
+      let one : z ≡ 1 = omega (arith, size-pos cs d p, flat, entries_few cs d n (p + z)) in
       let next : p + z + r ≡ p + suc r = omega (arith, one) in
       let b = direct n (p + z) (suc (key_run (span cs p z))) r (omega (arith, flat, one)) rise.1 (omega arith) in
       let c = subst (λ q. (suc (key_run (span cs p z)) ≤ key_of (get_or cs q blank)) × ((seek cs d (key_of (get_or cs q blank)) n (p + z)).at ≡ q) × ((seek cs d (key_of (get_or cs q blank)) n (p + z)).present ≡ true)) next (b.from, b.at, b.present) in
@@ -81,4 +81,4 @@ pub flat_sizes : (x : Columns) → columns_depth x ≤ 8 → SortedColumns x 0 �
 flat_sizes x depth sorted cs p n last stands number below behind =
     let runs : entries cs 8 n p ≡ column_runs x = ap (λ k. entries cs 8 k p) (number ∙ sym (count_runs x)) ∙ entries_stand 8 (column_runs x) (columns_whole x 8 depth) cs p stands in
     let long : sizes (size cs 8) n p ≡ length (run_columns x) = total-sizes cs 8 n p ∙ ap total runs ∙ sym (length-flatten (column_runs x)) in
-    long ∙ columns_flat x sorted cs p n last stands (omega (arith, long, sizes-many cs 8 n p)) below behind
+    long ∙ columns_flat x sorted cs p n last stands (omega (arith, long, entries_few cs 8 n p)) below behind

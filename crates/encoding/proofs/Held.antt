@@ -3,14 +3,15 @@
 -- number of entries and place. Assumes nothing.
 use mathlib.Core.Path.{◌≡◌, refl, sym, ap, ◌∙◌}
 use mathlib.Core.Logic.{◌↔◌}
-use mathlib.Core.Bool.{Bool, true, ◌&&◌}
+use mathlib.Core.Bool.{true, ◌&&◌}
 use mathlib.Core.List.{List, flatten}
-use Prim.Native.Nat.{ℕ, zero, suc, ◌+◌, ◌≤◌}
+use Prim.Native.Nat.{ℕ, ◌+◌, ◌≤◌}
 use native.Mathlib.Omega.{arith}
 use lib.ListN.{length}
 use lib.Dec.{eqb}
 use lib.IntN.{ℤ}
 use borrow.Author.Tests.{eq-eqb, eqb-true}
+use Rattle.std.specs.Cmp.Derive.{both_true}
 use Rattle.model.specs.State.{MemoryState, fresh}
 use Rattle.model.specs.Cells.{cells}
 use Rattle.model.specs.Good.{Good}
@@ -24,7 +25,7 @@ use Rattle.intmap.specs.Runs.{size, sizes, eq_columns, Agree}
 use Rattle.intmap.proofs.RunLaws.{and_left, and_right}
 use Rattle.intmap.proofs.SameCells.{size_same, sizes_same}
 use Rattle.intmap.specs.Entries.{entries, total, Runs}
-use Rattle.intmap.proofs.EntryLaws.{total-sizes, entries-same, entries_few}
+use Rattle.intmap.proofs.EntryLaws.{total-sizes, entries-same, entries_few, entries-count}
 use Rattle.encoding.specs.Encode.{run_map, runs_of}
 use Rattle.intmap.specs.Swap.{swap, lookup}
 use Rattle.intmap.specs.Map.{CopiedMap}
@@ -86,14 +87,6 @@ held-fresh limit bound cs base h = record { runs = refl; takes = refl; good = fr
 pub cells_swapped : (key : ℕ) (new : Runs) (m n : MemoryState) → swap key new (runs_of m) ≡ runs_of n → cells n + cells_of (lookup key (runs_of m)) ≡ cells m + total new
 cells_swapped key new m n e = omega (arith, total-swap key new (runs_of m), ap total e, total_runs m, total_runs n)
 
-entries-count : (cs : List Cell) (d n p : ℕ) → length (entries cs d n p) ≡ n
-unfolding entries
-entries-count cs d zero p = refl
-entries-count cs d (suc n) p = ap suc (entries-count cs d n (p + size cs d p))
-
-both : {a b : Bool} → a ≡ true → b ≡ true → a && b ≡ true
-both {a} {b} p q = ap (λ x. x && b) p ∙ q
-
 -- two held states
 module _ (limit bound : ℕ) (m n : MemoryState) where
   pub held_same : (cs ds : List Cell) (base len used at count kept : ℕ) → Holds limit bound cs base len used m → Holds limit bound ds at count kept n → (entries cs 9 len base ≡ entries ds 9 count at) ↔ SameMaps m n
@@ -127,8 +120,8 @@ module _ (limit bound : ℕ) (m n : MemoryState) where
             let e : m ≡ n = state_decides.sound m n h in
             let f : entries cs 9 len base ≡ entries cs 9 count at = first.runs ∙ ap runs_of e ∙ sym second.runs in
             let c : len ≡ count = sym (entries-count cs 9 len base) ∙ ap length f ∙ entries-count cs 9 count at in
-            both (ap (λ x. eq_int m.program_i x.program_i) (sym e) ∙ int_decides.reflexive m.program_i)
-            (both (eq-eqb len count c) ((held_compared c).1 (same_maps.0 f)))
+            both_true (ap (λ x. eq_int m.program_i x.program_i) (sym e) ∙ int_decides.reflexive m.program_i)
+            (both_true (eq-eqb len count c) ((held_compared c).1 (same_maps.0 f)))
 
         back : eq_int m.program_i n.program_i && (eqb len count && eq_columns cs 9 len base at) ≡ true → eq_state m n ≡ true
         back h =

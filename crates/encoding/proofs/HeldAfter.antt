@@ -27,7 +27,7 @@ use Rattle.encoding.specs.Changes.{change_at, change_runs}
 use Rattle.encoding.specs.Holds.{largest, SmallRegister, SmallCursor, SmallNumbers, Holds, HeldNext}
 use Rattle.encoding.proofs.Numbers.{numbers_insert, numbers_insert_cursor, numbers_remove, numbers_tables, numbers_update}
 use Rattle.encoding.proofs.Updates.{update_stored}
-use Rattle.encoding.proofs.Accesses.{apart, store_register_lem, store_cursor_lem, store_table_lem, remove_register_lem, update_register_lem, update_table_lem}
+use Rattle.encoding.proofs.Accesses.{store_register_lem, store_cursor_lem, store_table_lem, remove_register_lem, update_register_lem, update_table_lem}
 
 -- an access to the runs of m is the definition's t, whose state, if there is one, is good and has small numbers
 pub record Follows (limit bound : ℕ) (access : Runs → Tried Runs) (m : MemoryState) (t : Tried MemoryState) : Type 0 where
@@ -54,12 +54,12 @@ module _ (limit bound : ℕ) (t : Tried MemoryState) (good : Kept (Good limit) t
   answer_carried u same = record { next = λ ds base len used es e f s. stay ds base len used es f s t (sym same ∙ e) good small; refuses = λ n e. refuse n t (sym same ∙ e) }
     where
       stay : (ds : List Cell) (base len used : ℕ) (es : Runs) → entries ds 9 len base ≡ es → used ≡ sizes (size ds 9) len base → (t : Tried MemoryState) → map_tried runs_of t ≡ done es → Kept (Good limit) t → Kept (SmallNumbers bound) t → HeldNext limit bound ds base len used t
-      stay ds base len used es f s (refused n) q g w = absurd (apart n es q)
+      stay ds base len used es f s (refused n) q g w = cc
       stay ds base len used es f s (done m) q (value g) (value w) = record { state = m; answer = refl; holds = record { runs = f ∙ sym cc; takes = s; good = g; small = w } }
 
       refuse : (n : ℕ) (t : Tried MemoryState) → map_tried runs_of t ≡ refused n → t ≡ refused n
       refuse n (refused k) q = cc
-      refuse n (done m) q = absurd (apart n (runs_of m) (sym q))
+      refuse n (done m) q = cc
 
 pub carried : {limit bound old : ℕ} {access : Runs → Tried Runs} {m : MemoryState} {t : Tried MemoryState} {cs : List Cell} {base len used : ℕ} → Follows limit bound access m t → Holds limit old cs base len used m → Carried limit bound (access (entries cs 9 len base)) t
 carried {limit} {bound} {access = access} {t = t} follows holds = answer_carried limit bound t follows.good follows.small _ (ap access holds.runs ∙ follows.same)

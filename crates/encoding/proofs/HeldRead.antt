@@ -25,7 +25,7 @@ use Rattle.encoding.specs.Answers.{map_tried}
 use Rattle.encoding.specs.Holds.{SmallRegister, SmallCursor, Holds}
 use Rattle.encoding.proofs.StateRuns.{get_register}
 use Rattle.encoding.proofs.Numbers.{numbers_register, numbers_cursor}
-use Rattle.encoding.proofs.Accesses.{apart, register_read, cursor_read, read_table}
+use Rattle.encoding.proofs.Accesses.{register_read, cursor_read, read_table}
 
 -- a value that was read, and its run
 pub record Value {A : Type 0} (P : A → Type 0) (run : A → List Cell) (r : List Cell) (t : Tried (Option A)) : Type 0 where
@@ -45,18 +45,18 @@ module _ {A : Type 0} {P : A → Type 0} {run : A → List Cell} where
   told {t = t} same good = record { present = λ r e. here r t (sym same ∙ e) good; absent = λ e. gone t (sym same ∙ e); refuses = λ n e. stops n t (sym same ∙ e) }
     where
       here : (r : List Cell) (t : Tried (Option A)) → map_tried (option_map run) t ≡ done (Some r) → Kept (OnSome P) t → Value P run r t
-      here r (refused k) e good = absurd (apart k (Some r) e)
+      here r (refused k) e good = cc
       here r (done None) e good = absurd (none-some r cc)
       here r (done (Some v)) e (value p) = record { value = v; answer = refl; is = cc; has = p }
 
       gone : (t : Tried (Option A)) → map_tried (option_map run) t ≡ done None → t ≡ done None
-      gone (refused k) e = absurd (apart k None e)
+      gone (refused k) e = cc
       gone (done None) e = refl
       gone (done (Some v)) e = absurd (none-some (run v) cc)
 
       stops : (n : ℕ) (t : Tried (Option A)) → map_tried (option_map run) t ≡ refused n → t ≡ refused n
       stops n (refused k) e = cc
-      stops n (done o) e = absurd (apart n (option_map run o) (sym e))
+      stops n (done o) e = cc
 
 -- two properties of what was found
 both : {A : Type 0} (k : ℕ) (P Q : A → Type 0) (o : Option A) → OnSome (λ v. (k ≤ 65535) × P v) o → OnSome Q o → OnSome (λ v. P v × Q v) o

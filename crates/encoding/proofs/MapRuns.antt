@@ -7,26 +7,17 @@ use Rattle.std.proofs.lemmas.Option.{none-some, same_Some}
 use mathlib.Core.List.{List, [], ◌∷◌}
 use Prim.Native.Nat.{ℕ, suc, ◌<◌, ◌≤◌, compare, Ordering}
 use native.Mathlib.Omega.{arith}
-use lib.Dec.{eqb, is_le, compare_is_eq}
-use borrow.Author.Tests.{leb-true, leb-false, eqb-true, eqb-false, eq-eqb, ne_eqb}
+use lib.Dec.{eqb}
+use borrow.Author.Tests.{eq-eqb, ne_eqb}
 use Rattle.model.specs.IntMap.{Entry, ◌⇒◌, get_if, get, insert_by, insert, remove_if, remove, update_if, update, Rising}
 use Rattle.model.specs.Good.{OnSome}
+use Rattle.model.proofs.IntMap.{compare_lt, compare_eq, compare_gt}
 use Rattle.area.specs.declared.Cell.{Cell}
 use Rattle.intmap.specs.Pack.{class_key}
 use Rattle.intmap.specs.Entries.{Runs, key_run}
 use Rattle.encoding.specs.Encode.{run_map}
 use Rattle.intmap.specs.Swap.{swap, lookup}
 use Rattle.intmap.proofs.SwapLaws.{From, Under, swap_less, swap_same, swap_from, lookup_less, lookup_same, lookup_from}
-
--- what `compare` says
-compare_less : (a b : ℕ) → compare a b ≡ Ordering.lt → a < b
-compare_less a b e = omega (arith, leb-true a b (ap is_le e), eqb-false a b (ap compare_is_eq e))
-
-compare_same : (a b : ℕ) → compare a b ≡ Ordering.eq → a ≡ b
-compare_same a b e = eqb-true a b (ap compare_is_eq e)
-
-compare_more : (a b : ℕ) → compare a b ≡ Ordering.gt → b < a
-compare_more a b e = leb-false a b (ap is_le e)
 
 -- a key and the first entry of a map
 module _ {A : Type 0} (k : ℕ) (e : Entry A) (es : List (Entry A)) where
@@ -84,13 +75,13 @@ module _ {A : Type 0} (P : ℕ → A → Type 0) (k : ℕ) where
   update_present f v low (e ∷ es) s g = by (compare k e.key) refl (update_present f v (suc e.key) es s.2)
     where
       by : (o : Ordering) → compare k e.key ≡ o → (get k es ≡ Some v → update k f es ≡ insert k (f v) es) → update k f (e ∷ es) ≡ insert_by o (k ⇒ f v) e es (insert k (f v) es)
-      by Ordering.lt c rest = absurd (none-some v (sym (get_past e.key (e ∷ es) (compare_less k e.key c) (omega arith, s.1, s.2)) ∙ g))
+      by Ordering.lt c rest = absurd (none-some v (sym (get_past e.key (e ∷ es) (compare_lt k e.key c) (omega arith, s.1, s.2)) ∙ g))
       by Ordering.eq c rest =
-          let q : e.key ≡ k = sym (compare_same k e.key c) in
+          let q : e.key ≡ k = sym (compare_eq k e.key c) in
           let w : e.value ≡ v = same_Some e.value v (sym (get_first k e es q) ∙ g) in
           update_first k e es q f ∙ ap₂ (λ x y. x ∷ y) (ap₂ (λ x y. x ⇒ f y) q w) (update_absent f es (get_past (suc e.key) es (omega arith) s.2))
       by Ordering.gt c rest =
-          let n : e.key ≡ k → ⊥ = omega (arith, compare_more k e.key c) in
+          let n : e.key ≡ k → ⊥ = omega (arith, compare_gt k e.key c) in
           update_other k e es n f ∙ ap (λ l. e ∷ l) (rest (sym (get_other k e es n) ∙ g))
 
   -- a change that leaves what is there as it is
@@ -126,9 +117,9 @@ module _ {A : Type 0} (run : ℕ → A → List Cell) (keyed : (key : ℕ) (v : 
 
       by : (o : Ordering) → compare k e.key ≡ o → swap (at k) (run (at k) v ∷ []) (runs_by es) ≡ runs_by (insert k v es)
           → swap (at k) (run (at k) v ∷ []) (run (at e.key) e.value ∷ runs_by es) ≡ runs_by (insert_by o (k ⇒ v) e es (insert k v es))
-      by Ordering.lt c rest = swap_from (at k) _ _ (omega (arith, key, rises k e.key (compare_less k e.key c)))
-      by Ordering.eq c rest = swap_same (at k) _ _ (key ∙ ap at (sym (compare_same k e.key c))) _
-      by Ordering.gt c rest = swap_less (at k) _ _ (omega (arith, key, rises e.key k (compare_more k e.key c))) _ ∙ ap (λ l. run (at e.key) e.value ∷ l) rest
+      by Ordering.lt c rest = swap_from (at k) _ _ (omega (arith, key, rises k e.key (compare_lt k e.key c)))
+      by Ordering.eq c rest = swap_same (at k) _ _ (key ∙ ap at (sym (compare_eq k e.key c))) _
+      by Ordering.gt c rest = swap_less (at k) _ _ (omega (arith, key, rises e.key k (compare_gt k e.key c))) _ ∙ ap (λ l. run (at e.key) e.value ∷ l) rest
 
   module _ (rises : (i j : ℕ) → i < j → at i < at j) (k : ℕ) (P : ℕ → A → Type 0) where
     pub lookup_by : (low : ℕ) (es : List (Entry A)) → Rising P low es → lookup (at k) (runs_by es) ≡ option_map (run (at k)) (get k es)
@@ -138,13 +129,13 @@ module _ {A : Type 0} (run : ℕ → A → List Cell) (keyed : (key : ℕ) (v : 
         by : (o : Ordering) → compare k e.key ≡ o → lookup (at k) (runs_by es) ≡ option_map (run (at k)) (get k es)
             → lookup (at k) (run (at e.key) e.value ∷ runs_by es) ≡ option_map (run (at k)) (get k (e ∷ es))
         by Ordering.lt c rest =
-            let h = compare_less k e.key c in
+            let h = compare_lt k e.key c in
             lookup_from (at k) _ (omega (arith, keyed (at e.key) e.value, rises k e.key h)) ∙ ap (option_map (run (at k))) (sym (get_past P k e.key (e ∷ es) h (omega arith, s.1, s.2)))
         by Ordering.eq c rest =
-            let h = compare_same k e.key c in
+            let h = compare_eq k e.key c in
             lookup_same (at k) _ _ (keyed (at e.key) e.value ∙ ap at (sym h)) ∙ ap (λ x. Some (run (at x) e.value)) (sym h) ∙ ap (option_map (run (at k))) (sym (get_first k e es (sym h)))
         by Ordering.gt c rest =
-            let h = compare_more k e.key c in
+            let h = compare_gt k e.key c in
             lookup_less (at k) _ _ (omega (arith, keyed (at e.key) e.value, rises e.key k h)) ∙ rest ∙ ap (option_map (run (at k))) (sym (get_other k e es (omega arith)))
 
 module _ {A : Type 0} (run : ℕ → A → List Cell) (keyed : (key : ℕ) (v : A) → key_run (run key v) ≡ key) (class : ℕ) where
@@ -189,13 +180,13 @@ module _ {A : Type 0} (run : ℕ → A → List Cell) (keyed : (key : ℕ) (v : 
           by : (o : Ordering) → compare k e.key ≡ o → swap its [] (run_map run class es) ≡ run_map run class (remove k es)
               → swap its [] (run_entry e ∷ run_map run class es) ≡ run_map run class (remove k (e ∷ es))
           by Ordering.lt c rest =
-              let h = compare_less k e.key c in
+              let h = compare_lt k e.key c in
               swap_from its [] _ (omega (arith, entry_key e)) ∙ ap (run_map run class) (sym (remove_past P k e.key (e ∷ es) h (omega arith, s.1, s.2)))
           by Ordering.eq c rest =
-              let h = compare_same k e.key c in
+              let h = compare_eq k e.key c in
               swap_same its _ _ (omega (arith, entry_key e)) [] ∙ ap (run_map run class) (sym (remove_first k e es (sym h)))
           by Ordering.gt c rest =
-              let h = compare_more k e.key c in
+              let h = compare_gt k e.key c in
               swap_less its _ _ (omega (arith, entry_key e)) [] ∙ ap (λ l. run_entry e ∷ l) rest ∙ ap (run_map run class) (sym (remove_other k e es (omega arith)))
 
       pub update_map : (f : A → A) (v : A) (low : ℕ) (es : List (Entry A)) → Rising P low es → get k es ≡ Some v → swap (class_key class k) (run (class_key class k) (f v) ∷ []) (run_map run class es) ≡ run_map run class (update k f es)

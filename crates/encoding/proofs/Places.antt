@@ -112,12 +112,6 @@ other_key : (cs : List Cell) (at p z : ℕ) → 1 ≤ z → Within (span cs at z
 other_key cs at p zero h s lo hi = absurd (omega arith)
 other_key cs at p (suc z) h s lo hi = inner_at cs z (at + 1) p (unfold span in s) (omega arith) (omega arith)
 
--- each run has a cell
-pub sizes-many : (cs : List Cell) (d n p : ℕ) → n ≤ sizes (size cs d) n p
-unfolding sizes
-sizes-many cs d zero p = omega arith
-sizes-many cs d (suc n) p = omega (arith, size-pos cs d p, sizes-many cs d n (p + size cs d p))
-
 -- the cell at p, of the entries from `at` on, begins one
 record Begins (cs : List Cell) (d key n at low p : ℕ) : Type 0 where
   from : low ≤ key

@@ -22,7 +22,7 @@ use Rattle.encoding.specs.Answers.{map_tried}
 use Rattle.encoding.specs.Changes.{column_run, read_column_runs}
 use Rattle.encoding.specs.Holds.{Holds}
 use Rattle.encoding.proofs.Dense.{register_as_column, dense_runs}
-use Rattle.encoding.proofs.Accesses.{apart, register_read}
+use Rattle.encoding.proofs.Accesses.{register_read}
 
 column_run_lem : (key : ℕ) (o : Option RegDataType) → column_run (option_map (run_register key) o) ≡ run_column 0 (register_column o)
 column_run_lem key None = refl
@@ -60,7 +60,7 @@ module _ {limit bound : ℕ} {cs : List Cell} {base len used : ℕ} {m : MemoryS
   told_columns rs e = go (read_columns n i m) refl (same ∙ e)
     where
       go : (t : Tried (List ColumnType)) → read_columns n i m ≡ t → map_tried (map (run_column 0)) t ≡ done rs → ColumnsRead rs (read_columns n i m)
-      go (refused k) is e = absurd (apart k rs e)
+      go (refused k) is e = cc
       go (done x) is e =
           let are : rs ≡ map (run_column 0) x = cc in
           record { columns = x; answer = is; are = are; dense = dense_runs 0 x ∙ ap (rekeyed 0) (sym are); sorted = kept (read_columns_good holds.good n i) is }
@@ -70,4 +70,4 @@ module _ {limit bound : ℕ} {cs : List Cell} {base len used : ℕ} {m : MemoryS
     where
       go : (t : Tried (List ColumnType)) → map_tried (map (run_column 0)) t ≡ refused k → t ≡ refused k
       go (refused j) e = cc
-      go (done x) e = absurd (apart k (map (run_column 0) x) (sym e))
+      go (done x) e = cc

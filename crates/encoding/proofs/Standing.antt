@@ -130,7 +130,7 @@ unfolding run_map
 map_whole run Q each class low [] s = tt
 map_whole run Q each class low (e ∷ es) s = (each e.value _ s.1.1, map_whole run Q each class (suc e.key) es s.2)
 
-each_append : {A : Type 0} (P : A → Type 0) (a b : List A) → Each P a → Each P b → Each P (a ++ b)
+pub each_append : {A : Type 0} (P : A → Type 0) (a b : List A) → Each P a → Each P b → Each P (a ++ b)
 each_append P [] b f g = g
 each_append P (x ∷ a) b f g = (f.0, each_append P a b f.1 g)
 

@@ -4,27 +4,18 @@
 use mathlib.Core.Path.{◌≡◌, refl, sym, ap, subst, ◌∙◌}
 use Rattle.std.specs.Prelude.{Option, Some}
 use Prim.Native.Nat.{ℕ, ◌≤◌}
-use borrow.Author.Tests.{le-leb}
 use lib.IntN.{ℤ}
 use Rattle.model.specs.Walk.{Tried, refused, done}
 use Rattle.model.specs.IntMap.{get, insert, update}
 use Rattle.model.specs.State.{RegDataType, TableDataType, MemoryState}
-use Rattle.model.specs.Cells.{register_cells, register_depth, cells}
-use Rattle.model.specs.Access.{◌>>=◌, index, depth_if, judge_depth, cells_if, judge_cells, with_registers, with_tables, read_register, store_register, update_register, update_table}
+use Rattle.model.specs.Cells.{register_cells, register_depth}
+use Rattle.model.specs.Access.{◌>>=◌, index, judge_depth, judge_cells, with_registers, with_tables, read_register, store_register, update_register, update_table}
 use Rattle.model.specs.Good.{GoodRegister, Good, OnSome}
 use Rattle.model.proofs.Tried.{kept}
 use Rattle.model.proofs.InPlace.{NeverLarger}
 use Rattle.model.proofs.Access.{read_register_good, update_register_good}
+use Rattle.model.proofs.StoreInPlace.{depth_passes, cells_pass}
 use Rattle.encoding.proofs.MapRuns.{update_present, update_fixed}
-use Rattle.encoding.proofs.Accesses.{apart}
-
-depth_passes : {A : Type 0} (d : ℕ) (v : A) → d ≤ 8 → judge_depth d v ≡ done v
-unfolding judge_depth
-depth_passes d v h = ap (λ t. depth_if t v) (le-leb d 8 h)
-
-cells_pass : (limit : ℕ) (m : MemoryState) → cells m ≤ limit → judge_cells limit m ≡ done m
-unfolding judge_cells
-cells_pass limit m h = ap (λ t. cells_if t m) (le-leb (cells m) limit h)
 
 module _ {limit : ℕ} {m : MemoryState} (good : Good limit m) (i : ℤ) (f : RegDataType → RegDataType) where
   pub update_stored : (v : RegDataType) → read_register i m ≡ done (Some v) → NeverLarger register_cells GoodRegister f → update_register i f m ≡ store_register limit i (f v) m
@@ -48,7 +39,7 @@ module _ {limit : ℕ} {m : MemoryState} (good : Good limit m) (i : ℤ) (f : Re
   update_kept o read same = go (index i) read
     where
       go : (t : Tried ℕ) → (t >>= λ k. done (get k m.r)) ≡ done o → (t >>= λ k. done (with_registers (update k f m.r) m)) ≡ done m
-      go (refused n) e = absurd (apart n o e)
+      go (refused n) e = cc
       go (done k) e =
           let is : o ≡ get k m.r = cc in
           ap (λ r. done (with_registers r m)) (update_fixed (λ j u. (j ≤ 65535) × GoodRegister u) k f 0 m.r good.registers (subst (OnSome (λ v. f v ≡ v)) is same))
@@ -59,7 +50,7 @@ module _ {limit : ℕ} {m : MemoryState} (good : Good limit m) (i : ℤ) (f : Re
     where
       go : (t : Tried ℕ) → (t >>= λ k. done (get k m.r)) ≡ refused n → (t >>= λ k. done (with_registers (update k f m.r) m)) ≡ refused n
       go (refused k) e = cc
-      go (done k) e = absurd (apart n (get k m.r) (sym e))
+      go (done k) e = cc
 
 pub table_kept : {limit : ℕ} {m : MemoryState} → Good limit m → (row : ℕ) (f : TableDataType → TableDataType) → OnSome (λ t. f t ≡ t) (get row m.t) → update_table row f m ≡ m
 unfolding update_table

@@ -3,7 +3,7 @@
 use Rattle.std.specs.Prelude.{Bool, true, false, List, [], ◌∷◌, ◌/◌, ◌%◌, get_or, Option, None, Some}
 use Rattle.type_info.specs.Codes.{kinds}
 use Rattle.type_info.specs.declared.DataType.{DataType}
-use Rattle.type_info.specs.declared.DataType.TheVariants.{Null, Integer, Float, Text, Blob, Numeric, Bool as Boolean, Int4, Date, Time, Datetime}
+use Rattle.type_info.specs.declared.DataType.TheVariants.{Null}
 use Rattle.model.specs.State.{ColumnType, Single}
 use Rattle.area.specs.declared.Cell.{Cell}
 

@@ -21,18 +21,21 @@ use Rattle.encoding.proofs.Held.{held_more}
 use Rattle.opcode.specs.Opcode.{arm_of}
 use Rattle.opcode.specs.declared.Operation.{Operation}
 use Rattle.opcode.specs.declared.Operation.TheVariants.{Jump, IfPos, ResultRow}
+use Rattle.rows.specs.Parts.{Parts}
+use Rattle.rows.specs.Rows.{parts}
 use Rattle.rows.specs.Judged.{Judged}
-use Rattle.rows.specs.declared.Row.{Row}
+use Rattle.rows.specs.declared.row.Row.{Row}
 use Rattle.state.specs.Leads.{Current}
 use Rattle.state.specs.Steps.{HoldsState, TellsWay, TellsStep, LeavesStep, Way, Step}
 use Rattle.state.specs.declared.MemoryState.{MemoryState}
+use Rattle.state.proofs.LeadsLaws.{unchanged}
 use Rattle.jump_arms.specs.Arms.{at}
-use Rattle.jump_arms.proofs.StepLaws.{unchanged, held_at, held_next, lies_here}
+use Rattle.jump_arms.proofs.StepLaws.{held_at, held_next, lies_here}
 use Rattle.ifpos_arm.specs.Arm.{IfPosArm, TellsAs}
 use Rattle.record_arms.specs.Records.{columns_from}
 use Rattle.record_arms.proofs.RangeLaws.{columns-read}
 use Rattle.result_arm.specs.Results.{JudgesRow}
-use Rattle.record_arms.specs.declared.registers.Registers.{Registers}
+use Rattle.state.specs.declared.registers.Registers.{Registers}
 use Rattle.explain.specs.declared.Handling.TheVariants as handling
 use Rattle.explain.specs.Handles.{meaning_of, Handled, TellsHandling, LeavesHandling, Handles}
 use Rattle.explain.specs.Numbers.{NumberArm, as_handling}
@@ -70,26 +73,26 @@ told_as limit bound ds repeat (Ok w) o m told =
     record { the_branch = told.the_branch; the_state = told.the_state; answer = told.answer; branches = told.branches; goes_on = told.goes_on }
 
 -- the row's arm is that of its operation
-operation_is : {o : Operation} {x : Row} {l : Listed} → o ≡ x.op → Judged l x → arm_of o ≡ operation_of l.op
-operation_is e j = ap arm_of e ∙ j.op
+operation_is : (x : Row) {o : Operation} {l : Listed} → o ≡ x.op → Judged l x → arm_of o ≡ operation_of l.op
+operation_is x e j = ap arm_of e ∙ j.op
 
 module _ {limit from n : ℕ} {cs ds : List Cell} {blocks : List ℕ} {s : MemoryState} {x : Row} {again : Bool} where
-  pub number_handles : {op : Operation} (r : Step) → op ≡ x.op → NumberArm limit from n cs ds blocks s x op r → Handles limit from n cs ds blocks s x again (as_handling false r)
+  pub number_handles : {op : Operation} (r : Step) → op ≡ x.op → NumberArm limit from n cs ds blocks s x op r → Handles limit from n cs ds blocks s (parts x) again (as_handling false r)
   number_handles r e told =
       record {
         says = λ rows records l have long cat j bound m le top h.
-            subst (λ o. TellsHandling limit (bound + 1) ds m (as_handling false r) (arm (meaning_of limit records) rows again m l o)) (operation_is e j)
+            subst (λ o. TellsHandling limit (bound + 1) ds m (as_handling false r) (arm (meaning_of limit records) rows again m l o)) (operation_is x e j)
             (step_more limit bound ds top r _ m (told.says again rows records l have long cat j bound m le h));
         leaves = leaves_as limit ds s false r told.leaves;
         frame = told.frame;
       }
 
-  pub if_pos_handles : (r : Step) → IfPos ≡ x.op → IfPosArm limit cs ds s x again r → Handles limit from n cs ds blocks s x again (as_handling again r)
+  pub if_pos_handles : (r : Step) → IfPos ≡ x.op → IfPosArm limit cs ds s x again r → Handles limit from n cs ds blocks s (parts x) again (as_handling again r)
   unfolding arm
   if_pos_handles r e told =
       record {
         says = λ rows records l have long cat j bound m le top h.
-            subst (λ o. TellsHandling limit (bound + 1) ds m (as_handling again r) (arm (meaning_of limit records) rows again m l o)) (operation_is e j)
+            subst (λ o. TellsHandling limit (bound + 1) ds m (as_handling again r) (arm (meaning_of limit records) rows again m l o)) (operation_is x e j)
             (told_as limit (bound + 1) ds again r _ m (told.says l j bound m le top h));
         leaves = leaves_as limit ds s again r told.leaves;
         frame = told.frame;
@@ -97,13 +100,13 @@ module _ {limit from n : ℕ} {cs ds : List Cell} {blocks : List ℕ} {s : Memor
 
 -- ---- the arms that write nothing
 
-module _ {limit from n : ℕ} {cs : List Cell} {blocks : List ℕ} {s : MemoryState} {x : Row} {again : Bool} (current : Current limit cs s.map) where
-  pub three_handles : Jump ≡ x.op → Handles limit from n cs cs blocks s x again (Ok (handling.Three (at x.p1 s.map) (at x.p2 s.map) (at x.p3 s.map) (at (s.row + 1) s.map)))
+module _ {limit from n : ℕ} {cs : List Cell} {blocks : List ℕ} {s : MemoryState} (x : Row) {again : Bool} (current : Current limit cs s.map) where
+  pub three_handles : Jump ≡ x.op → Handles limit from n cs cs blocks s (parts x) again (Ok (handling.Three (at x.p1 s.map) (at x.p2 s.map) (at x.p3 s.map) (at (s.row + 1) s.map)))
   unfolding arm jump_arm
   three_handles e =
       record {
         says = λ rows records l have long cat j bound m le top h.
-            subst (λ o. TellsHandling limit (bound + 1) cs m (Ok (handling.Three (at x.p1 s.map) (at x.p2 s.map) (at x.p3 s.map) (at (s.row + 1) s.map))) (arm (meaning_of limit records) rows again m l o)) (operation_is e j)
+            subst (λ o. TellsHandling limit (bound + 1) cs m (Ok (handling.Three (at x.p1 s.map) (at x.p2 s.map) (at x.p3 s.map) (at (s.row + 1) s.map))) (arm (meaning_of limit records) rows again m l o)) (operation_is x e j)
             (record {
               first = go_to l.p1 m;
               second = go_to l.p2 m;
@@ -126,34 +129,34 @@ columns-next m zero k = refl
 columns-next m (suc n) k = ap (λ cs. register_column (get k m.r) ∷ cs) (columns-next m n (suc k))
 
 module _ {limit from n : ℕ} {cs : List Cell} {blocks : List ℕ} {s : MemoryState} {x : Row} {again : Bool} (last : ResultRow ≡ x.op) where
-  pub result_refused : (k : Refusal) → JudgesRow x (Err k) → Handles limit from n cs cs blocks s x again (Err k)
+  pub result_refused : (k : Refusal) → JudgesRow x (Err k) → Handles limit from n cs cs blocks s (parts x) again (Err k)
   unfolding arm
   result_refused k told =
       record {
         says = λ rows records l have long cat j bound m le top h.
-            subst (λ o. TellsHandling limit (bound + 1) cs m (Err k) (arm (meaning_of limit records) rows again m l o)) (operation_is last j) (told.says _ l j m);
+            subst (λ o. TellsHandling limit (bound + 1) cs m (Err k) (arm (meaning_of limit records) rows again m l o)) (operation_is x last j) (told.says _ l j m);
         leaves = tt;
         frame = unchanged cs _ _;
       }
 
-  pub result_handles : (r : Registers) → Current limit cs s.map → JudgesRow x (Ok r) → Handles limit from n cs cs blocks s x again (Ok (handling.Result (at (s.row + 1) s.map) r.first r.count))
+  pub result_handles : (r : Registers) → Current limit cs s.map → JudgesRow x (Ok r) → Handles limit from n cs cs blocks s (parts x) again (Ok (handling.Result (at (s.row + 1) s.map) r))
   unfolding arm
   result_handles r current told =
       record {
         says = λ rows records l have long cat j bound m le top h.
             (let offers = told.says (turns m.program_i) l j m in
-            subst (λ o. TellsHandling limit (bound + 1) cs m (Ok (handling.Result (at (s.row + 1) s.map) r.first r.count)) (arm (meaning_of limit records) rows again m l o)) (operation_is last j)
+            subst (λ o. TellsHandling limit (bound + 1) cs m (Ok (handling.Result (at (s.row + 1) s.map) r)) (arm (meaning_of limit records) rows again m l o)) (operation_is x last j)
             (record {
               columns = columns_from r.count r.first m;
               answer = offers.answer;
-              read = columns-read (next m) r.count r.first told.narrow.0 ∙ ap done (columns-next m r.count r.first);
+              read = columns-read (next m) r.count r.first r.within ∙ ap done (columns-next m r.count r.first);
               held = state_more limit bound cs top (held_next s.row h.row h.map);
             }));
-        leaves = (lies_here (s.row + 1) current, told.narrow.0, told.narrow.1);
+        leaves = (lies_here (s.row + 1) current, told.narrow);
         frame = unchanged cs _ _;
       }
 
 -- ---- a row that was read
 
-pub row_handles : {limit from n : ℕ} {cs ds : List Cell} {blocks : List ℕ} {s : MemoryState} {x y : Row} {again : Bool} {r : Handled} → x ≡ y → Handles limit from n cs ds blocks s x again r → Handles limit from n cs ds blocks s y again r
+pub row_handles : {limit from n : ℕ} {cs ds : List Cell} {blocks : List ℕ} {s : MemoryState} {x y : Parts} {again : Bool} {r : Handled} → x ≡ y → Handles limit from n cs ds blocks s x again r → Handles limit from n cs ds blocks s y again r
 row_handles {limit} {from} {n} {cs} {ds} {blocks} {s} {again = again} {r = r} e handles = subst (λ z. Handles limit from n cs ds blocks s z again r) e handles

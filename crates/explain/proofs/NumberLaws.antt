@@ -12,7 +12,7 @@ use Rattle.model.specs.Walk.{Tried}
 use Rattle.model.specs.Row.{Row as Listed}
 use Rattle.model.specs.State.{MemoryState as Defined}
 use Rattle.model.specs.Catalogue.{CatalogueRecord}
-use Rattle.root_block.specs.Blocks.{HasBlocks, IsBlocks}
+use Rattle.root_block.specs.Blocks.{HasBlocks}
 use Rattle.model.specs.Operation.{JumpOperation, RegisterOperation, CursorOperation, jumps, registers, cursors, no_arm, op_constant, op_open_read}
 use Rattle.model.specs.Offer.{turns}
 use Rattle.model.specs.RegisterArms.{register_arm}
@@ -20,20 +20,23 @@ use Rattle.model.specs.CursorArms.{cursor_arm}
 use Rattle.model.specs.Explain.{falls_through, arm}
 use Rattle.model.proofs.Tried.{Kept, kept}
 use Rattle.area.specs.declared.Cell.{Cell}
+use Rattle.intmap.specs.Map.{Frame}
+use Rattle.intmap.specs.declared.IntMap.{IntMap}
 use Rattle.intmap.specs.Signed.{offset, int_of}
 use Rattle.intmap.proofs.SignedLaws.{int_turns}
 use Rattle.opcode.specs.Opcode.{arm_of, number, constant_kind}
 use Rattle.opcode.specs.declared.Operation.TheVariants.{ConstantInteger, ConstantFloat, ConstantText, ConstantBlob}
 use Rattle.opcode.specs.declared.Operation.{Operation}
 use Rattle.opcode.proofs.Numbers.{operation_is}
-use Rattle.rows.specs.Judged.{Judged, IsRow}
-use Rattle.rows.specs.declared.Row.{Row}
-use Rattle.state.specs.Leads.{Current, Tells, Leads}
+use Rattle.rows.specs.Judged.{Judged}
+use Rattle.rows.specs.declared.row.Row.{Row}
+use Rattle.state.specs.Leads.{Current, HoldsMap, Tells, Leaves, operands}
 use Rattle.state.specs.Arms.{Standard, RegisterArm, CursorArm}
 use Rattle.state.specs.Steps.{Offered, TellsStep, JumpArm, Step}
 use Rattle.state.specs.declared.MemoryState.{MemoryState}
+use Rattle.state.proofs.LeadsLaws.{unchanged}
 use Rattle.jump_arms.specs.Arms.{at, step_after}
-use Rattle.jump_arms.proofs.StepLaws.{unchanged, held_next, goes_on_lem}
+use Rattle.jump_arms.proofs.StepLaws.{held_next, goes_on_lem}
 use Rattle.jump_arms.proofs.StoreSteps.{SameRow, leaves_after}
 use Rattle.coroutine_arms.specs.Arms.{RowsArm}
 use Rattle.read_arm.specs.Gathers.{ReadsTable}
@@ -99,7 +102,12 @@ falls limit bound ds (Ok b) w m t told keeps e =
     subst (Offered limit bound ds None (Some (at (w + 1) b))) (sym (ap falls_through told.answer))
     (goes_on_lem (held_next w (e ∙ sym (kept keeps told.answer)) told.holds))
 
--- the arm's access is f, of every listing's row that x stands for and every catalogue's records
+-- f is the arm's access, of every listing's row that x stands for and every catalogue's records
+record Accesses (limit : ℕ) (cs ds : List Cell) (a : IntMap) (blocks : List ℕ) (x : Row) (f : Listed → List CatalogueRecord → Defined → Tried Defined) (r : Stored) : Type 0 where
+  says : (l : Listed) → Judged l x → (records : List CatalogueRecord) → HasBlocks blocks records → (bound : ℕ) (m : Defined) → operands ≤ bound → HoldsMap limit bound cs a m → Tells limit bound ds r (f l records m)
+  leaves : Leaves limit ds a r
+  frame : Frame cs ds a.base (limit + limit)
+
 module _
     {limit from n : ℕ}
     {cs ds : List Cell}
@@ -108,10 +116,8 @@ module _
     {op : Operation}
     {r : Stored}
     {blocks : List ℕ}
-    (row : IsRow x)
-    (whole : IsBlocks blocks)
     (f : Listed → List CatalogueRecord → Defined → Tried Defined)
-    (leads : (l : Listed) → Judged l x → (records : List CatalogueRecord) → HasBlocks blocks records → Leads limit cs ds s.map r (f l records))
+    (led : Accesses limit cs ds s.map blocks x f r)
     (keeps : (l : Listed) (records : List CatalogueRecord) (m : Defined) → Kept (SameRow m) (f l records m))
     (is : (again : Bool) (rows : List Listed) (records : List CatalogueRecord) (l : Listed) (m : Defined) → int_of s.row ≡ m.program_i → arm (meaning_of limit records) rows again m l (arm_of op) ≡ falls_through (f l records m))
   where
@@ -120,38 +126,40 @@ module _
         record {
           says = λ again rows records l have long cat j bound m le h.
               subst (TellsStep limit bound ds (step_after (s.row + 1) r)) (sym (is again rows records l m h.row))
-              (falls limit bound ds r s.row m _ ((leads l j records cat).says bound m le h.map) (keeps l records m) h.row);
-          leaves = leaves_after s r (s.row + 1) (leads row.listed row.judged whole.records whole.has);
-          frame = (leads row.listed row.judged whole.records whole.has).frame;
+              (falls limit bound ds r s.row m _ (led.says l j records cat bound m le h.map) (keeps l records m) h.row);
+          leaves = leaves_after limit ds s r (s.row + 1) led.leaves;
+          frame = led.frame;
         }
 
 standard : (limit : ℕ) (records : List CatalogueRecord) → Standard limit (meaning_of limit records)
 standard limit records = record { cells = refl; functions = λ t. refl }
 
-module _ {limit from n : ℕ} {cs ds : List Cell} {s : MemoryState} {x : Row} {op : Operation} {r : Stored} {blocks : List ℕ} (row : IsRow x) (whole : IsBlocks blocks) where
+module _ {limit from n : ℕ} {cs ds : List Cell} {s : MemoryState} {x : Row} {op : Operation} {r : Stored} {blocks : List ℕ} where
   pub register_number : {o : RegisterOperation} → arm_of op ≡ registers o → RegisterArm limit cs ds s.map x o r → NumberArm limit from n cs ds blocks s x op (step_after (s.row + 1) r)
   unfolding arm
   register_number {o} is told =
-      access_number row whole (λ l records m. register_arm (meaning_of limit records) l m o) (λ l j records cat. told.leads (meaning_of limit records) l (standard limit records) j)
+      access_number (λ l records m. register_arm (meaning_of limit records) l m o)
+      (record { says = λ l j records cat. told.says (meaning_of limit records) l (standard limit records) j; leaves = told.leaves; frame = told.frame })
       (λ l records m. register_row (meaning_of limit records) l m o)
       (λ again rows records l m e. ap (arm (meaning_of limit records) rows again m l) is)
 
   -- the row's number is told by its word
-  cursor_access : {o : CursorOperation} → arm_of op ≡ cursors o → ((l : Listed) → Judged l x → (records : List CatalogueRecord) → HasBlocks blocks records → Leads limit cs ds s.map r (λ m. cursor_arm (meaning_of limit records) (s.row - offset) l m o)) → NumberArm limit from n cs ds blocks s x op (step_after (s.row + 1) r)
+  cursor_access : {o : CursorOperation} → arm_of op ≡ cursors o → Accesses limit cs ds s.map blocks x (λ l records m. cursor_arm (meaning_of limit records) (s.row - offset) l m o) r → NumberArm limit from n cs ds blocks s x op (step_after (s.row + 1) r)
   unfolding arm
-  cursor_access {o} is told =
-      access_number row whole (λ l records m. cursor_arm (meaning_of limit records) (s.row - offset) l m o) told
+  cursor_access {o} is led =
+      access_number (λ l records m. cursor_arm (meaning_of limit records) (s.row - offset) l m o) led
       (λ l records m. cursor_row (meaning_of limit records) (s.row - offset) l m o)
       (λ again rows records l m e.
       ap (arm (meaning_of limit records) rows again m l) is
       ∙ ap (λ k. falls_through (cursor_arm (meaning_of limit records) k l m o)) (sym (ap turns e) ∙ int_turns s.row))
 
   pub cursor_number : {o : CursorOperation} → arm_of op ≡ cursors o → CursorArm limit cs ds s.map (s.row - offset) x o r → NumberArm limit from n cs ds blocks s x op (step_after (s.row + 1) r)
-  cursor_number {o} is told = cursor_access {o = o} is (λ l j records cat. told.leads (meaning_of limit records) l (standard limit records) j)
+  cursor_number {o} is told = cursor_access {o = o} is (record { says = λ l j records cat. told.says (meaning_of limit records) l (standard limit records) j; leaves = told.leaves; frame = told.frame })
 
   pub read_number : arm_of op ≡ cursors op_open_read → ReadsTable limit cs ds s.map blocks (s.row - offset) x r → NumberArm limit from n cs ds blocks s x op (step_after (s.row + 1) r)
   read_number is told =
-      cursor_access {o = op_open_read} is (λ l j records cat. told.leads (meaning_of limit records) records l (standard limit records) cat (λ db page. refl) j)
+      cursor_access {o = op_open_read} is
+      (record { says = λ l j records cat. told.says (meaning_of limit records) records l (standard limit records) cat (λ db page. refl) j; leaves = told.leaves; frame = told.frame })
 
 -- no arm
 pub none_number : {limit from n : ℕ} {cs : List Cell} {s : MemoryState} {x : Row} {op : Operation} {blocks : List ℕ} → arm_of op ≡ no_arm → Current limit cs s.map → NumberArm limit from n cs cs blocks s x op (step_after (s.row + 1) (Ok s.map))

@@ -21,12 +21,13 @@ use Rattle.area.specs.declared.Cell.{Cell}
 use Rattle.intmap.specs.Map.{Frame}
 use Rattle.intmap.specs.Signed.{offset}
 use Rattle.encoding.specs.Holds.{largest}
+use Rattle.rows.specs.Parts.{Parts}
 use Rattle.rows.specs.Rows.{row_in}
-use Rattle.rows.specs.Judged.{Judged, HaveRows}
-use Rattle.rows.specs.declared.Row.{Row}
+use Rattle.rows.specs.Judged.{JudgedParts, HaveRows}
 use Rattle.state.specs.Leads.{operands}
 use Rattle.state.specs.Steps.{HoldsState, TellsWay, branch_of, StaysAt, Lies, LiesAt, Way}
 use Rattle.state.specs.declared.MemoryState.{MemoryState}
+use Rattle.state.specs.declared.registers.Registers.{Registers}
 use Rattle.explain.specs.declared.Handling.{Handling}
 use Rattle.explain.specs.declared.Handling.TheVariants as handling
 
@@ -35,7 +36,7 @@ abbrev pub state_of : ℕ → ℕ → ℕ → ℕ → MemoryState
 state_of row base len used = record { map = record { base = base; len = len; used = used }; row = row }
 
 -- the row that a state on the row word `at` stands on, the listing's rows being in the cells from `from` on
-abbrev pub row_on : List Cell → ℕ → ℕ → Row
+abbrev pub row_on : List Cell → ℕ → ℕ → Parts
 row_on cs from at = row_in (get_or cs (from + (at - offset)) blank)
 
 -- what the rows mean: this limit of cells, this catalogue, and the built-in functions
@@ -62,11 +63,11 @@ pub record OffersThree (limit bound : ℕ) (cs : List Cell) (a b c stays : Memor
   pub third_held : HoldsState limit bound cs c third
   pub state_held : HoldsState limit bound cs stays state
 
--- a result row of the state m: n registers from `first` on; the branch is on the next row
-pub record OffersResult (limit bound : ℕ) (cs : List Cell) (m : Defined) (branch : MemoryState) (first n : ℕ) (o : Offer) : Type 0 where
+-- a result row of the state m, and its registers; the branch is on the next row
+pub record OffersResult (limit bound : ℕ) (cs : List Cell) (m : Defined) (branch : MemoryState) (row : Registers) (o : Offer) : Type 0 where
   pub columns : List ColumnType
   pub answer : o ≡ done (record { branches = next m ∷ []; stays = None; result = Some (record { row = turns m.program_i; columns = result_columns columns }); repeat = false })
-  pub read : read_columns n (pos first) (next m) ≡ done columns
+  pub read : read_columns row.count (pos row.first) (next m) ≡ done columns
   pub held : HoldsState limit bound cs branch (next m)
 
 -- why a row is refused, or what handling it gives
@@ -77,17 +78,17 @@ abbrev pub TellsHandling : ℕ → ℕ → List Cell → Defined → Handled →
 TellsHandling limit bound cs m (Err e) o = o ≡ refused (number_of e)
 TellsHandling limit bound cs m (Ok (handling.Ways w r)) o = OffersWays limit bound cs w.branch w.stays r o
 TellsHandling limit bound cs m (Ok (handling.Three a b c s)) o = OffersThree limit bound cs a b c s o
-TellsHandling limit bound cs m (Ok (handling.Result b first n)) o = OffersResult limit bound cs m b first n o
+TellsHandling limit bound cs m (Ok (handling.Result b row)) o = OffersResult limit bound cs m b row o
 
 abbrev pub LeavesHandling : ℕ → List Cell → MemoryState → Handled → Type 0
 LeavesHandling limit ds s (Err e) = Unit {0}
 LeavesHandling limit ds s (Ok (handling.Ways w r)) = LiesAt limit ds s.map.base w.branch × StaysAt limit ds s.map.base w.stays
 LeavesHandling limit ds s (Ok (handling.Three a b c w)) =
     Lies limit ds s.map.base a × Lies limit ds s.map.base b × Lies limit ds s.map.base c × StaysAt limit ds s.map.base (Some w)
-LeavesHandling limit ds s (Ok (handling.Result b first n)) = Lies limit ds s.map.base b × (first + n ≤ 65536) × (n ≤ 2000)
+LeavesHandling limit ds s (Ok (handling.Result b row)) = Lies limit ds s.map.base b × (row.count ≤ 2000)
 
 -- the listing's n rows are in the cells from `from` on
-pub record Handles (limit from n : ℕ) (cs ds : List Cell) (blocks : List ℕ) (s : MemoryState) (x : Row) (again : Bool) (r : Handled) : Type 0 where
-  pub says : (rows : List Listed) (records : List CatalogueRecord) (l : Listed) → HaveRows cs from rows → length rows ≡ n → HasBlocks blocks records → Judged l x → (bound : ℕ) (m : Defined) → operands ≤ bound → bound + 1 ≤ largest → HoldsState limit bound cs s m → TellsHandling limit (bound + 1) ds m r (arm (meaning_of limit records) rows again m l (operation_of l.op))
+pub record Handles (limit from n : ℕ) (cs ds : List Cell) (blocks : List ℕ) (s : MemoryState) (x : Parts) (again : Bool) (r : Handled) : Type 0 where
+  pub says : (rows : List Listed) (records : List CatalogueRecord) (l : Listed) → HaveRows cs from rows → length rows ≡ n → HasBlocks blocks records → JudgedParts l x → (bound : ℕ) (m : Defined) → operands ≤ bound → bound + 1 ≤ largest → HoldsState limit bound cs s m → TellsHandling limit (bound + 1) ds m r (arm (meaning_of limit records) rows again m l (operation_of l.op))
   pub leaves : LeavesHandling limit ds s r
   pub frame : Frame cs ds s.map.base (limit + limit)

@@ -11,7 +11,7 @@ use Rattle.intmap.specs.Map.{Frame}
 use Rattle.opcode.specs.Opcode.{arm_of}
 use Rattle.opcode.specs.declared.Operation.{Operation}
 use Rattle.rows.specs.Judged.{Judged, HaveRows}
-use Rattle.rows.specs.declared.Row.{Row}
+use Rattle.rows.specs.declared.row.Row.{Row}
 use Rattle.state.specs.Leads.{operands}
 use Rattle.state.specs.Steps.{HoldsState, TellsStep, LeavesStep, Step}
 use Rattle.state.specs.declared.MemoryState.{MemoryState}

@@ -5,6 +5,7 @@ ghost use Rattle.std.specs.Prelude.{◌≡◌, Bool, false, List, ℕ, ◌+◌, 
 ghost use Rattle.area.specs.Cells.{cells};
 ghost use Rattle.opcode.specs.Opcode.{number};
 ghost use Rattle.opcode.specs.declared.Operation.TheVariants.{Jump, ResultRow};
+ghost use Rattle.rows.specs.Rows.{parts};
 ghost use Rattle.rows.specs.Judged.{SomeRows};
 ghost use Rattle.jump_arms.specs.Arms.{Ready, step_after};
 ghost use Rattle.explain.specs.Handles.{state_of, row_on, Handles};
@@ -15,15 +16,15 @@ use intmap::IntMap;
 use opcode::Operation;
 use refusal::Refusal;
 use rows::Row;
-use state::{MemoryState, Ways};
+use state::{MemoryState, Registers, Ways};
 
 // What handling a row gives: at most one branch, the state that goes on, and whether it counts as a repeat; three branches and the state that
-// goes on; or a result row, its branch and the registers that are its columns: where they begin, and how many.
+// goes on; or a result row, its branch and the registers that are its columns.
 #[derive(Clone, Copy)]
 pub enum Handling {
     Ways(Ways, bool),
     Three(MemoryState, MemoryState, MemoryState, MemoryState),
-    Result(MemoryState, u64, u64),
+    Result(MemoryState, Registers),
 }
 
 fn as_handling(step: Result<Ways, Refusal>, repeat: bool) -> Result<Handling, Refusal>
@@ -49,7 +50,7 @@ fn jump(
     n: usize,
     limit: usize,
 ) -> Result<Ways, Refusal>
-    requires { Ready limit (cells area.old) s x × SomeRows (cells area.old) from n × (1 ≤ number x.op) × (number x.op ≤ 14) × (x.op ≡ Jump → ⊥) }
+    requires { Ready limit (cells area.old) s × SomeRows (cells area.old) from n × (1 ≤ number x.op) × (number x.op ≤ 14) × (x.op ≡ Jump → ⊥) }
     ensures { (blocks : List ℕ) → NumberArm limit from n (cells area.old) (cells area.new) blocks s x x.op result }
 {
     match x.op {
@@ -71,8 +72,8 @@ fn jump(
 
 // The arms that write registers.
 fn register(s: MemoryState, area: &mut [u8], x: Row, limit: usize) -> Result<IntMap, Refusal>
-    requires { Ready limit (cells area.old) s x × (16 ≤ number x.op) × (number x.op ≤ 32) }
-    ensures { (from n : ℕ) (blocks : List ℕ) → IsBlocks blocks → NumberArm limit from n (cells area.old) (cells area.new) blocks s x x.op (step_after (s.row + 1) result) }
+    requires { Ready limit (cells area.old) s × (16 ≤ number x.op) × (number x.op ≤ 32) }
+    ensures { (from n : ℕ) (blocks : List ℕ) → NumberArm limit from n (cells area.old) (cells area.new) blocks s x x.op (step_after (s.row + 1) result) }
 {
     let map = s.map;
     match x.op {
@@ -101,7 +102,7 @@ fn cursor(
     x: Row,
     limit: usize,
 ) -> Result<IntMap, Refusal>
-    requires { Ready limit (cells area.old) s x × IsBlocks blocks.now × (limit ≤ 65535) × (33 ≤ number x.op) × (number x.op ≤ 41) }
+    requires { Ready limit (cells area.old) s × IsBlocks blocks.now × (limit ≤ 65535) × (33 ≤ number x.op) × (number x.op ≤ 41) }
     ensures { (from n : ℕ) → NumberArm limit from n (cells area.old) (cells area.new) blocks.now s x x.op (step_after (s.row + 1) result) }
 {
     let map = s.map;
@@ -121,8 +122,8 @@ fn cursor(
 
 // Jump: branches at P1, P2 and P3, and the state goes on.
 fn jump_three(s: MemoryState, area: &[u8], x: Row, limit: usize) -> Result<Handling, Refusal>
-    requires { Ready limit (cells area.now) s x × (x.op ≡ Jump) }
-    ensures { (from n : ℕ) (blocks : List ℕ) (again : Bool) → Handles limit from n (cells area.now) (cells area.now) blocks s x again result }
+    requires { Ready limit (cells area.now) s × (x.op ≡ Jump) }
+    ensures { (from n : ℕ) (blocks : List ℕ) (again : Bool) → Handles limit from n (cells area.now) (cells area.now) blocks s (parts x) again result }
 {
     let map = s.map;
     Ok(Handling::Three(
@@ -138,16 +139,16 @@ fn jump_three(s: MemoryState, area: &[u8], x: Row, limit: usize) -> Result<Handl
 
 // ResultRow
 fn result_row(s: MemoryState, area: &[u8], x: Row, limit: usize) -> Result<Handling, Refusal>
-    requires { Ready limit (cells area.now) s x × (x.op ≡ ResultRow) }
-    ensures { (from n : ℕ) (blocks : List ℕ) (again : Bool) → Handles limit from n (cells area.now) (cells area.now) blocks s x again result }
+    requires { Ready limit (cells area.now) s × (x.op ≡ ResultRow) }
+    ensures { (from n : ℕ) (blocks : List ℕ) (again : Bool) → Handles limit from n (cells area.now) (cells area.now) blocks s (parts x) again result }
 {
     let map = s.map;
-    let columns = result_arm::result_row(x)?;
+    let row = result_arm::result_row(x)?;
     let branch = MemoryState {
         row: s.row + 1,
         map,
     };
-    Ok(Handling::Result(branch, columns.first, columns.count))
+    Ok(Handling::Result(branch, row))
 }
 
 // Handles the row that the state stands on, at `at` with the map of these numbers; `again` where its lineage has handled it before. The listing's n
@@ -165,7 +166,7 @@ pub fn handle(
     n: usize,
     limit: usize,
 ) -> Result<Handling, Refusal>
-    requires { Ready limit (cells area.old) (state_of at base len used) (row_on (cells area.old) from at) × SomeRows (cells area.old) from n × (at < 9223372036854775808 + n) × (limit ≤ 65535) × IsBlocks blocks.now }
+    requires { Ready limit (cells area.old) (state_of at base len used) × SomeRows (cells area.old) from n × (at < 9223372036854775808 + n) × (limit ≤ 65535) × IsBlocks blocks.now }
     ensures { Handles limit from n (cells area.old) (cells area.new) blocks.now (state_of at base len used) (row_on (cells area.old) from at) again result }
 {
     let x = rows::row_at(area, from, (at - intmap::ZERO) as usize);

@@ -33,18 +33,18 @@ use Rattle.intmap.specs.declared.IntMap.{IntMap}
 use Rattle.intmap.proofs.SignedLaws.{int_pred, int_positive, small_pred, word_int, word-least}
 use Rattle.encoding.specs.Encode.{run_register}
 use Rattle.encoding.specs.Holds.{largest}
-use Rattle.encoding.proofs.Accesses.{apart}
 use Rattle.encoding.proofs.Updates.{update_stored, update_kept}
 use Rattle.encoding.proofs.Held.{held_go_to, held_more}
 use Rattle.encoding.proofs.HeldAfter.{held_register}
 use Rattle.rows.specs.Judged.{Judged}
-use Rattle.rows.specs.declared.Row.{Row}
+use Rattle.rows.specs.declared.row.Row.{Row}
 use Rattle.state.specs.Leads.{Current, HoldsMap, Tells}
 use Rattle.state.specs.Steps.{HoldsState, TellsStep, Step, offered}
 use Rattle.state.specs.declared.MemoryState.{MemoryState}
 use Rattle.state.proofs.StoreLeads.{wider}
+use Rattle.state.proofs.LeadsLaws.{unchanged}
 use Rattle.jump_arms.specs.Arms.{at, branch_after, both_after, Knows, Puts}
-use Rattle.jump_arms.proofs.StepLaws.{unchanged, held_at, held_next, goes_on_lem, branches_and_goes, lies_here}
+use Rattle.jump_arms.proofs.StepLaws.{held_at, held_next, goes_on_lem, branches_and_goes, lies_here}
 use Rattle.jump_arms.proofs.StoreSteps.{SameRow, store-row, branches_told, branch_leaves}
 use Rattle.jump_arms.proofs.BothLaws.{behind_holds, first_frame, state_holds, both_frame, both_leaves, both_tells}
 use Rattle.ifpos_arm.specs.Arm.{TellsAs, IfPosArm, KnowsInt, PutsInt, WordBefore, forget_if}
@@ -154,7 +154,7 @@ module _ (i p q : ℤ) (m : Defined) where
   both_pass v read o = go (index i) read
     where
       go : (t : Tried ℕ) → (t >>= λ k. done (get k m.r)) ≡ done v → ((t >>= λ k. done (with_registers (update k count_down m.r) (go_to p m))) >>= λ branch. (t >>= λ k. done (with_registers (update k forget m.r) (go_to q m))) >>= λ forgotten. o) ≡ o
-      go (refused n) e = absurd (apart n v e)
+      go (refused n) e = cc
       go (done k) e = refl
 
 module _ (limit : ℕ) (i : ℤ) (l : Listed) (m : Defined) (good : Good limit m) where

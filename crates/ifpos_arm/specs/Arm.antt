@@ -16,7 +16,7 @@ use Rattle.intmap.specs.Signed.{int_of, Small}
 use Rattle.intmap.specs.declared.IntMap.{IntMap}
 use Rattle.encoding.specs.Holds.{largest}
 use Rattle.rows.specs.Judged.{Judged}
-use Rattle.rows.specs.declared.Row.{Row}
+use Rattle.rows.specs.declared.row.Row.{Row}
 use Rattle.state.specs.Leads.{HoldsMap, Tells, Leaves, operands}
 use Rattle.state.specs.Steps.{HoldsState, TellsWay, branch_of, LeavesStep, Way, Step}
 use Rattle.state.specs.declared.MemoryState.{MemoryState}

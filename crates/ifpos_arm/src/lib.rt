@@ -56,7 +56,7 @@ fn forget(map: IntMap, area: &mut [u8], i: u64, w: u64, limit: usize) -> Result<
     ensures { Puts limit (cells area.old) (cells area.new) map result (forget_if (is_positive (int_of w)) limit (int_of i)) }
 {
     if intmap::ZERO < w {
-        return jump_arms::put_single(map, area, i, DataType::Integer, state::NEVER, limit);
+        return jump_arms::put_single(map, area, i, DataType::Integer, Some(false), limit);
     }
     Ok(map)
 }
@@ -70,7 +70,7 @@ fn if_pos_again(
     w: u64,
     limit: usize,
 ) -> Result<Ways, Refusal>
-    requires { Ready limit (cells area.old) s x × KnowsInt (cells area.old) s.map x.p1 w }
+    requires { Ready limit (cells area.old) s × KnowsInt (cells area.old) s.map x.p1 w }
     ensures { IfPosArm limit (cells area.old) (cells area.new) s x true result }
 {
     let map = s.map;
@@ -91,7 +91,7 @@ pub fn if_pos(
     again: bool,
     limit: usize,
 ) -> Result<Ways, Refusal>
-    requires { Ready limit (cells area.old) s x }
+    requires { Ready limit (cells area.old) s }
     ensures { IfPosArm limit (cells area.old) (cells area.new) s x again result }
 {
     let map = s.map;

@@ -1,14 +1,14 @@
 -- Column of a cursor on a table, where the cursor, the table, the column and the register were found with few tests. Assumes nothing.
-use Rattle.std.proofs.lemmas.Option.{none-some, same_Some}
-use Rattle.std.specs.Prelude.{Ok, Some, None, Option}
+use Rattle.std.proofs.lemmas.Option.{same_Some}
+use Rattle.std.specs.Prelude.{Ok, Some, Option}
 use mathlib.Core.Path.{◌≡◌, refl, sym, ap, subst, ◌∙◌}
-use mathlib.Core.Bool.{Bool, true, false, true≢false}
+use mathlib.Core.Bool.{Bool, true}
 use mathlib.Core.List.{List}
 use Prim.Native.Nat.{ℕ, ◌+◌, ◌-◌, ◌<◌, ◌≤◌, ◌%◌}
 use native.Mathlib.Omega.{arith}
 use lib.Dec.{eqb}
 use lib.ListN.{get_or}
-use Rattle.model.specs.Operation.{CursorOperation, op_column}
+use Rattle.model.specs.Operation.{op_column}
 use Rattle.area.specs.Cells.{blank}
 use Rattle.area.specs.declared.Cell.{Cell}
 use Rattle.intmap.specs.Get.{Judges, Index}
@@ -18,7 +18,7 @@ use Rattle.intmap.specs.Runs.{size}
 use Rattle.intmap.specs.Signed.{int_of}
 use Rattle.intmap.specs.declared.IntMap.{IntMap}
 use Rattle.model.specs.Walk.{done}
-use Rattle.rows.specs.declared.Row.{Row}
+use Rattle.rows.specs.declared.row.Row.{Row}
 use Rattle.state.specs.Leads.{Current}
 use Rattle.state.specs.Arms.{CursorArm}
 use Rattle.state.specs.Own.{HeldAmong, WritesNear, EntryNear, FlatBefore}
@@ -33,17 +33,6 @@ use Rattle.column_arms.proofs.ColumnLaws.{column_direct, direct_at}
 use Rattle.column_arms.proofs.RunLaws.{stores-alone}
 use Rattle.column_arms.proofs.ArmLaws.{column_there, column_goes, head_above, head_below, head_tag, arm_there}
 use Rattle.in_place.specs.InPlace.{Operands, TableNear, ColumnStored, ColumnNear, CursorNear}
-
--- ---- nothing was done
-
-pub cursor-not : {cs : List Cell} {base end i j k : ℕ} {o : CursorOperation} → CursorNear cs cs base end i j k o false
-cursor-not = record { yes = λ e. absurd (true≢false (sym e)); no = λ _. refl }
-
-pub column_not : {cs : List Cell} {base end p key j : ℕ} → ColumnNear cs cs base end p key j false
-column_not = record { yes = λ e. absurd (true≢false (sym e)); no = λ _. refl }
-
-pub table-not : {cs : List Cell} {base end i : ℕ} → TableNear cs base end i None
-table-not = record { low = λ p e. absurd (none-some p e); inside = λ p e. absurd (none-some p e); is = λ p e. absurd (none-some p e) }
 
 -- ---- the table that a cursor is on
 

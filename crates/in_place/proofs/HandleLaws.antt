@@ -4,8 +4,7 @@ use Rattle.std.specs.Prelude.{Ok, Some, None, Option}
 use mathlib.Core.Path.{◌≡◌, refl, sym, ap, subst, ◌∙◌}
 use mathlib.Core.Bool.{Bool, true, false, true≢false}
 use mathlib.Core.List.{List}
-use Prim.Native.Nat.{ℕ, ◌+◌, ◌-◌, ◌<◌, ◌≤◌}
-use native.Mathlib.Omega.{arith}
+use Prim.Native.Nat.{ℕ, ◌+◌, ◌-◌}
 use Rattle.model.specs.State.{Int}
 use Rattle.model.specs.Access.{store_register}
 use Rattle.model.specs.Operation.{JumpOperation, CursorOperation, jumps, cursors, no_arm, op_goto, op_gosub, op_init_coroutine, op_null}
@@ -13,14 +12,12 @@ use Rattle.area.specs.declared.Cell.{Cell}
 use Rattle.intmap.specs.Signed.{offset, int_of}
 use Rattle.opcode.specs.Opcode.{arm_of}
 use Rattle.opcode.specs.declared.Operation.{Operation}
-use Rattle.rows.specs.Rows.{Operand}
-use Rattle.rows.specs.declared.Row.{Row}
+use Rattle.rows.specs.Rows.{parts}
+use Rattle.rows.specs.declared.row.Row.{Row}
 use Rattle.state.specs.Leads.{Leads}
-use Rattle.state.specs.Own.{HeldAmong, LeadsNear}
+use Rattle.state.specs.Own.{LeadsNear}
 use Rattle.state.specs.Steps.{JumpArm, offered}
 use Rattle.state.specs.declared.MemoryState.{MemoryState}
-use Rattle.state.proofs.LeadsLaws.{current_held}
-use Rattle.state.proofs.OwnLaws.{held-among}
 use Rattle.jump_arms.specs.Arms.{Ready, at, step_after, InitTo}
 use Rattle.jump_arms.proofs.StepLaws.{goto_arm}
 use Rattle.jump_arms.proofs.StoreSteps.{gosub_arm, init_arm}
@@ -29,25 +26,8 @@ use Rattle.explain.specs.Numbers.{NumberArm}
 use Rattle.explain.specs.declared.Handling.TheVariants as handling
 use Rattle.explain.proofs.NumberLaws.{jump_number, register_number, cursor_number, none_number}
 use Rattle.explain.proofs.HandlingLaws.{number_handles}
-use Rattle.in_place.specs.InPlace.{Operands, RegisterNear, CursorNear, WithinListing, StandsAt, ReadyAt, JumpNear, HandlesNear}
+use Rattle.in_place.specs.InPlace.{Operands, RegisterNear, CursorNear, WithinListing, StandsAt, JumpNear, HandlesNear}
 use Rattle.in_place.proofs.NearLaws.{arm-not}
-
--- ---- what is asked for
-
-module _ {cs : List Cell} {row base end : ℕ} {op : Operation} {i j k : ℕ} (h : ReadyAt cs row base end op i j k) where
-  pub ready_among : HeldAmong cs base end
-  ready_among =
-      subst (λ e. HeldAmong cs base e) h.stands.to
-      (subst (λ b. HeldAmong cs b (h.state.map.base + h.state.map.used)) h.stands.from (held-among (current_held h.ready.current)))
-
-  pub ready_row : (offset ≤ row) × (row < offset + 2048)
-  ready_row = (omega (arith, h.stands.on, h.ready.above), omega (arith, h.stands.on, h.ready.below))
-
-  pub ready_first : Operand i
-  ready_first = subst Operand h.operands.first h.ready.row.judged.fits.p1
-
-  pub ready_third : Operand k
-  ready_third = subst Operand h.operands.third h.ready.row.judged.fits.p3
 
 -- ---- the arms that name the next row
 
@@ -56,7 +36,7 @@ jump_not same = record { arm = op_goto; is = λ w e. absurd (none-some w e); wit
 
 -- an arm o that leads to `to`, which is the row r of the listing
 module _ {cs ds : List Cell} {row base end : ℕ} {op : Operation} {i j k n to : ℕ} {r : Option ℕ} {o : JumpOperation} (is : arm_of op ≡ jumps o) (in_List : WithinListing to n r) (changes : r ≡ None → ds ≡ cs) where
-  jump_near : ((limit : ℕ) (s : MemoryState) (x : Row) → Ready limit cs s x → Operands x i j k → StandsAt s row base end → JumpArm limit cs ds s x o (offered None (Some (at to s.map)))) → JumpNear cs ds row base end op i j k n r
+  jump_near : ((limit : ℕ) (s : MemoryState) (x : Row) → Ready limit cs s → Operands x i j k → StandsAt s row base end → JumpArm limit cs ds s x o (offered None (Some (at to s.map)))) → JumpNear cs ds row base end op i j k n r
   jump_near leads =
       record {
         arm = o;
@@ -74,7 +54,7 @@ goto_near {cs} is in_List =
 
 module _ {cs ds : List Cell} {row base end i j k : ℕ} {b : Bool} (made : b ≡ true) where
   -- the number that is stored, in the words of the arm
-  stored_as : {v : ℕ} → LeadsNear cs ds base end (λ limit. store_register limit (int_of i) (Int (int_of v))) b → (limit : ℕ) (s : MemoryState) (x : Row) → Ready limit cs s x → Operands x i j k → StandsAt s row base end → (u : ℕ) → u ≡ v → Leads limit cs ds s.map (Ok s.map) (store_register limit (int_of x.p1) (Int (int_of u)))
+  stored_as : {v : ℕ} → LeadsNear cs ds base end (λ limit. store_register limit (int_of i) (Int (int_of v))) b → (limit : ℕ) (s : MemoryState) (x : Row) → Ready limit cs s → Operands x i j k → StandsAt s row base end → (u : ℕ) → u ≡ v → Leads limit cs ds s.map (Ok s.map) (store_register limit (int_of x.p1) (Int (int_of u)))
   stored_as w limit s x ready ops stands u ue =
       subst (λ z. Leads limit cs ds s.map (Ok s.map) (store_register limit (int_of z) (Int (int_of u)))) (sym ops.first)
       (subst (λ z. Leads limit cs ds s.map (Ok s.map) (store_register limit (int_of i) (Int (int_of z)))) (sym ue) (w.yes made s.map stands.from stands.to limit ready.current))
@@ -100,23 +80,23 @@ pub jump_handles : {cs ds : List Cell} {row base end : ℕ} {op : Operation} {i 
 jump_handles jumped =
     record {
       within = jumped.within;
-      yes = λ w e limit s x ready num ops stands first size blocks again whole.
+      yes = λ w e limit s x ready num ops stands first size blocks again.
           number_handles (offered None (Some (at w s.map))) (sym num) (jump_number (jumped.is w e) ((jumped.goes w e).arm limit s x ready ops stands) blocks);
       no = jumped.no;
     }
 
 -- the next row
-next_as : {cs ds : List Cell} {row base end : ℕ} {op : Operation} {n w limit first size : ℕ} {r : Option ℕ} {blocks : List ℕ} {s : MemoryState} {x : Row} {again : Bool} → WithinListing (row + 1) n r → r ≡ Some w → StandsAt s row base end → x.op ≡ op → NumberArm limit first size cs ds blocks s x op (step_after (s.row + 1) (Ok s.map)) → Handles limit first size cs ds blocks s x again (Ok (handling.Ways (record { branch = None; stays = Some (at w s.map) }) false))
+next_as : {cs ds : List Cell} {row base end : ℕ} {op : Operation} {n w limit first size : ℕ} {r : Option ℕ} {blocks : List ℕ} {s : MemoryState} {x : Row} {again : Bool} → WithinListing (row + 1) n r → r ≡ Some w → StandsAt s row base end → x.op ≡ op → NumberArm limit first size cs ds blocks s x op (step_after (s.row + 1) (Ok s.map)) → Handles limit first size cs ds blocks s (parts x) again (Ok (handling.Ways (record { branch = None; stays = Some (at w s.map) }) false))
 next_as {cs} {ds} {limit = limit} {first} {size} {blocks} {s} {x} {again} in_List e stands num arm =
-    subst (λ z. Handles limit first size cs ds blocks s x again (Ok (handling.Ways (record { branch = None; stays = Some (at z s.map) }) false))) (ap (λ z. z + 1) stands.on ∙ sym (in_List.yes _ e).0)
+    subst (λ z. Handles limit first size cs ds blocks s (parts x) again (Ok (handling.Ways (record { branch = None; stays = Some (at z s.map) }) false))) (ap (λ z. z + 1) stands.on ∙ sym (in_List.yes _ e).0)
     (number_handles (offered None (Some (at (s.row + 1) s.map))) (sym num) arm)
 
 pub register_handles : {cs ds : List Cell} {row base end : ℕ} {op : Operation} {i j k n w : ℕ} {r : Option ℕ} {b : Bool} → WithinListing (row + 1) n r → b ≡ true → r ≡ Some w → RegisterNear cs ds base end op i j k b → HandlesNear cs ds row base end op i j k n (Some w)
 register_handles in_List made some led =
     record {
       within = λ w e. (((subst (WithinListing _ _) some in_List).yes w e).1, ((subst (WithinListing _ _) some in_List).yes w e).2);
-      yes = λ w e limit s x ready num ops stands first size blocks again whole.
-          next_as (subst (WithinListing _ _) some in_List) e stands num (register_number ready.row whole (led.is made) (led.near.yes made x ops s.map stands.from stands.to limit ready.current));
+      yes = λ w e limit s x ready num ops stands first size blocks again.
+          next_as (subst (WithinListing _ _) some in_List) e stands num (register_number (led.is made) (led.near.yes made x ops s.map stands.from stands.to limit ready.current));
       no = λ e. absurd (none-some _ (sym e));
     }
 
@@ -124,8 +104,8 @@ pub column_handles : {cs ds : List Cell} {row base end : ℕ} {op : Operation} {
 column_handles is in_List made some led =
     record {
       within = λ w e. (((subst (WithinListing _ _) some in_List).yes w e).1, ((subst (WithinListing _ _) some in_List).yes w e).2);
-      yes = λ w e limit s x ready num ops stands first size blocks again whole.
-          next_as (subst (WithinListing _ _) some in_List) e stands num (cursor_number ready.row whole is (led.yes made x ops s.map stands.from stands.to limit ready.current (s.row - offset)));
+      yes = λ w e limit s x ready num ops stands first size blocks again.
+          next_as (subst (WithinListing _ _) some in_List) e stands num (cursor_number is (led.yes made x ops s.map stands.from stands.to limit ready.current (s.row - offset)));
       no = λ e. absurd (none-some _ (sym e));
     }
 
@@ -133,12 +113,9 @@ pub none_handles : {cs : List Cell} {row base end : ℕ} {op : Operation} {i j k
 none_handles is in_List =
     record {
       within = λ w e. ((in_List.yes w e).1, (in_List.yes w e).2);
-      yes = λ w e limit s x ready num ops stands first size blocks again whole. next_as in_List e stands num (none_number is ready.current);
+      yes = λ w e limit s x ready num ops stands first size blocks again. next_as {x = x} in_List e stands num (none_number is ready.current);
       no = λ _. refl;
     }
-
-pub handles_not : {cs ds : List Cell} {row base end : ℕ} {op : Operation} {i j k n : ℕ} → ds ≡ cs → HandlesNear cs ds row base end op i j k n None
-handles_not same = record { within = λ w e. absurd (none-some w e); yes = λ w e. absurd (none-some w e); no = λ _. same }
 
 pub register_not : {cs : List Cell} {base end : ℕ} {op : Operation} {i j k : ℕ} → RegisterNear cs cs base end op i j k false
 register_not = record { arm = op_null; is = λ e. absurd (true≢false (sym e)); near = arm-not }

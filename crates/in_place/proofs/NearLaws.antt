@@ -2,18 +2,18 @@
 -- what a row's number leads to. Assumes nothing.
 use mathlib.Core.Path.{◌≡◌, refl, sym, ap, subst, ◌∙◌}
 use mathlib.Core.Bool.{Bool, true, false, true≢false}
-use Rattle.std.specs.Prelude.{None, Ok, Some, Option}
+use Rattle.std.specs.Prelude.{Ok, Some, Option}
 use mathlib.Core.List.{List}
 use Prim.Native.Nat.{ℕ, ◌+◌, ◌-◌, ◌≤◌}
 use native.Mathlib.Omega.{arith}
 use lib.ListN.{get_or}
 use Rattle.type_info.specs.declared.DataType.{DataType}
 use Rattle.type_info.specs.declared.DataType.TheVariants.{Null}
-use Rattle.model.specs.Walk.{Tried, refused, done}
+use Rattle.model.specs.Walk.{Tried, done}
 use Rattle.model.specs.Row.{Row as Listed}
 use Rattle.model.specs.Meaning.{Meaning}
 use Rattle.model.specs.State.{Single, Column, Int, MemoryState as Defined, first_datatype, null, never_null}
-use Rattle.model.specs.Access.{◌>>=◌, store_register}
+use Rattle.model.specs.Access.{store_register}
 use Rattle.model.specs.Operation.{RegisterOperation, op_arithmetic, op_halt_if_null, op_null, op_copy, op_copy_one, op_integer, op_variable, op_constant}
 use Rattle.model.specs.RegisterArms.{copy_to, register_arm}
 use Rattle.area.specs.Cells.{blank}
@@ -21,9 +21,8 @@ use Rattle.area.specs.declared.Cell.{Cell}
 use Rattle.intmap.specs.Pack.{tag_of}
 use Rattle.intmap.specs.Signed.{offset, int_of}
 use Rattle.intmap.specs.declared.IntMap.{IntMap}
-use Rattle.encoding.specs.Decode.{datatypes, nullables}
 use Rattle.rows.specs.Judged.{Judged}
-use Rattle.rows.specs.declared.Row.{Row}
+use Rattle.rows.specs.declared.row.Row.{Row}
 use Rattle.state.specs.Leads.{HoldsMap, Current}
 use Rattle.state.specs.Arms.{Standard}
 use Rattle.state.specs.Own.{WritesNear, LeadsNear, GetsNear}
@@ -35,16 +34,15 @@ use Rattle.state.proofs.ReadLaws.{read_at}
 use Rattle.state.proofs.StoreLeads.{leads_as}
 use Rattle.copy_arms.specs.Copies.{carry_one, carry_many}
 use Rattle.copy_arms.proofs.CopyLaws.{stores-alone, carry_copies, carry_copy-one, carries_open, carries_end, arm_copy_one, arm_copy}
+use Rattle.copy_arms.proofs.TurnLaws.{bind_done}
 use Rattle.register_arms.specs.Values.{IsDatatype, AreNullable}
-use Rattle.register_arms.proofs.RegisterLaws.{same_leads, leads_where, integer_arm, constant_arm, variable_arm, operands_stored}
+use Rattle.register_arms.proofs.RegisterLaws.{integer_arm, constant_arm, variable_arm, operands_stored}
 use Rattle.register_arms.proofs.NullLaws.{null-turn, null-none, null_arm}
 use Rattle.register_arms.proofs.ChangeLaws.{halt_record, halt_int, halt_stored}
+use Rattle.state.proofs.ArmLaws.{register_arm_where, register_arm_same}
 use Rattle.in_place.specs.InPlace.{Operands, ArmNear}
 
 -- ---- nothing was done
-
-pub leads_not : {cs : List Cell} {base end : ℕ} {f : ℕ → Defined → Tried Defined} → LeadsNear cs cs base end f false
-leads_not = record { yes = λ e. absurd (true≢false (sym e)); no = λ _. refl }
 
 pub arm-not : {cs : List Cell} {base end i j k : ℕ} {o : RegisterOperation} → ArmNear cs cs base end i j k o false
 arm-not = record { yes = λ e. absurd (true≢false (sym e)); no = λ _. refl }
@@ -56,7 +54,7 @@ module _ {cs ds : List Cell} {base end i j k : ℕ} {r : Bool} {f : ℕ → Defi
   pub arm_where : {o : RegisterOperation} → (r ≡ true → (x : Row) → Operands x i j k → (a : IntMap) → a.base ≡ base → a.base + a.used ≡ end → (limit : ℕ) → Current limit cs a → (meaning : Meaning) (l : Listed) → Standard limit meaning → Judged l x → (bound : ℕ) (m : Defined) → HoldsMap limit bound cs a m → f limit m ≡ register_arm meaning l m o) → ArmNear cs ds base end i j k o r
   arm_where is =
       record {
-        yes = λ e x ops a first last limit current. record { leads = λ meaning l s jd. leads_where _ (is e x ops a first last limit current meaning l s jd) (w.yes e a first last limit current) };
+        yes = λ e x ops a first last limit current. register_arm_where (w.yes e a first last limit current) (is e x ops a first last limit current);
         no = w.no;
       }
 
@@ -86,14 +84,10 @@ module _ {cs : List Cell} {base end i p : ℕ} {near : Option ℕ} (g : GetsNear
 -- ---- arms
 
 -- a register that is copied alone
-ends : (t : Tried Defined) (f : Defined → Tried Defined) → ((m : Defined) → f m ≡ done m) → t >>= f ≡ t
-ends (refused n) f e = refl
-ends (done m) f e = e m
-
 one-copied : (limit i j : ℕ) (m : Defined) → carry_many limit false 1 (int_of i) (int_of j) m ≡ copy_to limit (int_of i) (int_of j) (λ v. v) m
 one-copied limit i j m =
     carries_open limit false 1 i j (omega arith) m
-    ∙ ends (carry_one limit false (int_of i) (int_of j) m) (carry_many limit false (1 - 1) (int_of (i + 1)) (int_of (j + 1))) (carries_end limit false (1 - 1) (i + 1) (j + 1) (omega arith))
+    ∙ bind_done (carry_one limit false (int_of i) (int_of j) m) (carry_many limit false (1 - 1) (int_of (i + 1)) (int_of (j + 1))) (carries_end limit false (1 - 1) (i + 1) (j + 1) (omega arith))
     ∙ carry_copy-one limit (int_of i) (int_of j) m
 
 module _ {cs ds : List Cell} {base end i j k : ℕ} {r : Bool} where
@@ -119,12 +113,12 @@ module _ {cs ds : List Cell} {base end i j k : ℕ} {r : Bool} where
       over (λ n. store_register limit (int_of n) (Int (int_of i)) m) ops.second ∙ over (λ n. store_register limit (int_of x.p2) (Int (int_of n)) m) ops.first ∙ integer_arm limit meaning l x s jd m)
 
   -- a constant
-  pub constant_near : (d : DataType) → LeadsNear cs ds base end (λ limit. store_register limit (int_of j) (Column (Single d (get_or nullables 1 None)))) r → ArmNear cs ds base end i j k (op_constant d) r
+  pub constant_near : (d : DataType) → LeadsNear cs ds base end (λ limit. store_register limit (int_of j) (Column (Single d (Some false)))) r → ArmNear cs ds base end i j k (op_constant d) r
   constant_near d w =
       arm_as w (λ x ops limit meaning l s jd m. over (λ n. store_register limit (int_of n) (never_null d) m) ops.second ∙ constant_arm limit meaning l x s jd m d)
 
   -- Variable, and Null of one
-  module _ (w : LeadsNear cs ds base end (λ limit. store_register limit (int_of j) (Column (Single Null (get_or nullables 2 None)))) r) where
+  module _ (w : LeadsNear cs ds base end (λ limit. store_register limit (int_of j) (Column (Single Null (Some true)))) r) where
     pub variable_near : ArmNear cs ds base end i j k op_variable r
     variable_near = arm_as w (λ x ops limit meaning l s jd m. over (λ n. store_register limit (int_of n) (Column null) m) ops.second ∙ variable_arm limit meaning l x s jd m)
 
@@ -133,7 +127,7 @@ module _ {cs ds : List Cell} {base end i j k : ℕ} {r : Bool} where
         arm_as w
         (λ x ops limit meaning l s jd m.
         over (λ n. store_register limit (int_of n) (Column null) m) ops.second
-        ∙ sym (null-turn limit 1 (int_of x.p2) m (omega arith) ∙ ends (store_register limit (int_of x.p2) (Column null) m) _ (λ t. null-none limit (1 - 1) _ t (λ lt. omega (arith, lt))))
+        ∙ sym (null-turn limit 1 (int_of x.p2) m (omega arith) ∙ bind_done (store_register limit (int_of x.p2) (Column null) m) _ (λ t. null-none limit (1 - 1) _ t (λ lt. omega (arith, lt))))
         ∙ null_arm limit meaning l x s jd m 1 (omega (arith, ops.second, ops.third, le)))
 
 -- the operations on two operands
@@ -143,11 +137,11 @@ module _
     {c d : Cell} (ce : c ≡ get_or cs p blank) (de : d ≡ get_or cs q blank)
     (u v : Register) (ue : u ≡ register_in c p) (ve : v ≡ register_in d q)
   where
-    pub arithmetic_near : {ds : List Cell} {k : ℕ} {r : Bool} (s t e : DataType) (n : ℕ) → e ≡ first_datatype s t → IsDatatype (Some u) s → IsDatatype (Some v) t → AreNullable (Some u) (Some v) n → LeadsNear cs ds base end (λ limit. store_register limit (int_of k) (Column (Single e (get_or nullables n None)))) r → ArmNear cs ds base end i j k op_arithmetic r
+    pub arithmetic_near : {ds : List Cell} {k : ℕ} {r : Bool} (s t e : DataType) (n : Option Bool) → e ≡ first_datatype s t → IsDatatype (Some u) s → IsDatatype (Some v) t → AreNullable (Some u) (Some v) n → LeadsNear cs ds base end (λ limit. store_register limit (int_of k) (Column (Single e n))) r → ArmNear cs ds base end i j k op_arithmetic r
     arithmetic_near s t e n first us vt both w =
         arm_where w
         (λ yes x ops a from to limit current meaning l st jd bound m h.
-        over (λ z. store_register limit (int_of z) (Column (Single e (get_or nullables n None))) m) ops.third
+        over (λ z. store_register limit (int_of z) (Column (Single e n)) m) ops.third
         ∙ operands_stored limit meaning l x st jd cs a (Ok (Some u)) (Ok (Some v)) (subst (λ z. Reads cs a z (Ok (Some u))) (sym ops.first) (near_reads gi pl ce u ue a from to current)) bound m h (subst (λ z. Reads cs a z (Ok (Some v))) (sym ops.second) (near_reads gj ql de v ve a from to current)) (Some u) refl (Some v) refl s t e n first us vt both)
 
 -- HaltIfNull
@@ -155,19 +149,19 @@ module _ {cs : List Cell} {base end k p : ℕ} {near : Option ℕ} (g : GetsNear
   reads : {i j : ℕ} (x : Row) → Operands x i j k → (a : IntMap) → a.base ≡ base → a.base + a.used ≡ end → {limit : ℕ} → Current limit cs a → Reads cs a x.p3 (Ok (Some v))
   reads x ops a first last current = subst (λ z. Reads cs a z (Ok (Some v))) (sym ops.third) (near_reads g ge ce v ve a first last current)
 
-  pub halt_near : (kind n : ℕ) (d : DataType) → v ≡ register.Single kind n → d ≡ get_or datatypes kind Null → {ds : List Cell} {r : Bool} → LeadsNear cs ds base end (λ limit. store_register limit (int_of k) (Column (Single d (get_or nullables 1 None)))) r → {i j : ℕ} → ArmNear cs ds base end i j k op_halt_if_null r
-  halt_near kind n d e de w =
+  pub halt_near : (d : DataType) (n : Option Bool) → v ≡ register.Single d n → {ds : List Cell} {r : Bool} → LeadsNear cs ds base end (λ limit. store_register limit (int_of k) (Column (Single d (Some false)))) r → {i j : ℕ} → ArmNear cs ds base end i j k op_halt_if_null r
+  halt_near d n e w =
       arm_where w
       (λ yes x ops a first last limit current meaning l s jd bound m h.
-      over (λ z. store_register limit (int_of z) (Column (Single d (get_or nullables 1 None))) m) ops.third
-      ∙ halt_stored limit meaning l x s jd cs a (Ok (Some v)) bound m h (reads x ops a first last current) kind n d (ap (λ q. Ok (Some q)) e) de)
+      over (λ z. store_register limit (int_of z) (Column (Single d (Some false))) m) ops.third
+      ∙ halt_stored limit meaning l x s jd cs a (Ok (Some v)) bound m h (reads x ops a first last current) d n (ap (λ q. Ok (Some q)) e))
 
   -- what is no plain column stays
   module _ {i j : ℕ} where
     stays : ((x : Row) → Operands x i j k → (a : IntMap) → a.base ≡ base → a.base + a.used ≡ end → (limit : ℕ) → Current limit cs a → (meaning : Meaning) (l : Listed) → Standard limit meaning → Judged l x → (bound : ℕ) (m : Defined) → HoldsMap limit bound cs a m → register_arm meaning l m op_halt_if_null ≡ done m) → ArmNear cs cs base end i j k op_halt_if_null true
     stays is =
         record {
-          yes = λ _ x ops a first last limit current. record { leads = λ meaning l s jd. same_leads limit cs a _ current (is x ops a first last limit current meaning l s jd) };
+          yes = λ _ x ops a first last limit current. register_arm_same current (is x ops a first last limit current);
           no = λ e. absurd (true≢false e);
         }
 

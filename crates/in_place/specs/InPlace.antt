@@ -9,7 +9,8 @@ use Rattle.intmap.specs.Signed.{offset}
 use Rattle.intmap.specs.declared.IntMap.{IntMap}
 use Rattle.opcode.specs.Opcode.{arm_of}
 use Rattle.opcode.specs.declared.Operation.{Operation}
-use Rattle.rows.specs.declared.Row.{Row}
+use Rattle.rows.specs.Rows.{parts}
+use Rattle.rows.specs.declared.row.Row.{Row}
 use Rattle.state.specs.Leads.{Current}
 use Rattle.state.specs.Own.{StoresCell}
 use Rattle.state.specs.Arms.{RegisterArm, CursorArm}
@@ -18,7 +19,6 @@ use Rattle.state.specs.declared.MemoryState.{MemoryState}
 use Rattle.cursor_arms.specs.StandsFor.{FindsCursor}
 use Rattle.column_arms.specs.Columns.{DirectAt}
 use Rattle.jump_arms.specs.Arms.{Ready, at}
-use Rattle.root_block.specs.Blocks.{IsBlocks}
 use Rattle.explain.specs.Handles.{Handles}
 use Rattle.explain.specs.declared.Handling.TheVariants as handling
 
@@ -78,14 +78,14 @@ pub record ReadyAt (cs : List Cell) (row base end : ℕ) (op : Operation) (i j k
   pub limit : ℕ
   pub state : MemoryState
   pub judged : Row
-  pub ready : Ready limit cs state judged
+  pub ready : Ready limit cs state
   pub operation : judged.op ≡ op
   pub operands : Operands judged i j k
   pub stands : StandsAt state row base end
 
 -- of every state and row that stand for these, the step is that the state goes on at r
 pub record GoesOn (cs ds : List Cell) (row base end i j k r : ℕ) (o : JumpOperation) : Type 0 where
-  pub arm : (limit : ℕ) (s : MemoryState) (x : Row) → Ready limit cs s x → Operands x i j k → StandsAt s row base end → JumpArm limit cs ds s x o (offered None (Some (at r s.map)))
+  pub arm : (limit : ℕ) (s : MemoryState) (x : Row) → Ready limit cs s → Operands x i j k → StandsAt s row base end → JumpArm limit cs ds s x o (offered None (Some (at r s.map)))
 
 -- it is that of the operation that is meant, and the row is one of the listing's n; or nothing has changed
 pub record JumpNear (cs ds : List Cell) (row base end : ℕ) (op : Operation) (i j k n : ℕ) (r : Option ℕ) : Type 0 where
@@ -98,5 +98,5 @@ pub record JumpNear (cs ds : List Cell) (row base end : ℕ) (op : Operation) (i
 -- of every state and row that stand for these, handling gives the state at that row, one of the listing's n; or nothing has changed
 pub record HandlesNear (cs ds : List Cell) (row base end : ℕ) (op : Operation) (i j k n : ℕ) (r : Option ℕ) : Type 0 where
   pub within : (w : ℕ) → r ≡ Some w → (offset ≤ w) × (w < offset + n)
-  pub yes : (w : ℕ) → r ≡ Some w → (limit : ℕ) (s : MemoryState) (x : Row) → Ready limit cs s x → x.op ≡ op → Operands x i j k → StandsAt s row base end → (first size : ℕ) (blocks : List ℕ) (again : Bool) → IsBlocks blocks → Handles limit first size cs ds blocks s x again (Ok (handling.Ways (record { branch = None; stays = Some (at w s.map) }) false))
+  pub yes : (w : ℕ) → r ≡ Some w → (limit : ℕ) (s : MemoryState) (x : Row) → Ready limit cs s → x.op ≡ op → Operands x i j k → StandsAt s row base end → (first size : ℕ) (blocks : List ℕ) (again : Bool) → Handles limit first size cs ds blocks s (parts x) again (Ok (handling.Ways (record { branch = None; stays = Some (at w s.map) }) false))
   pub no : r ≡ None → ds ≡ cs

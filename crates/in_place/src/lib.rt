@@ -7,7 +7,7 @@ ghost use Rattle.model.specs.RegisterArms.{copy_to};
 ghost use Rattle.model.specs.Operation.{op_arithmetic, op_halt_if_null, op_null, op_copy, op_column};
 ghost use Rattle.area.specs.Cells.{cells};
 ghost use Rattle.intmap.specs.Signed.{int_of};
-ghost use Rattle.rows.specs.Rows.{Operand};
+ghost use Rattle.rows.specs.Parts.{Operand};
 ghost use Rattle.state.specs.Own.{HeldAmong, LeadsNear};
 ghost use Rattle.in_place.specs.InPlace.{ArmNear, RegisterNear, TableNear, ColumnNear, CursorNear, ReadyAt, WithinListing, JumpNear, HandlesNear};
 
@@ -78,16 +78,7 @@ fn halt_if_null(area: &mut [u8], base: usize, end: usize, k: u64) -> bool
     };
     let v = state::register_in(area::cell_at(area, p), p);
     match v {
-        Register::Single(kind, _) => {
-            state::single_near(
-                area,
-                base,
-                end,
-                k,
-                register_arms::datatype(kind),
-                state::NEVER,
-            )
-        }
+        Register::Single(d, _) => state::single_near(area, base, end, k, d, Some(false)),
         Register::Record(_) => true,
         Register::Int(_) => true,
     }
@@ -101,7 +92,7 @@ fn null(area: &mut [u8], base: usize, end: usize, j: u64, k: u64) -> bool
     if j < k {
         return false;
     }
-    state::single_near(area, base, end, j, DataType::Null, state::NULLABLE)
+    state::single_near(area, base, end, j, DataType::Null, Some(true))
 }
 
 // The arms that write registers, by P1, P2 and P3.
@@ -111,7 +102,7 @@ fn register(area: &mut [u8], base: usize, end: usize, op: Operation, i: u64, j: 
 {
     match op {
         Operation::Variable => {
-            state::single_near(area, base, end, j, DataType::Null, state::NULLABLE)
+            state::single_near(area, base, end, j, DataType::Null, Some(true))
         }
         Operation::HaltIfNull => halt_if_null(area, base, end, k),
         Operation::CopyOne => copy(area, base, end, i, j),
@@ -123,7 +114,7 @@ fn register(area: &mut [u8], base: usize, end: usize, op: Operation, i: u64, j: 
         | Operation::ConstantFloat
         | Operation::ConstantText
         | Operation::ConstantBlob => {
-            state::single_near(area, base, end, j, opcode::opcode_to_type(op), state::NEVER)
+            state::single_near(area, base, end, j, opcode::opcode_to_type(op), Some(false))
         }
         _ => false,
     }

@@ -1,22 +1,20 @@
 -- The laws of runs under other keys: n times a cell under the keys 0, 1, 2, ..., with what each turn of the loop that writes them leaves, and a run
 -- whose key is changed. Assumes nothing.
-use mathlib.Core.Path.{◌≡◌, refl, sym, ap, ap₂, ◌∙◌}
-use mathlib.Core.List.{List, [], ◌∷◌, map}
+use mathlib.Core.Path.{◌≡◌, refl, ap, ap₂, ◌∙◌}
+use mathlib.Core.List.{List, [], ◌∷◌}
 use mathlib.Core.Bool.{Bool, true, false}
 use Prim.Native.Nat.{ℕ, zero, suc, ◌+◌, ◌<◌}
 use native.Mathlib.Omega.{arith}
-use native.Mathlib.Decide.{ℕ_discrete}
-use lib.ListN.{length, get_or, set, length-set}
+use lib.ListN.{length, get_or, set}
 use lib.Seq.{get_or-set_same, get_or-set_other}
 use lib.Dec.{eqb}
 use Rattle.area.specs.Cells.{blank}
 use Rattle.area.specs.declared.Cell.{Cell}
 use Rattle.intmap.specs.Pack.{tag_of, with_key}
 use Rattle.intmap.specs.Runs.{size, whole}
-use Rattle.intmap.specs.Entries.{Runs, span, entries, key_run, total}
+use Rattle.intmap.specs.Entries.{Runs, span, key_run, total}
 use Rattle.intmap.specs.Map.{Frame}
 use Rattle.intmap.specs.Change.{elems, rekey, rekeyed, FromElem}
-use Rattle.intmap.proofs.RunLaws.{size-single}
 use Rattle.intmap.proofs.SameCells.{size_same, sizes_same}
 use Rattle.intmap.proofs.EntryLaws.{span_same}
 use Rattle.intmap.proofs.PackLaws.{keyed_tag, keyed_key}
@@ -27,27 +25,6 @@ use Rattle.intmap.proofs.PackLaws.{keyed_tag, keyed_key}
 pub record Elems (cs ds : List Cell) (at : ℕ) (c : Cell) (k : ℕ) : Type 0 where
   pub new : (j : ℕ) → j < k → get_or ds (at + j) blank ≡ with_key j c
   pub frame : Frame cs ds at k
-
-pub elems-none : (cs : List Cell) (at : ℕ) (c : Cell) → Elems cs cs at c 0
-elems-none cs at c = record { new = λ j lt. absurd (omega arith); frame = record { long = refl; below = λ j lt. refl; above = λ j le. refl } }
-
-pub elems-turn : (cs now after : List Cell) (at : ℕ) (c x : Cell) (k p : ℕ) → Elems cs now at c k → p ≡ at + k → p < length now → x ≡ with_key k c → after ≡ set now p x → Elems cs after at c (k + 1)
-elems-turn cs now after at c x k p e pe fits xe w =
-    let other : (j : ℕ) → (j ≡ p → ⊥) → get_or after j blank ≡ get_or now j blank = λ j ne. ap (λ (l : List Cell). get_or l j blank) w ∙ get_or-set_other now p j x blank ne in
-    record {
-      new = λ j lt. go j lt (ℕ_discrete j k);
-      frame = record {
-        long = ap length w ∙ length-set now p x ∙ e.frame.long;
-        below = λ j lt. other j (omega arith) ∙ e.frame.below j lt;
-        above = λ j le. other j (omega arith) ∙ e.frame.above j (omega arith);
-      };
-    }
-  where
-    go : (j : ℕ) → j < k + 1 → Dec (j ≡ k) → get_or after (at + j) blank ≡ with_key j c
-    go j lt (yes y) =
-        let q : at + j ≡ p = omega arith in
-        rw q (ap (λ (l : List Cell). get_or l p blank) w ∙ get_or-set_same now p x blank fits ∙ xe ∙ ap (λ (i : ℕ). with_key i c) (sym y))
-    go j lt (no n) = ap (λ (l : List Cell). get_or l (at + j) blank) w ∙ get_or-set_other now p (at + j) x blank (λ q. n (omega arith)) ∙ e.new j (omega (arith, n))
 
 elems-span : (ds : List Cell) (c : Cell) (n p k : ℕ) → ((j : ℕ) → j < n → get_or ds (p + j) blank ≡ with_key (k + j) c) → span ds p n ≡ elems c k n
 unfolding span elems
@@ -67,20 +44,6 @@ pub elems-done : (cs ds : List Cell) (at : ℕ) (c : Cell) (k n : ℕ) → k ≡
 elems-done cs ds at c k n e s =
     rw (← e)
     (record { cells = elems-span ds c k at 0 (λ j lt. let z : 0 + j ≡ j = omega arith in rw z (s.new j lt)); frame = s.frame })
-
--- each is a run by itself, unless it is a record's
-module _ (ds : List Cell) (c : Cell) (plain : tag_of c ≡ 2 → ⊥) (d : ℕ) where
-  elem_one : (n p k : ℕ) → span ds p (suc n) ≡ elems c k (suc n) → (get_or ds p blank ≡ with_key k c) × (span ds (p + 1) n ≡ elems c (suc k) n)
-  unfolding span elems
-  elem_one n p k e = (cc, cc)
-
-  pub elem_entries : (n p k : ℕ) → span ds p n ≡ elems c k n → entries ds d n p ≡ map (λ (x : Cell). x ∷ []) (elems c k n)
-  unfolding entries elems span
-  elem_entries zero p k e = refl
-  elem_entries (suc n) p k e =
-      let h = elem_one n p k e in
-      let one : 1 ≡ size ds d p = size-single ds d p (with_key k c) (sym h.0) (λ t. plain (sym (keyed_tag k c) ∙ t)) in
-      rw (← one) (ap₂ (λ (x : Cell) (l : Runs). (x ∷ []) ∷ l) h.0 (elem_entries n (p + 1) (suc k) h.1))
 
 -- ---- runs under other keys
 

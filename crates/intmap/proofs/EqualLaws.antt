@@ -1,14 +1,15 @@
 -- Columns that compare the same have the same cells, and the other way round; so with two maps. Assumes nothing.
 use mathlib.Core.Path.{◌≡◌, refl, sym, ap, ◌∙◌}
 use mathlib.Core.List.{List, ◌∷◌}
-use mathlib.Core.Bool.{Bool, true, false, ◌&&◌, false≢true}
-use Prim.Native.Nat.{ℕ, zero, suc, ◌+◌, ◌-◌, ◌<◌, ◌≤◌}
+use mathlib.Core.Bool.{Bool, true, false, false≢true}
+use Prim.Native.Nat.{ℕ, zero, suc, ◌+◌, ◌-◌, ◌<◌}
 use native.Mathlib.Omega.{arith}
 use native.Mathlib.Decide.{dec_lt}
 use lib.ListN.{length, get_or}
 use lib.Dec.{eqb}
 use borrow.Author.Tests.{eq-eqb, eqb-true}
 use Rattle.std.specs.Bool.{MatchBool}
+use Rattle.std.specs.Cmp.Derive.{both_true}
 use Rattle.area.specs.Cells.{blank}
 use Rattle.area.specs.declared.Cell.{Cell}
 use Rattle.intmap.specs.Pack.{tag_of}
@@ -25,9 +26,6 @@ cells-sound x y h = same-cell x y (eqb-true _ _ (and_left (eqb x.head y.head) _ 
 
 cells_same : (x y : Cell) → x ≡ y → same_cell x y ≡ true
 cells_same x y e = rw (eq-eqb x.head y.head (ap (λ (c : Cell). c.head) e), eq-eqb x.payload y.payload (ap (λ (c : Cell). c.payload) e))
-
-both_true : (x y : Bool) → x ≡ true → y ≡ true → x && y ≡ true
-both_true x y p q = ap (λ (t : Bool). t && y) p ∙ q
 
 cons_one : (x y : Cell) (a b : List Cell) → x ∷ a ≡ y ∷ b → x ≡ y
 cons_one x y a b e = cc
@@ -89,7 +87,7 @@ module _ (cs : List Cell) where
         let t = sizes (size cs d) n (a + s) in
         let g : Agree cs a cs b s = agree_first cs cs a b (s + t) s (omega arith) f in
         let z : size cs d b ≡ s = size_same cs cs d a b g in
-        both_true _ _ (one a b g) (rw z (agree_each n (a + s) (b + s) (agree_part cs cs a b (s + t) s t (omega arith) f)))
+        both_true (one a b g) (rw z (agree_each n (a + s) (b + s) (agree_part cs cs a b (s + t) s t (omega arith) f)))
 
     agree_inside : (t : Bool) (n a b : ℕ) → Agree cs a cs b (whole (size cs d) t n a) → inside t (each_same (eq_column cs d) (size cs d) n (a + 1) (b + 1)) ≡ true
     unfolding inside whole
@@ -100,7 +98,7 @@ module _ (cs : List Cell) where
   unfolding eq_column size
   agree_eq zero a b f = cells_same _ _ (sym (agree_head cs cs a b 1 (omega arith) f))
   agree_eq (suc d) a b f =
-      both_true _ _ (cells_same _ _ (sym (agree_head cs cs a b (size cs (suc d) a) (size-pos cs (suc d) a) f)))
+      both_true (cells_same _ _ (sym (agree_head cs cs a b (size cs (suc d) a) (size-pos cs (suc d) a) f)))
       (agree_inside d (agree_eq d) (eqb (tag_of (get_or cs a blank)) 2) (get_or cs a blank).payload a b f)
 
   -- of lists of runs
@@ -121,7 +119,7 @@ module _ (cs : List Cell) where
   unfolding eq_columns each_same entries
   entries_eqs d zero a b e = refl
   entries_eqs d (suc n) a b e =
-      both_true _ _ (agree_eq d a b (span_agree (size cs d a) (size cs d b) a b (run-one _ _ _ _ e))) (entries_eqs d n (a + size cs d a) (b + size cs d b) (run_two _ _ _ _ e))
+      both_true (agree_eq d a b (span_agree (size cs d a) (size cs d b) a b (run-one _ _ _ _ e))) (entries_eqs d n (a + size cs d a) (b + size cs d b) (run_two _ _ _ _ e))
 
 -- ---- cells, whatever they stand for
 
@@ -145,9 +143,6 @@ module _ (cs : List Cell) (a b : IntMap) where
         sound = λ t. eqs_entries cs levels a.len a.base b.base (sym e ∙ t) ∙ sym other;
         complete = λ t. e ∙ entries_eqs cs levels a.len a.base b.base (t ∙ other);
       }
-
-  pub other_fits : a.len ≡ b.len → IsMap cs b → b.base + sizes (size cs levels) a.len b.base ≤ length cs
-  other_fits n is = rw n (omega (arith, is.used, is.inside))
 
   -- the same cells are the same entries
   pub same_entries : a.len ≡ b.len → IsMap cs a → {r : Bool} → SameCells cs a.base b.base a.used r → r ≡ true → Compares cs a b true

@@ -19,7 +19,7 @@ use Rattle.intmap.specs.Entries.{span, entries, key_run}
 use Rattle.intmap.specs.Find.{seek}
 use Rattle.intmap.specs.Map.{levels, HasRoom}
 use Rattle.intmap.specs.Change.{rekey}
-use Rattle.intmap.specs.Over.{Plain, ArePlain, Overlaid, Coverable, CopiesOver}
+use Rattle.intmap.specs.Over.{Plain, ArePlain, Overlaid, CopiesOver}
 use Rattle.intmap.specs.Store.{Opens, Inserts}
 use Rattle.intmap.specs.declared.IntMap.{IntMap}
 use Rattle.intmap.proofs.EntryLaws.{length-span, span_same, entries_few}
@@ -110,9 +110,6 @@ module _ (cs ms ds : List Cell) (from to n : ℕ) (c : Cell) (fits : to + suc n 
                 above = λ j le. other j (omega (arith, le, long)) ∙ moved_above cs (from + 1) (to + 1) n j (omega (arith, le, long));
               };
         }
-
-pub copied-not : {cs : List Cell} {from to : ℕ} {c : Cell} → (Coverable cs from to c → ⊥) → CopiesOver cs cs from to c false
-copied-not not = record { flat = λ e. absurd (true≢false (sym e)); yes = λ e. absurd (true≢false (sym e)); none = λ _. not; no = λ _. refl }
 
 pub copied_it : {cs ms ds : List Cell} {from to : ℕ} {c : Cell} → IsColumn cs levels to → tag_of c ≡ 2 → tag_of c ≡ tag_of (get_or cs from blank) → c.payload ≡ (get_or cs from blank).payload → (d : Cell) → d ≡ get_or cs to blank → tag_of d ≡ 2 → d.payload ≡ c.payload → Plain cs (from + 1) c.payload → Plain cs (to + 1) c.payload
     → ms ≡ moved cs (from + 1) (to + 1) c.payload → (key : ℕ) → key ≡ key_of d → (h : Cell) → h ≡ with_key key c → ds ≡ set ms to h → CopiesOver cs ds from to c true

@@ -2,12 +2,9 @@
 -- Assumes nothing.
 use Rattle.intmap.specs.declared.Class.TheVariants.{Registers, Cursors, Tables}
 use Rattle.intmap.specs.declared.Class.{Class}
-use mathlib.Core.Path.{◌≡◌, refl, sym, ap, ◌∙◌}
-use mathlib.Core.Bool.{Bool, true, false}
-use Prim.Native.Nat.{ℕ, ◌-◌, ◌*◌, ◌/◌, ◌%◌, ◌<◌, ◌≤◌}
+use mathlib.Core.Path.{◌≡◌, ap}
+use Prim.Native.Nat.{ℕ, ◌/◌, ◌%◌, ◌<◌}
 use native.Mathlib.Omega.{arith}
-use lib.Dec.{eqb, leb, ltb}
-use borrow.Author.Tests.{leb-true, leb-false, le-leb, lt-leb, ltb-true, ltb-false, eq-eqb, ne_eqb}
 use Rattle.area.specs.Cells.{cell}
 use Rattle.area.specs.declared.Cell.{Cell}
 use Rattle.intmap.specs.Pack.{head, tag_of, key_of, with_key, with_nullable, class_number}
@@ -30,9 +27,6 @@ module _ (tag kind nullable key : ℕ) (t : tag < 256) where
       pub head_injective : (tag' kind' nullable' key' : ℕ) → tag' < 256 → kind' < 256 → nullable' < 256 → head tag kind nullable key ≡ head tag' kind' nullable' key' → (tag ≡ tag') × (kind ≡ kind') × (nullable ≡ nullable') × (key ≡ key')
       head_injective tag' kind' nullable' key' t' k' n' e = omega arith
 
-      pub head_with_key : (payload new : ℕ) → with_key new (cell (head tag kind nullable key) payload) ≡ cell (head tag kind nullable new) payload
-      head_with_key payload new = ap (λ (h : ℕ). cell h payload) (omega arith)
-
       pub head_with_nullable : (payload new : ℕ) → with_nullable new (cell (head tag kind nullable key) payload) ≡ cell (head tag kind new key) payload
       head_with_nullable payload new = ap (λ (h : ℕ). cell h payload) (omega arith)
 
@@ -44,24 +38,6 @@ pub keyed_key : (key : ℕ) (c : Cell) → key_of (with_key key c) ≡ key
 keyed_key key c = omega arith
 
 -- ---- a key by its whole head
-
-pub begins-key : (c : Cell) → leb 1099511627776 c.head ≡ leb 65536 (key_of c)
-begins-key c = go (leb 1099511627776 c.head) refl
-  where
-    go : (b : Bool) → leb 1099511627776 c.head ≡ b → b ≡ leb 65536 (key_of c)
-    go true e = let h = leb-true 1099511627776 c.head e in sym (le-leb 65536 (key_of c) (omega arith))
-    go false e = let h = leb-false 1099511627776 c.head e in sym (lt-leb 65536 (key_of c) (omega arith))
-
-module _ (c : Cell) (key low : ℕ) (le : low ≡ 16777216 * key) where
-  pub key_below : c.head < low → leb low c.head ≡ eqb (key_of c) key
-  key_below h = lt-leb low c.head h ∙ sym (ne_eqb (key_of c) key (λ e. omega arith))
-
-  pub key_is : low ≤ c.head → ltb (c.head - low) 16777216 ≡ eqb (key_of c) key
-  key_is h = go (ltb (c.head - low) 16777216) refl
-    where
-      go : (b : Bool) → ltb (c.head - low) 16777216 ≡ b → b ≡ eqb (key_of c) key
-      go true e = let l = ltb-true (c.head - low) 16777216 e in sym (eq-eqb (key_of c) key (omega arith))
-      go false e = let l = ltb-false (c.head - low) 16777216 e in sym (ne_eqb (key_of c) key (λ q. omega arith))
 
 pub class_small : (c : Class) → class_number c < 3
 class_small Registers = omega arith

@@ -22,7 +22,7 @@ use Rattle.intmap.proofs.MapLaws.{placed_room, frame_below, frame_above}
 use Rattle.intmap.proofs.StoreLaws.{room_map}
 use Rattle.encoding.proofs.Held.{held_elsewhere, held_go_to, held-copied}
 use Rattle.rows.specs.Judged.{Judged}
-use Rattle.rows.specs.declared.Row.{Row}
+use Rattle.rows.specs.declared.row.Row.{Row}
 use Rattle.state.specs.Leads.{Held, Current, HoldsMap, Tells, Stays, Leaves}
 use Rattle.state.specs.Steps.{HoldsState, Offered, TellsStep, LeavesStep}
 use Rattle.state.specs.declared.MemoryState.{MemoryState}
@@ -50,18 +50,6 @@ module _ (limit : ℕ) (cs there : List Cell) (a : IntMap) (current : Current li
         most = omega (arith, behind_used, current.room.most);
         room = omega (arith, behind_base, copied.frame.long, current.scratch);
         small = copied.is.small;
-      }
-
-  pub behind_held : Held there behind
-  behind_held =
-      record {
-        map = copied.is;
-        limit = limit;
-        bound = current.bound;
-        large = current.large;
-        fits = current.fits;
-        state = current.state;
-        holds = held-copied limit current.bound cs there _ a behind current.state copied current.holds;
       }
 
   first_same : Agree cs a.base there a.base a.used

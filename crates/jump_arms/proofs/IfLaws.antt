@@ -22,15 +22,16 @@ use Rattle.intmap.specs.Map.{HasRoom}
 use Rattle.intmap.specs.Signed.{offset, int_of}
 use Rattle.intmap.specs.Store.{Stores, Stored}
 use Rattle.intmap.specs.declared.IntMap.{IntMap}
-use Rattle.rows.specs.Rows.{Operand}
+use Rattle.rows.specs.Parts.{Operand}
 use Rattle.rows.specs.Judged.{Judged}
-use Rattle.rows.specs.declared.Row.{Row}
+use Rattle.rows.specs.declared.row.Row.{Row}
 use Rattle.state.specs.Leads.{Leads}
 use Rattle.state.specs.Steps.{TellsStep, JumpArm, Step}
 use Rattle.state.specs.declared.MemoryState.{MemoryState}
 use Rattle.state.proofs.StoreLeads.{int_leads, leads_as}
+use Rattle.state.proofs.LeadsLaws.{unchanged}
 use Rattle.jump_arms.specs.Arms.{step_after, branch_after, Knows, Puts, BothArm, IfArm}
-use Rattle.jump_arms.proofs.StepLaws.{unchanged, zero_word, other_word, held_at, held_next}
+use Rattle.jump_arms.proofs.StepLaws.{zero_word, other_word, held_at, held_next}
 use Rattle.jump_arms.proofs.StoreSteps.{SameRow, store-row, goes_after, leaves_after, branches_after, branch_leaves}
 
 -- ---- a store where P3 is 0
@@ -89,7 +90,7 @@ module _ (limit : ℕ) (cs ds : List Cell) (s : MemoryState) (x : Row) (w : ℕ)
         says = λ l j bound m le h.
             subst (TellsStep limit bound ds (step_after (s.row + 1) r)) (sym (is l j m))
             (goes_after r (s.row + 1) bound (next m) le leads (stores_row limit x offset (next m)) (held_next s.row h.row h.map));
-        leaves = leaves_after s r (s.row + 1) leads;
+        leaves = leaves_after limit ds s r (s.row + 1) leads.leaves;
         frame = leads.frame;
       }
     where

@@ -3,14 +3,12 @@ use Rattle.refusal.specs.Numbers.{number_of}
 use Rattle.refusal.specs.declared.Refusal.{Refusal}
 use mathlib.Core.Path.{◌≡◌, refl, sym, ap, ap₂, subst, ◌∙◌}
 use mathlib.Core.Bool.{Bool, true, false, not}
-use Rattle.std.specs.Prelude.{Option, None, Some, Ok, Err, eqb}
+use Rattle.std.specs.Prelude.{Option, None, Some, Ok, Err}
 use mathlib.Core.List.{List, [], ◌∷◌}
-use Prim.Native.Nat.{ℕ, zero, suc, ◌+◌, ◌<◌}
-use native.Mathlib.Omega.{arith}
-use lib.ListN.{get_or}
+use Prim.Native.Nat.{ℕ, ◌+◌}
 use lib.IntN.{ℤ, suc_ℤ}
 use Rattle.type_info.specs.declared.DataType.{DataType}
-use Rattle.type_info.specs.declared.DataType.TheVariants.{Null}
+use Rattle.type_info.specs.declared.DataType.TheVariants.{Null, Integer, Float, Text, Blob, Numeric, Bool as Boolean, Int4, Date, Time, Datetime}
 use Rattle.model.specs.Walk.{Tried, refused, done}
 use Rattle.model.specs.Row.{Row as Listed}
 use Rattle.model.specs.State.{RegDataType, Column, Single, MemoryState as Defined, to_not_null, is_false, is_null_type, datatype_code}
@@ -25,13 +23,11 @@ use Rattle.intmap.specs.Map.{HasRoom}
 use Rattle.intmap.specs.Signed.{int_of}
 use Rattle.intmap.specs.Store.{Stores, Stored}
 use Rattle.intmap.specs.declared.IntMap.{IntMap}
-use Rattle.encoding.specs.Encode.{single}
-use Rattle.encoding.specs.Decode.{datatypes, nullables}
+use Rattle.encoding.specs.Encode.{single, nullable_code}
 use Rattle.model.specs.IntMap.{get, update}
-use Rattle.encoding.proofs.Accesses.{apart}
 use Rattle.encoding.proofs.Updates.{update_stored, update_kept, update_refused}
 use Rattle.rows.specs.Judged.{Judged}
-use Rattle.rows.specs.declared.Row.{Row}
+use Rattle.rows.specs.declared.row.Row.{Row}
 use Rattle.state.specs.Leads.{HoldsMap, Tells}
 use Rattle.state.specs.Reads.{Reads, Reading}
 use Rattle.state.specs.Steps.{HoldsState, Offered, TellsStep, JumpArm, Step, offered}
@@ -39,35 +35,36 @@ use Rattle.state.specs.declared.MemoryState.{MemoryState}
 use Rattle.state.specs.declared.Register.{Register}
 use Rattle.state.specs.declared.Register.TheVariants as register
 use Rattle.state.proofs.StoreLeads.{single_leads}
+use Rattle.state.proofs.LeadsLaws.{unchanged}
 use Rattle.jump_arms.specs.Arms.{step_after, branch_after, Puts, BothArm, IsAsked, Asks, changed}
 use Rattle.jump_arms.specs.declared.Asked.{Asked}
-use Rattle.jump_arms.proofs.StepLaws.{unchanged, held_at, held_next, ends_here}
+use Rattle.jump_arms.proofs.StepLaws.{held_at, held_next, ends_here}
 use Rattle.jump_arms.proofs.StoreSteps.{SameRow, goes_after, leaves_after, branches_after, branch_leaves}
+use Rattle.std.specs.Option.{option_eq}
+use Rattle.std.proofs.Math.Bool.{beq}
 
 -- ---- what is asked
 
 abbrev pub asked : Bool → Bool → Asked
 asked null kind = record { null = null; kind = kind }
 
-may_be : (n : ℕ) → n < 3 → not (is_false (get_or nullables n None)) ≡ not (eqb n 1)
-may_be zero h = refl
-may_be (suc zero) h = refl
-may_be (suc (suc zero)) h = refl
-may_be (suc (suc (suc n))) h = absurd (omega arith)
+pub not_false : (n : Option Bool) → not (option_eq beq n (Some false)) ≡ not (is_false n)
+not_false None = refl
+not_false (Some true) = refl
+not_false (Some false) = refl
 
-has_kind_lem : (k : ℕ) → k < 11 → not (is_null_type (get_or datatypes k Null)) ≡ not (eqb k 0)
-has_kind_lem zero h = refl
-has_kind_lem (suc zero) h = refl
-has_kind_lem (suc (suc zero)) h = refl
-has_kind_lem (suc (suc (suc zero))) h = refl
-has_kind_lem (suc (suc (suc (suc zero)))) h = refl
-has_kind_lem (suc (suc (suc (suc (suc zero))))) h = refl
-has_kind_lem (suc (suc (suc (suc (suc (suc zero)))))) h = refl
-has_kind_lem (suc (suc (suc (suc (suc (suc (suc zero))))))) h = refl
-has_kind_lem (suc (suc (suc (suc (suc (suc (suc (suc zero)))))))) h = refl
-has_kind_lem (suc (suc (suc (suc (suc (suc (suc (suc (suc zero))))))))) h = refl
-has_kind_lem (suc (suc (suc (suc (suc (suc (suc (suc (suc (suc zero)))))))))) h = refl
-has_kind_lem (suc (suc (suc (suc (suc (suc (suc (suc (suc (suc (suc k))))))))))) h = absurd (omega arith)
+pub some_kind : (d : DataType) → (d ≡ Null → ⊥) → true ≡ not (is_null_type d)
+some_kind Null h = absurd (h refl)
+some_kind Integer h = refl
+some_kind Float h = refl
+some_kind Text h = refl
+some_kind Blob h = refl
+some_kind Numeric h = refl
+some_kind Boolean h = refl
+some_kind Int4 h = refl
+some_kind Date h = refl
+some_kind Time h = refl
+some_kind Datetime h = refl
 
 module _ (cs : List Cell) (a : IntMap) (i : ℕ) (x : Reading) (reads : Reads cs a i x) where
   pub asks_bad : (n : Refusal) → x ≡ Err n → Asks cs a i (Err n)
@@ -82,8 +79,9 @@ module _ (cs : List Cell) (a : IntMap) (i : ℕ) (x : Reading) (reads : Reads cs
   pub asks_int : (w : ℕ) → x ≡ Ok (Some (register.Int w)) → Asks cs a i (Ok (asked false true))
   asks_int w e = record { says = λ limit bound m h. record { value = _; answer = ((subst (Reads cs a i) e reads).says limit bound m h).answer; null = refl; kind = refl } }
 
-  pub asks_single : (k n : ℕ) → x ≡ Ok (Some (register.Single k n)) → Asks cs a i (Ok (asked (not (eqb n 1)) (not (eqb k 0))))
-  asks_single k n e = record { says = λ limit bound m h. (let t = (subst (Reads cs a i) e reads).says limit bound m h in record { value = _; answer = t.answer; null = may_be n t.nullable_small; kind = has_kind_lem k t.kind_small }) }
+  pub asks_single : (d : DataType) (n : Option Bool) → x ≡ Ok (Some (register.Single d n)) → (b k : Bool) → b ≡ not (is_false n) → k ≡ not (is_null_type d) → Asks cs a i (Ok (asked b k))
+  asks_single d n e b k be ke =
+      record { says = λ limit bound m h. record { value = _; answer = (subst (Reads cs a i) e reads).says limit bound m h; null = sym be; kind = sym ke } }
 
 -- ---- the changes
 
@@ -91,8 +89,8 @@ pub update-row : (i : ℤ) (f : RegDataType → RegDataType) (m : Defined) → K
 unfolding update_register
 update-row i f m = anything (index i) >> λ k _. value refl
 
-pub put-single : (limit : ℕ) (cs ds : List Cell) (a : IntMap) (i : ℕ) (r : Stored) (d : DataType) (n : ℕ) (c : Cell) → n < 3 → c ≡ single (datatype_code d) n 0 → Stores cs ds limit a 0 i 0 (c ∷ []) r → Puts limit cs ds a r (store_register limit (int_of i) (Column (Single d (get_or nullables n None))))
-put-single limit cs ds a i r d n c small e st = record { leads = single_leads limit cs ds a i r d n c small e st; frame = st.frame }
+pub put-single : (limit : ℕ) (cs ds : List Cell) (a : IntMap) (i : ℕ) (r : Stored) (d : DataType) (n : Option Bool) (c : Cell) → c ≡ single (datatype_code d) (nullable_code n) 0 → Stores cs ds limit a 0 i 0 (c ∷ []) r → Puts limit cs ds a r (store_register limit (int_of i) (Column (Single d n)))
+put-single limit cs ds a i r d n c e st = record { leads = single_leads limit cs ds a i r d n c e st; frame = st.frame }
 
 module _ (limit : ℕ) (cs : List Cell) (a : IntMap) (i : ℕ) (x : Reading) (reads : Reads cs a i x) where
   pub put_bad : (f : RegDataType → RegDataType) (n : Refusal) → x ≡ Err n → Puts limit cs cs a (Err n) (update_register (int_of i) f)
@@ -143,20 +141,12 @@ module _ (limit : ℕ) (cs : List Cell) (a : IntMap) (i : ℕ) (x : Reading) (re
 
     module _ (put : Puts limit cs ds a r (store_register limit (int_of i) (Column (Single Null None)))) where
       pub default_some : (q : Register) → x ≡ Ok (Some q) → Puts limit cs ds a r (update_register (int_of i) to_default)
-      default_some (register.Single k n) e = put_as (λ bound m h. update_stored h.good (int_of i) to_default _ ((subst (Reads cs a i) e reads).says limit bound m h).answer to_default_no_larger) put
+      default_some (register.Single d n) e = put_as (λ bound m h. update_stored h.good (int_of i) to_default _ ((subst (Reads cs a i) e reads).says limit bound m h) to_default_no_larger) put
       default_some (register.Record p) e = put_as (λ bound m h. update_stored h.good (int_of i) to_default _ ((subst (Reads cs a i) e reads).says limit bound m h).answer to_default_no_larger) put
       default_some (register.Int w) e = put_as (λ bound m h. update_stored h.good (int_of i) to_default _ ((subst (Reads cs a i) e reads).says limit bound m h).answer to_default_no_larger) put
 
-    pub never_single : (k n : ℕ) (d : DataType) → d ≡ get_or datatypes k Null → Puts limit cs ds a r (store_register limit (int_of i) (Column (Single d (Some false)))) → x ≡ Ok (Some (register.Single k n)) → Puts limit cs ds a r (update_register (int_of i) to_not_null)
-    never_single k n d kind put e =
-        put_as
-        (λ bound m h.
-        update_stored h.good (int_of i) to_not_null _ ((subst (Reads cs a i) e reads).says limit bound m h).answer to_not_null_no_larger
-        ∙ ap (λ y. store_register limit (int_of i) (Column (Single y (Some false))) m) (sym kind))
-        put
-
-pub put-changed : (limit : ℕ) (cs ds : List Cell) (a : IntMap) (i : ℕ) (r : Stored) (null b : Bool) → null ≡ b → Puts limit cs ds a r (update_register (int_of i) (changed b)) → Puts limit cs ds a r (update_register (int_of i) (changed null))
-put-changed limit cs ds a i r null b e put = subst (λ t. Puts limit cs ds a r (update_register (int_of i) (changed t))) (sym e) put
+    pub never_single : (d : DataType) (n : Option Bool) → Puts limit cs ds a r (store_register limit (int_of i) (Column (Single d (Some false)))) → x ≡ Ok (Some (register.Single d n)) → Puts limit cs ds a r (update_register (int_of i) to_not_null)
+    never_single d n put e = put_as (λ bound m h. update_stored h.good (int_of i) to_not_null _ ((subst (Reads cs a i) e reads).says limit bound m h) to_not_null_no_larger) put
 
 -- ---- IsNull and NotNull: a branch with one change, where a test says so, and the next row with the other, where the register may be null
 
@@ -176,7 +166,7 @@ unfolding read_register
 indexed i m o read = go (index i) refl read
   where
     go : (t : Tried ℕ) → index i ≡ t → (t >>= λ k. done (get k m.r)) ≡ done o → Indexed i
-    go (refused n) is e = absurd (apart n o e)
+    go (refused n) is e = cc
     go (done k) is e = record { key = k; is = is }
 
 -- so it can be changed
@@ -277,7 +267,7 @@ module _ (limit : ℕ) (cs : List Cell) (s : MemoryState) (x : Row) (o : JumpOpe
             subst (TellsStep limit bound ds (step_after (s.row + 1) r))
             (sym (told_is false true told rows l bound m j h ∙ ways_stay _ _ _ _ (int_of x.p1) m u.value u.answer))
             (goes_after r (s.row + 1) bound (next m) le put.leads (update-row _ _ _) (held_next s.row h.row h.map)));
-        leaves = leaves_after s r (s.row + 1) put.leads;
+        leaves = leaves_after limit ds s r (s.row + 1) put.leads.leaves;
         frame = put.leads.frame;
       }
 

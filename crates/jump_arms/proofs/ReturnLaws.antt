@@ -27,15 +27,17 @@ use Rattle.intmap.specs.declared.IntMap.{IntMap}
 use Rattle.intmap.proofs.SignedLaws.{int_suc, int_same, word_int}
 use Rattle.encoding.proofs.HeldAfter.{held_removal}
 use Rattle.rows.specs.Judged.{Judged}
-use Rattle.rows.specs.declared.Row.{Row}
+use Rattle.rows.specs.declared.row.Row.{Row}
 use Rattle.state.specs.Leads.{Current, Leads}
 use Rattle.state.specs.Reads.{Reads, Reading}
 use Rattle.state.specs.Steps.{HoldsState, Offered, TellsStep, JumpArm, offered}
 use Rattle.state.specs.declared.MemoryState.{MemoryState}
 use Rattle.state.specs.declared.Register.TheVariants as register
+use Rattle.state.proofs.LeadsLaws.{unchanged}
 use Rattle.jump_arms.specs.Arms.{RowAfter, at, step_after, Knows}
-use Rattle.jump_arms.proofs.StepLaws.{unchanged, held_at, held_next, goes_on_lem, ends_here}
+use Rattle.jump_arms.proofs.StepLaws.{held_at, held_next, goes_on_lem, ends_here}
 use Rattle.jump_arms.proofs.StoreSteps.{SameRow, goes_after, leaves_after}
+use Rattle.type_info.specs.declared.DataType.{DataType}
 
 -- ---- a known number
 
@@ -46,8 +48,8 @@ module _ (cs : List Cell) (a : IntMap) (i : ℕ) (x : Reading) (reads : Reads cs
   pub knows_absent : x ≡ Ok None → Knows cs a i (Ok None)
   knows_absent e = record { says = λ limit bound m h. record { value = None; answer = (subst (Reads cs a i) e reads).says limit bound m h; is = refl } }
 
-  pub knows_single : (k n : ℕ) → x ≡ Ok (Some (register.Single k n)) → Knows cs a i (Ok None)
-  knows_single k n e = record { says = λ limit bound m h. record { value = _; answer = ((subst (Reads cs a i) e reads).says limit bound m h).answer; is = refl } }
+  pub knows_single : (d : DataType) (n : Option Bool) → x ≡ Ok (Some (register.Single d n)) → Knows cs a i (Ok None)
+  knows_single d n e = record { says = λ limit bound m h. record { value = _; answer = (subst (Reads cs a i) e reads).says limit bound m h; is = refl } }
 
   pub knows_record : (p : ℕ) → x ≡ Ok (Some (register.Record p)) → Knows cs a i (Ok None)
   knows_record p e = record { says = λ limit bound m h. record { value = _; answer = ((subst (Reads cs a i) e reads).says limit bound m h).answer; is = refl } }
@@ -140,7 +142,7 @@ module _ (limit : ℕ) (cs : List Cell) (s : MemoryState) (x : Row) where
             subst (TellsStep limit bound ds (step_after row r)) (sym (is rows l m bound j h))
             (goes_after r row bound (go_to (suc_ℤ (int_of w)) m) le leads (remove-row (int_of x.p1) (go_to (suc_ℤ (int_of w)) m))
             (held_at row (suc_ℤ (int_of w)) (ap int_of (after.next small) ∙ sym (int_suc w)) h.map)));
-        leaves = leaves_after s r row leads;
+        leaves = leaves_after limit ds s r row leads.leaves;
         frame = leads.frame;
       }
     where

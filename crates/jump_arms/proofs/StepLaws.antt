@@ -15,20 +15,16 @@ use Rattle.model.specs.Offer.{offers, goes_on, ends, branch_if}
 use Rattle.model.specs.Access.{go_to, next}
 use Rattle.model.specs.JumpArms.{jump_arm}
 use Rattle.area.specs.declared.Cell.{Cell}
-use Rattle.intmap.specs.Map.{Frame}
 use Rattle.intmap.specs.Signed.{offset, int_of}
 use Rattle.intmap.specs.declared.IntMap.{IntMap}
 use Rattle.intmap.proofs.SignedLaws.{int_suc, int_same}
 use Rattle.encoding.proofs.Held.{held_go_to}
-use Rattle.rows.specs.declared.Row.{Row}
+use Rattle.rows.specs.declared.row.Row.{Row}
 use Rattle.state.specs.Leads.{Current, HoldsMap}
 use Rattle.state.specs.Steps.{HoldsState, Offered, Lies, JumpArm, offered}
 use Rattle.state.specs.declared.MemoryState.{MemoryState}
+use Rattle.state.proofs.LeadsLaws.{unchanged}
 use Rattle.jump_arms.specs.Arms.{at}
-
--- nothing has changed
-pub unchanged : (cs : List Cell) (base n : ℕ) → Frame cs cs base n
-unchanged cs base n = record { long = refl; below = λ j h. refl; above = λ j h. refl }
 
 -- the test for 0
 pub zero_word : (w : ℕ) (i : ℤ) → int_of w ≡ i → w ≡ offset → is_zero_int i ≡ true

@@ -23,7 +23,7 @@ use Rattle.area.specs.declared.Cell.{Cell}
 use Rattle.intmap.specs.Signed.{offset, int_of}
 use Rattle.intmap.specs.declared.IntMap.{IntMap}
 use Rattle.rows.specs.Judged.{Judged}
-use Rattle.rows.specs.declared.Row.{Row}
+use Rattle.rows.specs.declared.row.Row.{Row}
 use Rattle.state.specs.Leads.{HoldsMap, Tells, Leaves, operands, Leads}
 use Rattle.state.specs.Steps.{HoldsState, Offered, TellsStep, LeavesStep, JumpArm}
 use Rattle.state.specs.declared.MemoryState.{MemoryState}
@@ -54,9 +54,9 @@ goes_after {limit} {ds = ds} (Ok b) w bound m le leads keeps h =
     (goes_on_lem (record { row = h.row ∙ sym (kept keeps t.answer); map = t.holds }))
 
 -- it lies where it was
-pub leaves_after : {limit : ℕ} {cs ds : List Cell} {f : Defined → Tried Defined} (s : MemoryState) (r : Stored) (w : ℕ) → Leads limit cs ds s.map r f → LeavesStep limit ds s (step_after w r)
-leaves_after s (Err k) w leads = tt
-leaves_after s (Ok b) w leads = (tt, (leads.leaves.base, leads.leaves.room))
+pub leaves_after : (limit : ℕ) (ds : List Cell) (s : MemoryState) (r : Stored) (w : ℕ) → Leaves limit ds s.map r → LeavesStep limit ds s (step_after w r)
+leaves_after limit ds s (Err k) w leaves = tt
+leaves_after limit ds s (Ok b) w leaves = (tt, (leaves.base, leaves.room))
 
 -- a branch at the row of a word, where t is what the access answers
 pub branches_told : (limit bound : ℕ) (ds : List Cell) (r : Stored) (w : ℕ) (m : Defined) (t : Tried Defined) → Tells limit bound ds r t → Kept (SameRow m) t → int_of w ≡ m.program_i → TellsStep limit bound ds (branch_after w r) (t >>= λ n. offers (n ∷ []) None)

@@ -1,7 +1,7 @@
--- What an arm asks for: the state's map with room behind it, a row that one of the listing is judged to, and a state on one of the 2,048 rows
--- that a listing has at most. And what the arms have in common: a step after an access to the map, the row that InitCoroutine and Return name,
--- whether a register is known to hold a number or may be null and how it changes then, a store that stays within the map's room, If by what is
--- known, and both ways by two accesses. Assumes nothing.
+-- What an arm asks for: the state's map with room behind it, and a state on one of the 2,048 rows that a listing has at most. And what the arms
+-- have in common: a step after an access to the map, the row that InitCoroutine and Return name, whether a register is known to hold a number or
+-- may be null and how it changes then, a store that stays within the map's room, If by what is known, and both ways by two accesses. Assumes
+-- nothing.
 use Rattle.refusal.specs.Numbers.{number_of}
 use Rattle.refusal.specs.declared.Refusal.{Refusal}
 use Rattle.intmap.specs.Store.{Stored}
@@ -16,17 +16,16 @@ use Rattle.area.specs.declared.Cell.{Cell}
 use Rattle.intmap.specs.Map.{Frame}
 use Rattle.intmap.specs.Signed.{offset, int_of}
 use Rattle.intmap.specs.declared.IntMap.{IntMap}
-use Rattle.rows.specs.Judged.{Judged, IsRow}
-use Rattle.rows.specs.declared.Row.{Row}
+use Rattle.rows.specs.Judged.{Judged}
+use Rattle.rows.specs.declared.row.Row.{Row}
 use Rattle.state.specs.Leads.{Current, HoldsMap, operands, Leads}
 use Rattle.state.specs.Reads.{IsInt}
 use Rattle.state.specs.Steps.{HoldsState, TellsStep, LeavesStep, Step, offered}
 use Rattle.state.specs.declared.MemoryState.{MemoryState}
 use Rattle.jump_arms.specs.declared.Asked.{Asked}
 
-pub record Ready (limit : ℕ) (cs : List Cell) (s : MemoryState) (x : Row) : Type 0 where
+pub record Ready (limit : ℕ) (cs : List Cell) (s : MemoryState) : Type 0 where
   pub current : Current limit cs s.map
-  pub row : IsRow x
   pub above : offset ≤ s.row
   pub below : s.row < offset + 2048
 

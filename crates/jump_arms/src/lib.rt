@@ -7,11 +7,10 @@ ghost use Rattle.model.specs.Equality.{is_zero_int};
 ghost use Rattle.model.specs.Access.{remove_register, store_register, update_register};
 ghost use Rattle.model.specs.JumpArms.{store_if, to_default};
 ghost use Rattle.model.specs.State.{Column, Single, to_not_null};
-ghost use Rattle.encoding.specs.Decode.{nullables};
 ghost use Rattle.area.specs.Cells.{cells};
 ghost use Rattle.intmap.specs.Map.{HasRoom};
 ghost use Rattle.intmap.specs.Signed.{int_of};
-ghost use Rattle.rows.specs.Rows.{Operand};
+ghost use Rattle.rows.specs.Parts.{Operand};
 ghost use Rattle.state.specs.Leads.{Held, Current, Leads};
 ghost use Rattle.state.specs.Steps.{JumpArm};
 ghost use Rattle.jump_arms.specs.Arms.{Ready, InitTo, RowAfter, step_after, branch_after, both_after, Knows, Puts, BothArm, IfArm, Asks, changed};
@@ -28,7 +27,7 @@ const ONE: u64 = 9223372036854775809;
 
 // Goto
 pub fn goto(s: MemoryState, area: &[u8], x: Row, limit: usize) -> Result<Ways, Refusal>
-    requires { Ready limit (cells area.now) s x }
+    requires { Ready limit (cells area.now) s }
     ensures { JumpArm limit (cells area.now) (cells area.now) s x op_goto result }
 {
     let map = s.map;
@@ -40,7 +39,7 @@ pub fn goto(s: MemoryState, area: &[u8], x: Row, limit: usize) -> Result<Ways, R
 
 // Halt
 pub fn halt(s: MemoryState, area: &[u8], x: Row, limit: usize) -> Result<Ways, Refusal>
-    requires { Ready limit (cells area.now) s x }
+    requires { Ready limit (cells area.now) s }
     ensures { JumpArm limit (cells area.now) (cells area.now) s x op_halt result }
 {
     Ok(Ways {
@@ -51,7 +50,7 @@ pub fn halt(s: MemoryState, area: &[u8], x: Row, limit: usize) -> Result<Ways, R
 
 // The operations that may go to P2 or to the next row
 pub fn branch(s: MemoryState, area: &[u8], x: Row, limit: usize) -> Result<Ways, Refusal>
-    requires { Ready limit (cells area.now) s x }
+    requires { Ready limit (cells area.now) s }
     ensures { JumpArm limit (cells area.now) (cells area.now) s x op_branch result }
 {
     let map = s.map;
@@ -66,7 +65,7 @@ pub fn branch(s: MemoryState, area: &[u8], x: Row, limit: usize) -> Result<Ways,
 
 // MustBeInt
 pub fn must_be_int(s: MemoryState, area: &[u8], x: Row, limit: usize) -> Result<Ways, Refusal>
-    requires { Ready limit (cells area.now) s x }
+    requires { Ready limit (cells area.now) s }
     ensures { JumpArm limit (cells area.now) (cells area.now) s x op_must_be_int result }
 {
     let map = s.map;
@@ -99,7 +98,7 @@ pub fn go_on(x: Result<IntMap, Refusal>, row: u64) -> Result<Ways, Refusal>
 
 // Gosub
 pub fn gosub(s: MemoryState, area: &mut [u8], x: Row, limit: usize) -> Result<Ways, Refusal>
-    requires { Ready limit (cells area.old) s x }
+    requires { Ready limit (cells area.old) s }
     ensures { JumpArm limit (cells area.old) (cells area.new) s x op_gosub result }
 {
     let map = s.map;
@@ -124,7 +123,7 @@ pub fn init_coroutine(
     x: Row,
     limit: usize,
 ) -> Result<Ways, Refusal>
-    requires { Ready limit (cells area.old) s x }
+    requires { Ready limit (cells area.old) s }
     ensures { JumpArm limit (cells area.old) (cells area.new) s x op_init_coroutine result }
 {
     let map = s.map;
@@ -170,7 +169,7 @@ pub fn remove_register(
 
 // Return
 pub fn return_(s: MemoryState, area: &mut [u8], x: Row, limit: usize) -> Result<Ways, Refusal>
-    requires { Ready limit (cells area.old) s x }
+    requires { Ready limit (cells area.old) s }
     ensures { JumpArm limit (cells area.old) (cells area.new) s x op_return result }
 {
     let map = s.map;
@@ -246,7 +245,7 @@ fn store_if(
 
 // If, where the number w is known: 0 goes on, another branches.
 fn if_known(s: MemoryState, area: &mut [u8], x: Row, w: u64, limit: usize) -> Result<Ways, Refusal>
-    requires { Ready limit (cells area.old) s x }
+    requires { Ready limit (cells area.old) s }
     ensures { IfArm limit (cells area.old) (cells area.new) s x (Some (int_of w)) result }
 {
     let map = s.map;
@@ -259,7 +258,7 @@ fn if_known(s: MemoryState, area: &mut [u8], x: Row, w: u64, limit: usize) -> Re
 // If, where no number is known: both ways. The branch has another register, so it is built in the room behind the map, and its store is judged
 // first.
 fn if_both(s: MemoryState, area: &mut [u8], x: Row, limit: usize) -> Result<Ways, Refusal>
-    requires { Ready limit (cells area.old) s x }
+    requires { Ready limit (cells area.old) s }
     ensures { IfArm limit (cells area.old) (cells area.new) s x None result }
 {
     let map = s.map;
@@ -278,7 +277,7 @@ fn if_both(s: MemoryState, area: &mut [u8], x: Row, limit: usize) -> Result<Ways
 
 // If
 pub fn if_(s: MemoryState, area: &mut [u8], x: Row, limit: usize) -> Result<Ways, Refusal>
-    requires { Ready limit (cells area.old) s x }
+    requires { Ready limit (cells area.old) s }
     ensures { JumpArm limit (cells area.old) (cells area.new) s x op_if result }
 {
     let map = s.map;
@@ -305,9 +304,9 @@ fn ask(map: IntMap, area: &[u8], i: u64) -> Result<Asked, Refusal>
             null: false,
             kind: false,
         }),
-        Some(Register::Single(kind, nullable)) => Ok(Asked {
-            null: nullable != state::NEVER,
-            kind: kind != 0,
+        Some(Register::Single(d, nullable)) => Ok(Asked {
+            null: nullable != Some(false),
+            kind: !matches!(d, DataType::Null),
         }),
         Some(Register::Record(_)) => Ok(Asked {
             null: true,
@@ -326,11 +325,11 @@ pub fn put_single(
     area: &mut [u8],
     i: u64,
     d: DataType,
-    nullable: u64,
+    nullable: Option<bool>,
     limit: usize,
 ) -> Result<IntMap, Refusal>
-    requires { HasRoom (cells area.old) limit map × (nullable < 3) × Held (cells area.old) map }
-    ensures { Puts limit (cells area.old) (cells area.new) map result (store_register limit (int_of i) (Column (Single d (get_or nullables nullable None)))) }
+    requires { HasRoom (cells area.old) limit map × Held (cells area.old) map }
+    ensures { Puts limit (cells area.old) (cells area.new) map result (store_register limit (int_of i) (Column (Single d nullable))) }
 {
     map.store_cell(
         area,
@@ -348,7 +347,7 @@ fn put_default(map: IntMap, area: &mut [u8], i: u64, limit: usize) -> Result<Int
 {
     match state::read_register(map, area, i)? {
         None => Ok(map),
-        Some(_) => put_single(map, area, i, DataType::Null, state::UNKNOWN, limit),
+        Some(_) => put_single(map, area, i, DataType::Null, None, limit),
     }
 }
 
@@ -359,10 +358,7 @@ fn put_never(map: IntMap, area: &mut [u8], i: u64, limit: usize) -> Result<IntMa
 {
     match state::read_register(map, area, i)? {
         None => Ok(map),
-        Some(Register::Single(kind, _)) => {
-            let d = register_arms::datatype(kind);
-            put_single(map, area, i, d, state::NEVER, limit)
-        }
+        Some(Register::Single(d, _)) => { put_single(map, area, i, d, Some(false), limit) }
         Some(Register::Record(_)) => Ok(map),
         Some(Register::Int(_)) => Ok(map),
     }
@@ -393,7 +389,7 @@ fn change_both(
     null: bool,
     limit: usize,
 ) -> Result<Ways, Refusal>
-    requires { Ready limit (cells area.old) s x }
+    requires { Ready limit (cells area.old) s }
     ensures { BothArm limit (cells area.old) (cells area.new) s x (update_register (int_of x.p1) (changed null)) (update_register (int_of x.p1) (changed (not null))) result }
 {
     let map = s.map;
@@ -412,7 +408,7 @@ fn change_both(
 
 // IsNull
 pub fn is_null(s: MemoryState, area: &mut [u8], x: Row, limit: usize) -> Result<Ways, Refusal>
-    requires { Ready limit (cells area.old) s x }
+    requires { Ready limit (cells area.old) s }
     ensures { JumpArm limit (cells area.old) (cells area.new) s x op_is_null result }
 {
     let map = s.map;
@@ -429,7 +425,7 @@ pub fn is_null(s: MemoryState, area: &mut [u8], x: Row, limit: usize) -> Result<
 
 // NotNull
 pub fn not_null(s: MemoryState, area: &mut [u8], x: Row, limit: usize) -> Result<Ways, Refusal>
-    requires { Ready limit (cells area.old) s x }
+    requires { Ready limit (cells area.old) s }
     ensures { JumpArm limit (cells area.old) (cells area.new) s x op_not_null result }
 {
     let map = s.map;

@@ -6,9 +6,10 @@ use mathlib.Core.List.{List, [], ◌∷◌, ◌++◌}
 use Prim.Native.Nat.{ℕ, zero, suc, ◌+◌, ◌≤◌, ◌<◌}
 use native.Mathlib.Omega.{arith}
 use lib.Dec.{leb, ltb}
-use lib.ListN.{length, get_or, set}
+use lib.ListN.{length, get_or}
 use lib.Seq.{get_or-set_same, get_or-set_other}
-use borrow.Author.Tests.{lt-ltb, le-ltb, ltb-true}
+use borrow.Author.Tests.{lt-ltb, ltb-true}
+use Rattle.std.proofs.lemmas.Option.{slice_get_within}
 use Rattle.model.specs.Row.{Row as Listed}
 use Rattle.model.specs.Walk.{refused, done}
 use Rattle.model.specs.Fields.{read_items}
@@ -16,12 +17,12 @@ use Rattle.model.specs.ListingText.{take_row, read_listing}
 use Rattle.model.specs.Call.{done_if, rows_of}
 use Rattle.model.proofs.TestLaws.{cases}
 use Rattle.model.proofs.ReaderLaws.{never, some_same}
-use Rattle.area.specs.Cells.{blank, cells, Inside, CellsNow}
+use Rattle.area.specs.Cells.{blank, cells}
 use Rattle.area.specs.declared.Cell.{Cell}
 use Rattle.area.proofs.CellLaws.{cells-kept, inside-kept}
-use Rattle.rows.specs.Rows.{cell_of, row_in, IsWritten}
-use Rattle.rows.specs.Judged.{Judged, HaveRows}
-use Rattle.rows.specs.declared.Row.{Row}
+use Rattle.rows.specs.Rows.{parts, cell_of, row_in, IsWritten}
+use Rattle.rows.specs.Judged.{JudgedParts, Judged, HaveRows}
+use Rattle.rows.specs.declared.row.Row.{Row}
 use Rattle.rows.proofs.RowLaws.{row_again}
 use Rattle.text.specs.Reads.{Reads}
 use Rattle.text.proofs.ItemLaws.{ItemsRead, items_start, items_bad, items_next, items_end, judged, count_refused, count_over, count_is}
@@ -35,13 +36,8 @@ last_or_before [] x y (suc i) e f g = never e
 last_or_before (a ∷ xs) x y zero e f g = f (omega arith) e
 last_or_before (a ∷ xs) x y (suc i) e f g = last_or_before xs x y i e (λ l h. f (omega arith) h) (λ l h. g (omega arith) h)
 
-found_inside : {A : Type 0} (xs : List A) (i : ℕ) {x : A} → slice_get xs i ≡ Some x → i < length xs
-found_inside [] i e = never e
-found_inside (a ∷ xs) zero e = omega arith
-found_inside (a ∷ xs) (suc i) e = omega (arith, found_inside xs i e)
-
 not_done : {A P : Type 0} {n : ℕ} {x : A} → refused n ≡ done x → P
-not_done e = let z : ◌≡◌ {A = ℕ} 0 1 = cc in absurd (omega arith)
+not_done e = cc
 
 item_at : {A : Type 0} (xs : List A) (i : ℕ) → i < length xs → (x : A) × (slice_get xs i ≡ Some x)
 item_at [] i lt = absurd (omega arith)
@@ -53,38 +49,17 @@ done-is : {A : Type 0} (test : Bool) {xs ys : List A} → done_if 3 test xs ≡ 
 done-is true e = cc
 done-is false e = not_done e
 
--- one row
-pub room_at : {area : List ℕ} {from room k : ℕ} → Room area from room → k < room → Inside area (from + k) 1
-room_at {from = from} {k = k} r h = let i = r.inside (omega arith) in record { within = omega (arith, i.within); small = i.small }
-
-module _ {before after : List ℕ} (from room k : ℕ) (r : Row) where
-  pub put_yes : k < room → CellsNow before after (set (cells before) (from + k) (cell_of r)) → PutWhere before after from room k r
-  put_yes h p = record {
-    same = p.same;
-    bytes = p.bytes;
-    rest = p.rest;
-    cells = p.cells ∙ ap (λ b. set_if b (cells before) (from + k) (cell_of r)) (sym (lt-ltb k room h));
-  }
-
-pub put_no : (area : List ℕ) (from room k : ℕ) (r : Row) → room ≤ k → PutWhere area area from room k r
-put_no area from room k r h = record {
-  same = refl;
-  bytes = refl;
-  rest = λ j le. refl;
-  cells = ap (λ b. set_if b (cells area) (from + k) (cell_of r)) (sym (le-ltb k room h));
-}
-
 module _ {before after : List ℕ} (from room k : ℕ) (r : Row) (p : PutWhere before after from room k r) where
-  put_as : {x : Bool} → ltb k room ≡ x → cells after ≡ set_if x (cells before) (from + k) (cell_of r)
-  put_as e = p.cells ∙ ap (λ b. set_if b (cells before) (from + k) (cell_of r)) e
+  put_as : {x : Bool} → ltb k room ≡ x → cells after ≡ set_if x (cells before) (from + k) (cell_of (parts r))
+  put_as e = p.cells ∙ ap (λ b. set_if b (cells before) (from + k) (cell_of (parts r))) e
 
-  put_here : k < room → from + k < length (cells before) → get_or (cells after) (from + k) blank ≡ cell_of r
-  put_here h l = ap (λ cs. get_or cs (from + k) blank) (put_as (lt-ltb k room h)) ∙ get_or-set_same (cells before) (from + k) (cell_of r) blank l
+  put_here : k < room → from + k < length (cells before) → get_or (cells after) (from + k) blank ≡ cell_of (parts r)
+  put_here h l = ap (λ cs. get_or cs (from + k) blank) (put_as (lt-ltb k room h)) ∙ get_or-set_same (cells before) (from + k) (cell_of (parts r)) blank l
 
   put_other : (j : ℕ) → (k < room → j ≡ from + k → ⊥) → get_or (cells after) j blank ≡ get_or (cells before) j blank
   put_other j n =
       cases (ltb k room)
-      (λ e. ap (λ cs. get_or cs j blank) (put_as e) ∙ get_or-set_other (cells before) (from + k) j (cell_of r) blank (n (ltb-true k room e)))
+      (λ e. ap (λ cs. get_or cs j blank) (put_as e) ∙ get_or-set_other (cells before) (from + k) j (cell_of (parts r)) blank (n (ltb-true k room e)))
       (λ e. ap (λ cs. get_or cs j blank) (put_as e))
 
 pub room_kept : {entry now : List ℕ} {from room : ℕ} → length now ≡ length entry → Room entry from room → Room now from room
@@ -92,7 +67,7 @@ room_kept {entry} {now} {from} {room} e r = record { inside = λ h. inside-kept 
 
 -- a cell has a row of the listing, and nothing else
 abbrev Placed : Listed → Cell → Type 0
-Placed x c = Judged x (row_in c) × IsWritten c
+Placed x c = JudgedParts x (row_in c) × IsWritten c
 
 pub record Loading (t rest entry now : List ℕ) (from room k : ℕ) : Type 0 where
   pub before : List Listed
@@ -124,9 +99,9 @@ module _ {t rest entry now : List ℕ} {from room k : ℕ} (l : Loading t rest e
         let k-is : i ≡ k = here ∙ l.read.count in
         let inside = has.inside (omega arith) in
         let there = put_here from room k r p (omega arith) (omega (arith, inside.within, cells-kept entry now l.bytes)) in
-        let cell_is : get_or (cells after) (from + i) blank ≡ cell_of r = ap (λ n. get_or (cells after) (from + n) blank) k-is ∙ there in
-        let row_is : row_in (get_or (cells after) (from + i) blank) ≡ r = ap row_in cell_is ∙ row_again r j.judged.fits in
-        (subst (λ y. Judged x y) (sym row_is) (subst (λ y. Judged y r) same j.judged), cell_is ∙ ap cell_of (sym row_is)));
+        let cell_is : get_or (cells after) (from + i) blank ≡ cell_of (parts r) = ap (λ n. get_or (cells after) (from + n) blank) k-is ∙ there in
+        let row_is : row_in (get_or (cells after) (from + i) blank) ≡ parts r = ap row_in cell_is ∙ row_again (parts r) r.fits in
+        (subst (JudgedParts x) (sym row_is) (subst (λ y. Judged y r) same j.judged), cell_is ∙ ap cell_of (sym row_is)));
     below = λ i b. put_other from room k r p i (λ _ same. omega (arith, b, same)) ∙ l.below i b;
     above = λ i a. put_other from room k r p i (λ few same. omega (arith, a, few, same)) ∙ l.above i a;
     bytes = p.bytes ∙ l.bytes;
@@ -152,7 +127,7 @@ module _ {t rest entry now : List ℕ} {from room k : ℕ} (l : Loading t rest e
     all_placed : (xs : List Listed) → judged 1 2048 (read_items take_row t) ≡ done xs → length xs ≤ room → (i : ℕ) (x : Listed) → slice_get xs i ≡ Some x → Placed x (get_or (cells now) (from + i) blank)
     all_placed xs e fits i x is =
         let all : l.before ≡ xs = done-is (leb (length l.before) 2048) (sym (ap (judged 1 2048) all_read) ∙ e) in
-        l.placed i x (omega (arith, found_inside xs i is)) (ap (λ ys. slice_get ys i) all ∙ is)
+        l.placed i x (omega (arith, slice_get_within xs i x is)) (ap (λ ys. slice_get ys i) all ∙ is)
 
     have_rows : (xs : List Listed) → judged 1 2048 (read_items take_row t) ≡ done xs → length xs ≤ room → HaveRows (cells now) from xs
     have_rows xs e fits i x is = (all_placed xs e fits i x is).0

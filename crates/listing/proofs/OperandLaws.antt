@@ -1,19 +1,18 @@
 -- A signed operand as a word. Assumes nothing.
-use mathlib.Core.Path.{◌≡◌, refl, sym, ap, ◌∙◌, subst}
-use Rattle.std.specs.Prelude.{Option, None, Some, option_map, IfSome}
+use mathlib.Core.Path.{◌≡◌, refl, sym, ap, ◌∙◌}
+use Rattle.std.specs.Prelude.{Option, None, Some, option_map}
 use mathlib.Core.List.{List, [], ◌∷◌}
 use Prim.Native.Nat.{ℕ, zero, suc, ◌+◌, ◌-◌, ◌≤◌, ◌<◌}
 use native.Mathlib.Omega.{arith}
-use lib.IntN.{ℤ, pos, negsuc}
+use lib.IntN.{pos, negsuc}
 use lib.ListN.{length, get_or, take, drop}
 use lib.Seq.{take_all}
 use borrow.Author.Tests.{eq-eqb, ne_eqb}
-use Rattle.model.specs.Reader.{◌then◌, Reader}
+use Rattle.model.specs.Reader.{◌then◌}
 use Rattle.model.specs.Fields.{take_value, take_field}
 use Rattle.model.specs.Numbers.{negative, signed_if, read_up_to, read_signed}
 use Rattle.intmap.specs.Signed.{offset, int_of}
 use Rattle.intmap.proofs.SignedLaws.{int_below, int_above}
-use Rattle.rows.specs.Rows.{Operand}
 use Rattle.text.specs.Reads.{Reads}
 use Rattle.text.proofs.NumberLaws.{empty-number, up_to_bound}
 use Rattle.text.proofs.ReadLaws.{no_value, value_read}
@@ -78,6 +77,3 @@ module _ (key : List ℕ) {t rest : List ℕ} {v : Option (List ℕ)} (h : Reads
 
   pub operand_read : {bs : List ℕ} {o : Option ℕ} → v ≡ Some bs → SignedAs bs o → ReadsOperand (take_field key read_signed) t rest o
   operand_read {o = o} e s = record { reads = value_read key h read_signed (option_map int_of o) e s.is; operand = s.operand }
-
-pub operand_is : {q : Reader ℤ} {t rest : List ℕ} {o : Option ℕ} {w : ℕ} → ReadsOperand q t rest o → o ≡ Some w → Operand w
-operand_is h e = subst (λ x. IfSome x Operand) e h.operand

@@ -3,7 +3,7 @@ use Rattle.std.specs.Prelude.{◌≡◌, List, ℕ, ℤ, Option, option_map, IfS
 use Rattle.model.specs.Reader.{Reader}
 use Rattle.model.specs.Numbers.{read_signed}
 use Rattle.intmap.specs.Signed.{int_of}
-use Rattle.rows.specs.Rows.{Operand}
+use Rattle.rows.specs.Parts.{Operand}
 use Rattle.text.specs.Reads.{Reads}
 
 -- a signed number as a word of 32 bits' range

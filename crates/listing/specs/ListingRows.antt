@@ -7,9 +7,9 @@ use Rattle.model.specs.ListingText.{take_row}
 use Rattle.model.specs.Call.{rows_of}
 use Rattle.area.specs.Cells.{blank, cells, Inside, CellsNow}
 use Rattle.area.specs.declared.Cell.{Cell}
-use Rattle.rows.specs.Rows.{cell_of, IsWritten}
+use Rattle.rows.specs.Rows.{parts, cell_of, IsWritten}
 use Rattle.rows.specs.Judged.{Judged, HaveRows}
-use Rattle.rows.specs.declared.Row.{Row}
+use Rattle.rows.specs.declared.row.Row.{Row}
 use Rattle.text.specs.Reads.{Reads}
 use Rattle.text.specs.Counts.{length_of, counted_as}
 
@@ -33,7 +33,7 @@ set_if false cs i c = cs
 
 -- row k was laid down if there was room for it
 abbrev pub PutWhere : List ℕ → List ℕ → ℕ → ℕ → ℕ → Row → Type 0
-PutWhere entry exit from room k r = CellsNow entry exit (set_if (ltb k room) (cells entry) (from + k) (cell_of r))
+PutWhere entry exit from room k r = CellsNow entry exit (set_if (ltb k room) (cells entry) (from + k) (cell_of (parts r)))
 
 -- The whole listing: how many rows there are, or the refusal; they are in their cells where there was room for all, and no other cell changed.
 pub record Loaded (listing entry exit : List ℕ) (from room : ℕ) (r : Result ℕ Refusal) : Type 0 where

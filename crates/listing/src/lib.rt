@@ -9,7 +9,6 @@ ghost use Rattle.model.specs.Fields.{take_field};
 ghost use Rattle.model.specs.Numbers.{read_index, read_signed, read_hex, hex_value};
 ghost use Rattle.model.specs.ListingText.{is_operation, read_operation, read_p4};
 ghost use Rattle.text.specs.Reads.{Reads};
-ghost use Rattle.rows.specs.Rows.{Fits};
 ghost use Rattle.listing.specs.Fields.{SignedAs, ReadsOperand};
 ghost use Rattle.listing.specs.ListingRows.{ReadsRow, Room, PutWhere, Loaded};
 
@@ -18,9 +17,6 @@ use text::Reader;
 
 // The most rows that a listing may have.
 const MOST: usize = 2048;
-
-// The word of 0.
-const ZERO: u64 = 9223372036854775808;
 
 // The row's address, which must be k.
 fn address(reader: &mut Reader, k: usize) -> Option<()>
@@ -62,9 +58,9 @@ fn signed(t: &[u8]) -> Option<u64>
     match t {
         [b'-', digits @ ..] => match text::natural(digits, 2147483648)? {
             0 => None,
-            n => Some(ZERO - n),
+            n => Some(intmap::ZERO - n),
         },
-        _ => Some(ZERO + text::natural(t, 2147483647)?),
+        _ => Some(intmap::ZERO + text::natural(t, 2147483647)?),
     }
 }
 
@@ -134,8 +130,7 @@ fn read_row(reader: &mut Reader, k: usize) -> Option<rows::Row>
 
 // Lays row k down, where there is room for it.
 fn put_where(area: &mut [u8], from: usize, room: usize, k: usize, row: rows::Row)
-    requires room { Room area.old from room }
-    requires fits { Fits row }
+    requires { Room area.old from room }
     ensures { PutWhere area.old area.new from room k row }
 {
     if k < room {

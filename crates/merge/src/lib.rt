@@ -2,7 +2,7 @@
 // over `result_states`, a row at a time.
 #![tactic(auto)]
 
-ghost use Rattle.std.specs.Prelude.{◌≡◌, ◌+◌, ◌<◌, ◌≤◌, max, length};
+ghost use Rattle.std.specs.Prelude.{◌≡◌, ◌+◌, ◌<◌, ◌≤◌, max, length, replicate, take};
 ghost use Rattle.area.specs.Cells.{cells};
 ghost use Rattle.intmap.specs.Pack.{key_of};
 ghost use Rattle.intmap.specs.Runs.{AreColumns};
@@ -11,8 +11,12 @@ ghost use Rattle.intmap.specs.Map.{levels, IsMap};
 ghost use Rattle.merge.specs.Columns.{Merges};
 ghost use Rattle.merge.specs.Entries.{cell_byte, merge_byte, merge_cell, merge_runs};
 
+mod columns;
+
 use area::Cell;
+pub use columns::Columns;
 use intmap::IntMap;
+use state::Registers;
 
 // The byte of a register, by its run's first cell. A column is a byte, since memory for 2,000 is cleared at each call.
 #[tactic(auto, using(crate::proofs::ByteLaws::cell_single, crate::proofs::ByteLaws::cell_int, crate::proofs::ByteLaws::cell_record))]
@@ -65,21 +69,41 @@ fn merge_entries(columns: &mut [u8], area: &[u8], i: u64, n: u64, at: usize, lef
     }
 }
 
-// Merges the n registers from index i on, as a newer row, into the columns, of which there are `width` so far. An absent register says nothing,
-// so only the entries that there are take time.
-pub fn merge_row(
-    columns: &mut [u8],
-    width: usize,
-    map: IntMap,
-    area: &[u8],
-    i: u64,
-    n: u64,
-) -> usize
-    requires { IsMap (cells area.now) map × (i + n ≤ 65536) × (n ≤ length columns.old) }
-    ensures { Merges (cells area.now) map i n columns.old columns.new width result }
-{
-    let first = intmap::class_key(intmap::Class::Registers, 0) + i;
-    let found = map.find(area, first);
-    merge_entries(columns, area, first, n, found.at, found.left);
-    width.max(n as usize)
+impl<const N: usize> Columns<N> {
+    // Those of no row.
+    pub fn new() -> Columns<N>
+        ensures width { result.width ≡ 0 }
+        ensures bytes { result.bytes ≡ replicate N 0 }
+    {
+        Columns {
+            bytes: [0; N],
+            width: 0,
+        }
+    }
+
+    // A byte for each.
+    pub fn as_slice(&self) -> &[u8]
+        ensures bytes { result.now ≡ take self.now.width self.now.bytes }
+        ensures width { length result.now ≡ self.now.width }
+    {
+        &self.bytes[..self.width]
+    }
+
+    // Merges registers as a newer row. An absent register says nothing, so only the entries that there are take time.
+    pub fn merge_row(&mut self, map: IntMap, area: &[u8], row: Registers)
+        requires { IsMap (cells area.now) map × (row.count ≤ N) }
+        ensures { Merges (cells area.now) map row self.old self.new }
+    {
+        let first = intmap::class_key(intmap::Class::Registers, 0) + row.first;
+        let found = map.find(area, first);
+        merge_entries(
+            &mut self.bytes,
+            area,
+            first,
+            row.count,
+            found.at,
+            found.left,
+        );
+        self.width = self.width.max(row.count as usize);
+    }
 }

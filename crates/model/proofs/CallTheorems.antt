@@ -108,20 +108,20 @@ module _ (answer : List ℕ) where
 
 -- what stands behind a value
 tried_done : {A B : Type 0} (t : Tried A) (f : A → Tried B) {b : B} → (t >>= f) ≡ done b → (a : A) × (t ≡ done a) × (f a ≡ done b)
-tried_done (refused k) f e = let z : ◌≡◌ {A = ℕ} 0 1 = cc in absurd (omega arith)
+tried_done (refused k) f e = cc
 tried_done (done a) f e = (a, refl, e)
 
 test_done : {A : Type 0} (k : ℕ) (b : Bool) (a : A) {c : A} → done_if k b a ≡ done c → (b ≡ true) × (a ≡ c)
 test_done k true a e = (refl, cc)
-test_done k false a e = let z : ◌≡◌ {A = ℕ} 0 1 = cc in absurd (omega arith)
+test_done k false a e = cc
 
 read_done : {A : Type 0} (k : ℕ) (o : Option A) {c : A} → or_refused k o ≡ done c → o ≡ Some c
-read_done k None e = let z : ◌≡◌ {A = ℕ} 0 1 = cc in absurd (omega arith)
+read_done k None e = cc
 read_done k (Some a) e = cc
 
 walked-done : (w : Walked MemoryState ResultRow) {a : Answer} → outcome_of w ≡ done a → (n : Notes MemoryState ResultRow) × (w ≡ answered n) × (answer_of n ≡ a)
 unfolding outcome_of
-walked-done (refused_with k n) e = let z : ◌≡◌ {A = ℕ} 0 1 = cc in absurd (omega arith)
+walked-done (refused_with k n) e = cc
 walked-done (answered n) e = (n, refl, cc)
 
 -- the columns of a set of rows and of an equal one
@@ -191,11 +191,11 @@ picked_good limit w g zero s e = subst (OnSome (Good limit)) e g.stays
 picked_good limit w g (suc k) s e = nth w.branches k g.branches e
   where
     nth : (ms : List MemoryState) (k : ℕ) → Each (Good limit) ms → slice_get ms k ≡ Some s → Good limit s
-    nth [] k h e = let z : ◌≡◌ {A = ℕ} 0 1 = cc in absurd (omega arith)
+    nth [] k h e = cc
     nth (m ∷ ms) zero h e = subst (OnSome (Good limit)) e h.0
     nth (m ∷ ms) (suc k) h e = nth ms k h.1 e
 
-small_columns : (xs : List CatalogueRecord) → All ValidRecord xs → Each SmallColumn xs
+pub small_columns : (xs : List CatalogueRecord) → All ValidRecord xs → Each SmallColumn xs
 small_columns [] all_nil = tt
 small_columns (x ∷ xs) (all_cons h more) = (h.col_small, small_columns xs more)
 

@@ -14,6 +14,7 @@ use Rattle.std.proofs.lemmas.Option.{none-some, same_Some}
 use Rattle.model.proofs.Lists.{element_at}
 use Rattle.model.proofs.Reaching.{step_offered, Taken, step_taken, nowhere, further}
 use Rattle.model.proofs.Kept.{alive, Keeps, HandledRow, row_offers, came, at_answer}
+use Rattle.model.proofs.Tried.{done-same}
 
 -- the way that goes on is alive, and so is what waits
 alive-onward : {M : Type 0} (o : Option M) (past : List ℕ) (ls : List (Lineage M)) (t : M) → o ≡ Some t → t ∈ mems (alive (onward o past) ls)
@@ -36,9 +37,6 @@ counts_still (Some x) rs r h = inr h
 no_repeat : (b : Bool) (k : ℕ) → note_repeat b k ≡ 0 → (b ≡ false) × (k ≡ 0)
 no_repeat false k e = (refl, e)
 no_repeat true k e = absurd (omega arith)
-
-done-injective : {A : Type 0} {a b : A} → done a ≡ done b → a ≡ b
-done-injective e = cc
 
 module _ {M R : Type 0} (row_of : M → Option ℕ) (ways : Bool → M → Tried (Ways M R)) (fresh : M) where
   -- a state is accounted for
@@ -127,7 +125,7 @@ module _ {M R : Type 0} (row_of : M → Option ℕ) (ways : Bool → M → Tried
     all_counted : (r : R) → Result row_of ways fresh r → r ∈ rs
     all_counted r x =
         let c = v.closed x.state (all_handled x.state x.reach x.offering.row x.offering.at) in
-        c.result r (ap (λ (w : Ways M R). w.result) (done-injective (sym c.offering.is ∙ x.offering.is)) ∙ x.gives)
+        c.result r (ap (λ (w : Ways M R). w.result) (done-same (sym c.offering.is ∙ x.offering.is)) ∙ x.gives)
 
 module _
     {M R : Type 0}

@@ -14,13 +14,13 @@ use Rattle.model.specs.IntMap.{Entry, ◌⇒◌, get_if, get, insert_by, insert,
 use Rattle.model.specs.Good.{Each, OnSome}
 
 -- the three orders that `insert` tells apart
-compare_lt : (a b : ℕ) → compare a b ≡ Ordering.lt → a < b
+pub compare_lt : (a b : ℕ) → compare a b ≡ Ordering.lt → a < b
 compare_lt a b q = omega (arith, leb-true a b (ap is_le q), eqb-false a b (ap compare_is_eq q))
 
-compare_eq : (a b : ℕ) → compare a b ≡ Ordering.eq → a ≡ b
+pub compare_eq : (a b : ℕ) → compare a b ≡ Ordering.eq → a ≡ b
 compare_eq a b q = eqb-true a b (ap compare_is_eq q)
 
-compare_gt : (a b : ℕ) → compare a b ≡ Ordering.gt → b < a
+pub compare_gt : (a b : ℕ) → compare a b ≡ Ordering.gt → b < a
 compare_gt a b q = leb-false a b (ap is_le q)
 
 -- a key is found at itself, and not at another

@@ -1,14 +1,12 @@
 -- Laws of readers: how `Exactly` and `Takes` follow for a reader that is put together from others. Assumes nothing.
 use mathlib.Core.Path.{◌≡◌, refl, sym, ap, ◌∙◌, subst}
 use mathlib.Core.Logic.{◌↔◌}
-use mathlib.Core.Bool.{Bool, true, false, and-eq-true_iff, false≢true}
+use mathlib.Core.Bool.{Bool, true, false, false≢true}
 use Rattle.std.specs.Prelude.{Option, None, Some}
 use mathlib.Core.List.{List, [], ◌∷◌, ◌++◌, append_assoc, append-nil}
 use Prim.Native.Nat.{ℕ}
-use native.Mathlib.Omega.{arith}
-use lib.Dec.{eqb}
-use borrow.Author.Tests.{eqb-true}
 use Rattle.type_info.specs.Ascii.{equals}
+use Rattle.type_info.proofs.Words.{same_equals}
 use Rattle.model.specs.Reader.{◌then◌, only_if, ended, read_if, this_or, read_name, Reader, ◌>>=◌, given, give, whole}
 use Rattle.model.specs.TextClaims.{Exactly, Takes}
 use Rattle.model.proofs.TestLaws.{cases}
@@ -19,7 +17,7 @@ Any a = Unit
 
 -- what a result says of its parts
 pub never : {A P : Type 0} {a : A} → None ≡ Some a → P
-never e = let z : ◌≡◌ {A = ℕ} 0 1 = cc in absurd (omega arith)
+never e = cc
 
 pub some_same : {A : Type 0} {a b : A} → Some a ≡ Some b → a ≡ b
 some_same e = cc
@@ -57,24 +55,13 @@ module _ {A : Type 0} {read : List ℕ → Option A} {Valid : A → Type 0} {pri
       let here = only e (is ∙ same) in
       ((w v).0 (here.0, ap test (sym (some_same same)) ∙ passed), here.1))
 
-pub equals-same : (s t : List ℕ) → equals s t ≡ true → s ≡ t
-unfolding equals
-equals-same [] [] e = refl
-equals-same [] (b ∷ t) e = absurd (false≢true e)
-equals-same (a ∷ s) [] e = absurd (false≢true e)
-equals-same (a ∷ s) (b ∷ t) e =
-    let (first, rest) = (and-eq-true_iff (eqb a b) (equals s t)).0 e in
-    let p : a ≡ b = eqb-true a b first in
-    let q : s ≡ t = equals-same s t rest in
-    cc
-
 module _ {A : Type 0} (name : A → List ℕ) where
   name_only : (list : List A) (t : List ℕ) (v : A) → read_name name list t ≡ Some v → t ≡ name v
   unfolding read_name
   name_only [] t v e = never e
   name_only (a ∷ list) t v e =
       cases (equals (name a) t)
-      (λ y. sym (equals-same (name a) t y) ∙ ap name (some_same (ap (λ b. this_or b a (read_name name list t)) (sym y) ∙ e)))
+      (λ y. sym (same_equals (name a) t y) ∙ ap name (some_same (ap (λ b. this_or b a (read_name name list t)) (sym y) ∙ e)))
       (λ y. name_only list t v (ap (λ b. this_or b a (read_name name list t)) (sym y) ∙ e))
 
   -- a value by its name

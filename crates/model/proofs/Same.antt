@@ -7,6 +7,7 @@ use borrow.Author.Tests.{eqb-true, eq-eqb}
 use lib.Dec.{eqb}
 use lib.IntN.{ℤ, pos, negsuc}
 use lib.ListN.{get_or}
+use Rattle.std.specs.Cmp.Derive.{both_true}
 use Rattle.type_info.specs.declared.DataType.{DataType}
 use Rattle.type_info.specs.declared.DataType.TheVariants.{Null, Integer, Float, Text, Blob, Numeric, Bool as Boolean, Int4, Date, Time, Datetime}
 use Rattle.model.specs.IntMap.{Entry}
@@ -17,9 +18,6 @@ use Rattle.model.specs.Equality.{Decides, eq_datatype, eq_nullable, eq_int, eq_c
 split : (a b : Bool) → a && b ≡ true → (a ≡ true) × (b ≡ true)
 split true b e = (refl, e)
 split false b e = absurd (false≢true e)
-
-joined : {a b : Bool} → a ≡ true → b ≡ true → a && b ≡ true
-joined {a} {b} p q = ap (λ x. x && b) p ∙ q
 
 nat_decides : Decides eqb
 nat_decides = record { sound = eqb-true; reflexive = λ a. eq-eqb a a refl }
@@ -113,12 +111,12 @@ mutual
   unfolding eq_column
 
   column_reflexive : (a : ColumnType) → eq_column a a ≡ true
-  column_reflexive (Single a m) = joined (datatype_decides.reflexive a) (nullable_reflexive m)
+  column_reflexive (Single a m) = both_true (datatype_decides.reflexive a) (nullable_reflexive m)
   column_reflexive (Record x) = columns_reflexive x
 
   columns_reflexive : (a : Columns) → eq_columns a a ≡ true
   columns_reflexive end = refl
-  columns_reflexive (entry k c cs) = joined (nat_decides.reflexive k) (joined (column_reflexive c) (columns_reflexive cs))
+  columns_reflexive (entry k c cs) = both_true (nat_decides.reflexive k) (both_true (column_reflexive c) (columns_reflexive cs))
 
 register_sound : (a b : RegDataType) → eq_register a b ≡ true → a ≡ b
 unfolding eq_register
@@ -154,7 +152,7 @@ table-sound a b e =
 
 table_reflexive : (a : TableDataType) → eq_table a a ≡ true
 unfolding eq_table
-table_reflexive a = joined (columns_reflexive a.cols) (nullable_reflexive a.is_empty)
+table_reflexive a = both_true (columns_reflexive a.cols) (nullable_reflexive a.is_empty)
 
 module _ {A : Type 0} (eq : A → A → Bool) (d : Decides eq) where
   map_sound : (xs ys : List (Entry A)) → eq_map eq xs ys ≡ true → xs ≡ ys
@@ -173,7 +171,7 @@ module _ {A : Type 0} (eq : A → A → Bool) (d : Decides eq) where
   map_reflexive : (xs : List (Entry A)) → eq_map eq xs xs ≡ true
   unfolding eq_map
   map_reflexive [] = refl
-  map_reflexive (x ∷ xs) = joined (nat_decides.reflexive x.key) (joined (d.reflexive x.value) (map_reflexive xs))
+  map_reflexive (x ∷ xs) = both_true (nat_decides.reflexive x.key) (both_true (d.reflexive x.value) (map_reflexive xs))
 
   pub map_decides : Decides (eq_map eq)
   map_decides = record { sound = map_sound; reflexive = map_reflexive }
@@ -202,7 +200,7 @@ state_sound a b e =
 state_reflexive : (a : MemoryState) → eq_state a a ≡ true
 unfolding eq_state
 state_reflexive a =
-    joined (int_reflexive a.program_i) (joined (registers_decide.reflexive a.r) (joined (cursors_decide.reflexive a.p) (tables_decide.reflexive a.t)))
+    both_true (int_reflexive a.program_i) (both_true (registers_decide.reflexive a.r) (both_true (cursors_decide.reflexive a.p) (tables_decide.reflexive a.t)))
 
 pub state_decides : Decides eq_state
 state_decides = record { sound = state_sound; reflexive = state_reflexive }

@@ -16,11 +16,11 @@ use Rattle.model.proofs.InPlace.{NeverLarger}
 use Rattle.model.proofs.Tried.{kept}
 use Rattle.model.proofs.Access.{update_register_good, read_register_good}
 
-depth_passes : {A : Type 0} (d : ℕ) (v : A) → d ≤ 8 → judge_depth d v ≡ done v
+pub depth_passes : {A : Type 0} (d : ℕ) (v : A) → d ≤ 8 → judge_depth d v ≡ done v
 unfolding judge_depth
 depth_passes d v h = ap (λ t. depth_if t v) (le-leb d 8 h)
 
-cells_pass : (limit : ℕ) (m : MemoryState) → cells m ≤ limit → judge_cells limit m ≡ done m
+pub cells_pass : (limit : ℕ) (m : MemoryState) → cells m ≤ limit → judge_cells limit m ≡ done m
 unfolding judge_cells
 cells_pass limit m h = ap (λ t. cells_if t m) (le-leb (cells m) limit h)
 

@@ -1,8 +1,11 @@
--- A property of what is tried, unless it is refused; and how it passes through `>>=`. Assumes nothing.
+-- What is done twice alike is the same; a property of what is tried, unless it is refused, and how it passes through `>>=`. Assumes nothing.
 use mathlib.Core.Path.{◌≡◌, subst}
 use Prim.Native.Nat.{ℕ}
 use Rattle.model.specs.Walk.{Tried, refused, done}
 use Rattle.model.specs.Access.{◌>>=◌}
+
+pub done-same : {A : Type 0} {a b : A} → done a ≡ done b → a ≡ b
+done-same e = cc
 
 pub data Kept {A : Type 0} (P : A → Type 0) : Tried A → Type 0 where
   refusal : {k : ℕ} → Kept P (refused k)

@@ -9,8 +9,8 @@ use Rattle.std.specs.Prelude.{Some, Ok, Err}
 use mathlib.Core.List.{List, ◌∷◌}
 use Prim.Native.Nat.{ℕ, zero, suc, ◌+◌, ◌-◌, ◌<◌, ◌≤◌}
 use native.Mathlib.Omega.{arith}
-use lib.ListN.{length, get_or, set, replicate, length-replicate, length-set}
-use lib.Seq.{get_or-set_same, get_or-set_other}
+use lib.ListN.{length, get_or, set, replicate, length-replicate}
+use lib.Seq.{get_or-set_same}
 use borrow.Author.Tests.{le-leb, lt-leb}
 use Rattle.type_info.specs.declared.DataType.TheVariants.{Null}
 use Rattle.model.specs.Walk.{Tried, refused, done}
@@ -45,10 +45,10 @@ use Rattle.encoding.proofs.Standing.{table-whole}
 use Rattle.encoding.proofs.Held.{held_elsewhere}
 use Rattle.encoding.proofs.HeldAfter.{held_table}
 use Rattle.rows.specs.Judged.{Judged}
-use Rattle.rows.specs.declared.Row.{Row}
+use Rattle.rows.specs.declared.row.Row.{Row}
 use Rattle.state.specs.Leads.{Current, Tells, Leaves, Leads}
 use Rattle.state.specs.Arms.{Standard, CursorArm}
-use Rattle.state.proofs.LeadsLaws.{led_current, Reached, frame-within, frame_then, reached_first, reached_next, reached_stop, reached_last}
+use Rattle.state.proofs.LeadsLaws.{led_current, Reached, frame-within, frame_then, reached_first, reached_next, reached_stop, reached_last, frame-set}
 use Rattle.open_arms.specs.Tables.{TableAt, IsTable, OpensTable, empty_table, PutsTable}
 
 -- ---- a table from its run
@@ -57,10 +57,6 @@ use Rattle.open_arms.specs.Tables.{TableAt, IsTable, OpensTable, empty_table, Pu
 stored_at : (limit key depth : ℕ) (run : List Cell) (es : Runs) → depth ≤ 8 → judge_runs limit (put (rekey key run) es) ≡ store_at limit key depth run es
 unfolding store_at judge_depth
 stored_at limit key depth run es h = ap (λ b. depth_if b run >>= λ v. judge_runs limit (put (rekey key v) es)) (sym (le-leb depth 8 h))
-
--- a run stored under a key that is told otherwise
-pub stored_as : (cs ds : List Cell) (limit : ℕ) (a : IntMap) (key k from n : ℕ) (x : Stored) → key ≡ k → Inserts cs ds limit a (rekey key (span cs from n)) x → Inserts cs ds limit a (rekey k (span cs from n)) x
-stored_as cs ds limit a key k from n x e ins = subst (λ z. Inserts cs ds limit a (rekey z (span cs from n)) x) e ins
 
 module _ (limit : ℕ) (cs ds : List Cell) (a : IntMap) (row from n : ℕ) (small : row ≤ 65535) (x : Stored) (ins : Inserts cs ds limit a (rekey (class_key 2 row) (span cs from n)) x) where
   abbrev storing : TableDataType → MemoryState → Tried MemoryState
@@ -164,14 +160,6 @@ module _ (limit : ℕ) (cs es : List Cell) (a : IntMap) (n : ℕ) (current : Cur
 
 -- ---- an empty table's run
 
-pub frame-set : (cs ds : List Cell) (p : ℕ) (c : Cell) → ds ≡ set cs p c → Frame cs ds p 1
-frame-set cs ds p c e =
-    record {
-      long = ap length e ∙ length-set cs p c;
-      below = λ j lt. ap (λ l. get_or l j blank) e ∙ get_or-set_other cs p j c blank (omega arith);
-      above = λ j le. ap (λ l. get_or l j blank) e ∙ get_or-set_other cs p j c blank (omega arith);
-    }
-
 module _ (cs es ds : List Cell) (p n h : ℕ) (c : Cell) (fits : p + (1 + n) ≤ length cs) (he : h ≡ head 2 0 2 0) (ee : es ≡ set cs p (cell h n)) (ce : c ≡ single 0 2 0) (elem : FromElem es ds (p + 1) c n) where
   head_there : get_or ds p blank ≡ cell (head 2 0 2 0) n
   head_there = elem.frame.below p (omega arith) ∙ ap (λ l. get_or l p blank) ee ∙ get_or-set_same cs p (cell h n) blank (omega arith) ∙ ap (λ z. cell z n) he
@@ -220,11 +208,9 @@ module _ (limit : ℕ) (cs : List Cell) (a : IntMap) (row : ℕ) (x : Row) where
   pub arm_negative : x.p2 < offset → CursorArm limit cs cs a row x op_open_ephemeral (Err Negative)
   arm_negative h =
       record {
-        leads = λ meaning l s j. record {
-          says = λ bound m le y. arm_is meaning l s j m ∙ ap (λ t. counted t l m) (count_below x.p2 h);
-          leaves = tt;
-          frame = frame_same cs cs a.base (limit + limit) refl;
-        };
+        says = λ meaning l s j bound m le y. arm_is meaning l s j m ∙ ap (λ t. counted t l m) (count_below x.p2 h);
+        leaves = tt;
+        frame = frame_same cs cs a.base (limit + limit) refl;
       }
 
   module _ (h : offset ≤ x.p2) (n : ℕ) (ne : n ≡ x.p2 - offset) where
@@ -234,11 +220,9 @@ module _ (limit : ℕ) (cs : List Cell) (a : IntMap) (row : ℕ) (x : Row) where
     pub arm_many : limit ≤ n → CursorArm limit cs cs a row x op_open_ephemeral (Err TooManyCells)
     arm_many le =
         record {
-          leads = λ meaning l s j. record {
-            says = λ bound m b y. arm_opens meaning l s j m ∙ open_large limit row l (empty_table n) m (omega (arith, empty_depth n)) (omega (arith, empty-cells n));
-            leaves = tt;
-            frame = frame_same cs cs a.base (limit + limit) refl;
-          };
+          says = λ meaning l s j bound m b y. arm_opens meaning l s j m ∙ open_large limit row l (empty_table n) m (omega (arith, empty_depth n)) (omega (arith, empty-cells n));
+          leaves = tt;
+          frame = frame_same cs cs a.base (limit + limit) refl;
         }
 
     module _ (es : List Cell) (puts : PutsTable cs es (a.base + limit) n) (current : Current limit cs a) (lt : n < limit) (few : limit ≤ 65536) where
@@ -262,13 +246,11 @@ module _ (limit : ℕ) (cs : List Cell) (a : IntMap) (row : ℕ) (x : Row) where
       pub arm_opened : (ds : List Cell) (r : Stored) → OpensTable limit es ds a row x.p1 (a.base + limit) (1 + n) r → CursorArm limit cs ds a row x op_open_ephemeral r
       arm_opened ds r o =
           record {
-            leads = λ meaning l s j. record {
-              says = λ bound m le y.
-                  subst (Tells limit bound ds r) (sym (arm_opens meaning l s j m))
-                  (o.says l (sym j.p1) (empty_table n) its_table bound m le (held_elsewhere limit bound cs a.base a.len a.used m y es a.base (behind_same limit cs es a (1 + n) current puts.frame)));
-              leaves = o.leaves;
-              frame =
-                  frame_then cs es ds a.base (limit + limit) (frame-within cs es (a.base + limit) (1 + n) a.base (limit + limit) (omega arith) (omega arith) puts.frame)
-                  o.frame;
-            };
+            says = λ meaning l s j bound m le y.
+                subst (Tells limit bound ds r) (sym (arm_opens meaning l s j m))
+                (o.says l (sym j.p1) (empty_table n) its_table bound m le (held_elsewhere limit bound cs a.base a.len a.used m y es a.base (behind_same limit cs es a (1 + n) current puts.frame)));
+            leaves = o.leaves;
+            frame =
+                frame_then cs es ds a.base (limit + limit) (frame-within cs es (a.base + limit) (1 + n) a.base (limit + limit) (omega arith) (omega arith) puts.frame)
+                o.frame;
           }

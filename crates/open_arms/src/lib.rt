@@ -9,7 +9,6 @@ ghost use Rattle.intmap.specs.Pack.{class_key};
 ghost use Rattle.intmap.specs.Entries.{span};
 ghost use Rattle.intmap.specs.Change.{rekey};
 ghost use Rattle.intmap.specs.Store.{Inserts, RunAbove};
-ghost use Rattle.rows.specs.Judged.{IsRow};
 ghost use Rattle.state.specs.Leads.{Current};
 ghost use Rattle.state.specs.Arms.{CursorArm};
 ghost use Rattle.open_arms.specs.Tables.{IsTable, OpensTable, PutsTable};
@@ -62,7 +61,7 @@ fn put_table(area: &mut [u8], p: usize, n: usize)
     requires { Inside area.old p (1 + n) }
     ensures { PutsTable (cells area.old) (cells area.new) p n }
 {
-    let head = intmap::pack(intmap::RECORD, 0, cursor_arms::nullable_code(Some(true)), 0);
+    let head = intmap::pack(intmap::RECORD, 0, state::nullable_code(Some(true)), 0);
     area::put_cell(
         area,
         p,
@@ -71,7 +70,7 @@ fn put_table(area: &mut [u8], p: usize, n: usize)
             payload: n as u64,
         },
     );
-    let c = state::single(DataType::Null, state::NULLABLE);
+    let c = state::single(DataType::Null, Some(true));
     intmap::from_elem(area, p + 1, c, n);
 }
 
@@ -83,7 +82,7 @@ pub fn open_ephemeral(
     x: Row,
     limit: usize,
 ) -> Result<IntMap, Refusal>
-    requires { Current limit (cells area.old) map × (row ≤ 65535) × (limit ≤ 65536) × IsRow x }
+    requires { Current limit (cells area.old) map × (row ≤ 65535) × (limit ≤ 65536) }
     ensures { CursorArm limit (cells area.old) (cells area.new) map row x op_open_ephemeral result }
 {
     if x.p2 < intmap::ZERO {

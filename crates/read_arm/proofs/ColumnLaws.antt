@@ -1,5 +1,4 @@
 -- A record in a cell of the blocks: when it is one for a row, and its column among the columns gathered so far. Assumes nothing.
-use Rattle.encoding.proofs.Accesses.{apart}
 use Rattle.refusal.specs.declared.Refusal.TheVariants.{IllFormedListing, IllFormedCatalogue, TooManyLines, AreaSize, AnswerTooLong, Negative, IndexTooLarge, TooManyCells, TooDeep, NotUtf8, NoSpace, TooWide, NotDeclared}
 use Rattle.refusal.specs.Numbers.{number_of}
 use Rattle.refusal.specs.declared.Refusal.{Refusal}
@@ -33,7 +32,7 @@ use Rattle.intmap.proofs.SignedLaws.{int_above, int_same}
 use Rattle.encoding.specs.Encode.{nullable_code, single, run_column, column_runs}
 use Rattle.encoding.proofs.Packing.{column_key}
 use Rattle.encoding.proofs.MapRuns.{runs_by, insert_by_lem}
-use Rattle.rows.specs.declared.Row.{Row}
+use Rattle.rows.specs.declared.row.Row.{Row}
 use Rattle.root_block.specs.Blocks.{column_of, IsBlock}
 use Rattle.read_arm.specs.Gathers.{block_for}
 
@@ -99,7 +98,7 @@ pub judged-full : (limit : ℕ) (rs : Runs) (e : Refusal) → refused (number_of
 judged-full limit rs e = by (leb (total rs) limit) refl
   where
     by : (b : Bool) → leb (total rs) limit ≡ b → refused (number_of e) ≡ pick b (done rs) (refused 8) → (e ≡ TooManyCells) × (limit < total rs)
-    by true q h = absurd (apart (number_of e) rs h)
+    by true q h = cc
     by false q h = (too_many e (ap refusal h), leb-false (total rs) limit q)
 
 -- of any columns that the map holds, it then holds those with the column of the record in a cell, if the record is one for the row; they may be
@@ -123,7 +122,7 @@ module _ (limit : ℕ) (cs : List Cell) (m : IntMap) (c : Cell) (x : Row) where
             ∙ ap (judge_runs limit) e
             ∙ ap (λ b. judge_runs limit (column_runs (as_columns (add_if b r es)))) (sym (its_for r is ∙ f));
         leaves = record { base = refl; room = room };
-        only = λ e h. absurd (apart (number_of e) (runs_at cs m) (sym (ap (stored_of cs) h)));
+        only = λ e h. cc;
         frame = frame_same cs cs m.base limit refl;
       }
 

@@ -35,10 +35,9 @@ use Rattle.intmap.proofs.StoreLaws.{room_map, behind_new, frame_same}
 use Rattle.intmap.proofs.SwapLaws.{Under, under_more, under-swap}
 use Rattle.intmap.proofs.Swapped.{seek_under}
 use Rattle.intmap.proofs.SignedLaws.{int_below, int_above}
-use Rattle.encoding.proofs.Accesses.{apart}
 use Rattle.encoding.specs.Encode.{column_runs}
 use Rattle.encoding.proofs.Lengths.{length-flatten, columns_length}
-use Rattle.rows.specs.declared.Row.{Row}
+use Rattle.rows.specs.declared.row.Row.{Row}
 use Rattle.state.proofs.LeadsLaws.{frame_then}
 use Rattle.root_block.specs.Blocks.{next_of, column_of, first_of, IsBlock, in_bucket, Chain, HasBlocks, IsBlocks}
 use Rattle.read_arm.specs.Gathers.{block_for, at_page, at_database, Gathers, GathersTo}
@@ -51,7 +50,7 @@ judged-done limit old rs = by (leb (total rs) limit)
   where
     by : (b : Bool) → done old ≡ pick b (done rs) (refused 8) → old ≡ rs
     by true e = cc
-    by false e = absurd (apart 8 old (sym e))
+    by false e = cc
 
 -- a cell that is stored leaves the keys below any bound that is above its own
 inserted_under : (cs ds : List Cell) (limit : ℕ) (m : IntMap) (c : Cell) (r : IntMap) (high : ℕ) → Inserts cs ds limit m (c ∷ []) (Ok r) → key_of c < high → Under high (runs_at cs m) → Under high (runs_at ds r)

@@ -4,24 +4,23 @@ use Rattle.refusal.specs.declared.Refusal.{Refusal}
 use mathlib.Core.Path.{◌≡◌, refl, sym, ap, ap₂, subst, ◌∙◌}
 use mathlib.Core.Bool.{Bool, true, false, ◌||◌}
 use Rattle.std.specs.Prelude.{None, Ok, Err}
-use mathlib.Core.List.{List, [], ◌∷◌}
+use mathlib.Core.List.{List, ◌∷◌}
 use Prim.Native.Nat.{ℕ, suc, ◌+◌, ◌-◌, ◌<◌, ◌≤◌}
 use native.Mathlib.Omega.{arith}
 use lib.IntN.{ℤ, pos}
 use lib.ListN.{length, get_or, set}
 use lib.Seq.{get_or-set_same}
-use Rattle.type_info.specs.All.{All, all_nil, all_cons}
 use Rattle.model.specs.Row.{Row as Listed}
 use Rattle.model.specs.State.{Columns, end, TableDataType, MemoryState}
 use Rattle.model.specs.Equality.{eq_int, is_zero_int}
 use Rattle.model.specs.Cells.{columns_depth, table_cells}
 use Rattle.model.specs.Catalogue.{CatalogueRecord, columns_at}
-use Rattle.model.specs.CatalogueText.{ValidRecord}
 use Rattle.model.specs.CursorArms.{columns_if, opened_columns, open_table, cursor_arm}
 use Rattle.model.specs.Operation.{op_open_read}
-use Rattle.model.specs.Good.{Each, SortedColumns}
+use Rattle.model.specs.Good.{SortedColumns}
 use Rattle.model.specs.Meaning.{Meaning}
-use Rattle.model.proofs.Catalogue.{SmallColumn, columns_at_flat, columns_at_sorted}
+use Rattle.model.proofs.Catalogue.{columns_at_flat, columns_at_sorted}
+use Rattle.model.proofs.CallTheorems.{small_columns}
 use Rattle.area.specs.Cells.{cell, blank}
 use Rattle.area.specs.declared.Cell.{Cell}
 use Rattle.intmap.specs.Pack.{head}
@@ -37,19 +36,15 @@ use Rattle.encoding.proofs.Lengths.{length-flatten, count_runs}
 use Rattle.encoding.proofs.Standing.{stand_entries, table-whole}
 use Rattle.encoding.proofs.Held.{held_elsewhere}
 use Rattle.rows.specs.Judged.{Judged}
-use Rattle.rows.specs.declared.Row.{Row}
+use Rattle.rows.specs.declared.row.Row.{Row}
 use Rattle.state.specs.Leads.{Current, Tells}
 use Rattle.state.specs.Arms.{Standard}
-use Rattle.state.proofs.LeadsLaws.{frame-within, frame_then}
+use Rattle.state.proofs.LeadsLaws.{frame-within, frame_then, frame-set}
 use Rattle.open_arms.specs.Tables.{TableAt, IsTable, OpensTable}
-use Rattle.open_arms.proofs.OpenLaws.{open_large, frame-set, behind_same, behind_current}
+use Rattle.open_arms.proofs.OpenLaws.{open_large, behind_same, behind_current}
 use Rattle.root_block.specs.Blocks.{HasBlocks, IsBlocks}
 use Rattle.read_arm.specs.Gathers.{at_page, at_database, Gathered, Gathers, ReadsTable}
 use Rattle.read_arm.proofs.GatherLaws.{is_database}
-
-small_columns : (xs : List CatalogueRecord) → All ValidRecord xs → Each SmallColumn xs
-small_columns [] all_nil = tt
-small_columns (x ∷ xs) (all_cons h more) = (h.col_small, small_columns xs more)
 
 -- a table of which it is not known whether it is empty
 abbrev table : Columns → TableDataType
@@ -82,11 +77,9 @@ module _ (limit : ℕ) (cs : List Cell) (a : IntMap) (t : List ℕ) (x : Row) wh
   stops : (row : ℕ) (ds : List Cell) → Frame cs ds a.base (limit + limit) → ((records : List CatalogueRecord) → HasBlocks t records → limit < table_cells (table (at_database x records))) → ReadsTable limit cs ds a t row x (Err TooManyCells)
   stops row ds f large =
       record {
-        leads = λ meaning records l s read columns j. record {
-          says = λ bound m le h. arm_is limit x row meaning records l s columns j m ∙ open_large limit row l (table (at_database x records)) m (database_flat t x records) (large records read);
-          leaves = tt;
-          frame = f;
-        };
+        says = λ meaning records l s read columns j bound m le h. arm_is limit x row meaning records l s columns j m ∙ open_large limit row l (table (at_database x records)) m (database_flat t x records) (large records read);
+        leaves = tt;
+        frame = f;
       }
 
   pub arm_none : (row : ℕ) → limit ≡ 0 → ReadsTable limit cs cs a t row x (Err TooManyCells)
@@ -107,9 +100,6 @@ module _ (limit : ℕ) (cs : List Cell) (a : IntMap) (t : List ℕ) (x : Row) wh
     module _ (m : IntMap) (e : y ≡ Ok m) where
       got : Gathered (limit - 1) ds (a.base + limit + 1) t (at_database x) m
       got = (subst (Gathers (limit - 1) cs ds (a.base + limit + 1) t (at_database x)) e g).answer
-
-      pub read_few : m.used < limit
-      read_few = omega (arith, got.room.most)
 
       module _ (h : ℕ) (he : h ≡ head 2 0 0 0) (es : List Cell) (ee : es ≡ set ds (a.base + limit) (cell h m.len)) (current : Current limit cs a) where
         headed : Frame ds es (a.base + limit) 1
@@ -166,12 +156,10 @@ module _ (limit : ℕ) (cs : List Cell) (a : IntMap) (t : List ℕ) (x : Row) wh
         pub arm_opened : (row : ℕ) (fs : List Cell) (r : Stored) → OpensTable limit es fs a row x.p1 (a.base + limit) (1 + m.used) r → ReadsTable limit cs fs a t row x r
         arm_opened row fs r o =
             record {
-              leads = λ meaning records l s read columns j. record {
-                says = λ bound n le held.
-                    subst (Tells limit bound fs r) (sym (arm_is limit x row meaning records l s columns j n))
-                    (o.says l (sym j.p1) (table (at_database x records)) (its_table records read) bound n le
-                    (held_elsewhere limit bound cs a.base a.len a.used n held es a.base (behind_same limit cs es a limit current written)));
-                leaves = o.leaves;
-                frame = frame_then cs es fs a.base (limit + limit) (frame-within cs es (a.base + limit) limit a.base (limit + limit) (omega arith) (omega arith) written) o.frame;
-              };
+              says = λ meaning records l s read columns j bound n le held.
+                  subst (Tells limit bound fs r) (sym (arm_is limit x row meaning records l s columns j n))
+                  (o.says l (sym j.p1) (table (at_database x records)) (its_table records read) bound n le
+                  (held_elsewhere limit bound cs a.base a.len a.used n held es a.base (behind_same limit cs es a limit current written)));
+              leaves = o.leaves;
+              frame = frame_then cs es fs a.base (limit + limit) (frame-within cs es (a.base + limit) limit a.base (limit + limit) (omega arith) (omega arith) written) o.frame;
             }

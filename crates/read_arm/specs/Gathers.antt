@@ -2,9 +2,9 @@
 -- of their numbers, and the arm. P3 is the database and P2 the page. The records are in the blocks' bytes. Assumes nothing.
 use Rattle.refusal.specs.declared.Refusal.TheVariants.{TooManyCells}
 use Rattle.intmap.specs.Store.{Stored}
-use Rattle.std.specs.Prelude.{◌≡◌, Bool, ◌&&◌, ◌||◌, List, ℕ, ◌<◌, ℤ, pos, Ok, Err}
+use Rattle.std.specs.Prelude.{◌≡◌, Bool, ◌&&◌, ◌||◌, List, ℕ, ◌+◌, ◌<◌, ◌≤◌, ℤ, pos, Ok, Err}
 use Rattle.model.specs.Row.{Row as Listed}
-use Rattle.model.specs.State.{Columns}
+use Rattle.model.specs.State.{Columns, MemoryState}
 use Rattle.model.specs.Equality.{eq_int, is_zero_int}
 use Rattle.model.specs.Cells.{columns_cells}
 use Rattle.model.specs.Catalogue.{CatalogueRecord, columns_at}
@@ -17,8 +17,8 @@ use Rattle.intmap.specs.Signed.{int_of}
 use Rattle.intmap.specs.declared.IntMap.{IntMap}
 use Rattle.encoding.specs.Encode.{column_runs}
 use Rattle.rows.specs.Judged.{Judged}
-use Rattle.rows.specs.declared.Row.{Row}
-use Rattle.state.specs.Leads.{Leads}
+use Rattle.rows.specs.declared.row.Row.{Row}
+use Rattle.state.specs.Leads.{HoldsMap, operands, Tells, Leaves}
 use Rattle.state.specs.Arms.{Standard}
 use Rattle.root_block.specs.Blocks.{page_of, db_of, HasBlocks}
 
@@ -50,4 +50,6 @@ pub record Gathers (limit : ℕ) (cs ds : List Cell) (base : ℕ) (t : List ℕ)
 
 -- for every meaning whose columns are those of the records, the answer is what the definition's arm gives
 pub record ReadsTable (limit : ℕ) (cs ds : List Cell) (a : IntMap) (t : List ℕ) (row : ℕ) (x : Row) (r : Stored) : Type 0 where
-  pub leads : (meaning : Meaning) (records : List CatalogueRecord) (l : Listed) → Standard limit meaning → HasBlocks t records → ((db page : ℤ) → meaning.columns_for db page ≡ columns_at records db page) → Judged l x → Leads limit cs ds a r (λ m. cursor_arm meaning row l m op_open_read)
+  pub says : (meaning : Meaning) (records : List CatalogueRecord) (l : Listed) → Standard limit meaning → HasBlocks t records → ((db page : ℤ) → meaning.columns_for db page ≡ columns_at records db page) → Judged l x → (bound : ℕ) (m : MemoryState) → operands ≤ bound → HoldsMap limit bound cs a m → Tells limit bound ds r (cursor_arm meaning row l m op_open_read)
+  pub leaves : Leaves limit ds a r
+  pub frame : Frame cs ds a.base (limit + limit)

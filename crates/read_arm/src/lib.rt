@@ -7,7 +7,6 @@ ghost use Rattle.std.specs.Prelude.{◌≡◌, ◌&&◌, ◌+◌, ◌≤◌, pos
 ghost use Rattle.model.specs.Equality.{eq_int};
 ghost use Rattle.area.specs.Cells.{cells};
 ghost use Rattle.intmap.specs.Signed.{int_of};
-ghost use Rattle.rows.specs.Judged.{IsRow};
 ghost use Rattle.state.specs.Leads.{Current};
 ghost use Rattle.root_block.specs.Blocks.{IsBlocks};
 ghost use Rattle.read_arm.specs.Gathers.{block_for, at_page, at_database, Gathers, ReadsTable};
@@ -105,7 +104,7 @@ pub fn open_read(
     x: Row,
     limit: usize,
 ) -> Result<IntMap, Refusal>
-    requires { Current limit (cells area.old) map × (row ≤ 65535) × (limit ≤ 65535) × IsRow x × IsBlocks blocks.now }
+    requires { Current limit (cells area.old) map × (row ≤ 65535) × (limit ≤ 65535) × IsBlocks blocks.now }
     ensures { ReadsTable limit (cells area.old) (cells area.new) map blocks.now row x result }
 {
     if limit == 0 {
@@ -113,7 +112,7 @@ pub fn open_read(
     }
     let from = map.base + limit;
     let m = opened_columns(area, blocks, from + 1, x, limit - 1)?;
-    let head = intmap::pack(intmap::RECORD, 0, cursor_arms::nullable_code(None), 0);
+    let head = intmap::pack(intmap::RECORD, 0, state::nullable_code(None), 0);
     let payload = m.len;
     area::put_cell(area, from, Cell { head, payload });
     open_arms::open_table(map, area, row, x.p1, from, 1 + m.used, limit)

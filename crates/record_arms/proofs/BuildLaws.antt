@@ -1,6 +1,6 @@
 -- The record's run is built column after column: that of a register, absent or present, stands behind those that stand already; then its head.
 -- Assumes nothing.
-use Rattle.state.proofs.LeadsLaws.{frame-within, frame_then}
+use Rattle.state.proofs.LeadsLaws.{frame-within, frame_then, frame-set, unchanged}
 use mathlib.Core.Path.{◌≡◌, refl, sym, ap, ap₂, subst, ◌∙◌}
 use mathlib.Core.Bool.{Bool, true, false}
 use Rattle.std.specs.Prelude.{Some, None, Option}
@@ -8,7 +8,7 @@ use mathlib.Core.List.{List, [], ◌∷◌, flatten}
 use Prim.Native.Nat.{ℕ, zero, suc, ◌+◌, ◌-◌, ◌<◌, ◌≤◌}
 use native.Mathlib.Omega.{arith}
 use lib.Dec.{eqb}
-use lib.ListN.{length, get_or, set, length-set}
+use lib.ListN.{length, get_or, set}
 use lib.Seq.{get_or-set_same, get_or-set_other}
 use borrow.Author.Tests.{eqb-true}
 use Rattle.area.specs.Cells.{cell, blank}
@@ -39,19 +39,6 @@ use Rattle.state.specs.Leads.{Current}
 use Rattle.record_arms.specs.Records.{runs_from, Flat, Puttable, Ahead, PutOr, PutsColumn, Laid, LaidOr, PutsColumns, BuildsRecord}
 use Rattle.record_arms.specs.declared.Progress.{Progress}
 use Rattle.record_arms.proofs.SearchLaws.{seek_left, ahead_there, ahead_behind}
-
--- ---- frames
-
-pub frame-none : (cs : List Cell) (base n : ℕ) → Frame cs cs base n
-frame-none cs base n = record { long = refl; below = λ j lt. refl; above = λ j le. refl }
-
-pub frame-set : (cs ds : List Cell) (p : ℕ) (c : Cell) → ds ≡ set cs p c → Frame cs ds p 1
-frame-set cs ds p c e =
-    record {
-      long = ap length e ∙ length-set cs p c;
-      below = λ j lt. ap (λ l. get_or l j blank) e ∙ get_or-set_other cs p j c blank (omega arith);
-      above = λ j le. ap (λ l. get_or l j blank) e ∙ get_or-set_other cs p j c blank (omega arith);
-    }
 
 -- ---- a head changed
 
@@ -106,7 +93,7 @@ module _ (cs : List Cell) (at left k key to end : ℕ) (ok : Puttable cs at left
     its_one = ap column_run (seek_none cs levels (class_key 0 k) left at (present_is false e))
 
     pub absent_full : end ≤ to → PutsColumn cs cs at left k key to end None
-    absent_full h = record { answer = omega (arith, ap length its_one); frame = frame-none cs to (end - to) }
+    absent_full h = record { answer = omega (arith, ap length its_one); frame = unchanged cs to (end - to) }
 
     module _ (ds : List Cell) (c x : Cell) (ce : c ≡ single 0 0 0) (xe : x ≡ with_key key c) (de : ds ≡ set cs to x) (lt : to < end) where
       default_here : get_or ds to blank ≡ with_key key (single 0 0 0)
@@ -162,7 +149,7 @@ module _ (cs : List Cell) (at left k key to end : ℕ) (ok : Puttable cs at left
       present_full h =
           record {
             answer = omega (arith, ap length its_run, column_long (span cs w.at n), length-span cs w.at n);
-            frame = frame-none cs to (end - to);
+            frame = unchanged cs to (end - to);
           }
 
       module _ (fits : to + n ≤ end) (es ds : List Cell) (c y x : Cell) (ce : c ≡ get_or cs w.at blank) (ye : y ≡ as_column c) (xe : x ≡ with_key key y) (ee : es ≡ moved cs w.at to n) (de : ds ≡ set es to x) where
@@ -266,7 +253,7 @@ going_first cs base len first low end below le =
       laid = record { within = le; ends = omega arith; runs = refl };
       below = below;
       same = λ j h. refl;
-      frame = frame-none cs low (end - low);
+      frame = unchanged cs low (end - low);
     }
 
 -- where the loop is

@@ -16,6 +16,7 @@ use Rattle.model.specs.State.{RegDataType, Column, Int, MemoryState, map_to_colu
 use Rattle.model.specs.Cells.{column_depth, columns_depth, register_depth}
 use Rattle.model.specs.Access.{register_column}
 use Rattle.model.specs.Good.{GoodRegister, Each}
+use Rattle.model.proofs.Tried.{done-same}
 use Rattle.area.specs.Cells.{blank}
 use Rattle.area.specs.declared.Cell.{Cell}
 use Rattle.intmap.specs.Pack.{tag_of, key_of, class_key}
@@ -36,6 +37,7 @@ use Rattle.encoding.specs.Holds.{Stands}
 use Rattle.encoding.proofs.Packing.{register_key, cursor-key, table-key}
 use Rattle.encoding.proofs.Nesting.{register_nesting}
 use Rattle.encoding.proofs.HeldRead.{told_register_at}
+use Rattle.encoding.proofs.Standing.{each_append}
 use Rattle.state.specs.Leads.{HoldsMap}
 use Rattle.record_arms.specs.Records.{columns_from, deep_at, any_deep, Flat}
 
@@ -234,9 +236,6 @@ module _ (m : MemoryState) where
 
 -- ---- held cells
 
-pub done-same : {A : Type 0} {a b : A} → done a ≡ done b → a ≡ b
-done-same e = cc
-
 -- runs whose keys are not below `high` have nothing deep
 none_deep : (cs : List Cell) (low high n at : ℕ) (rs : Runs) → Each (λ r. high ≤ key_run r) rs → entries cs levels n at ≡ rs → any_deep cs low high n at ≡ false
 unfolding entries
@@ -252,10 +251,6 @@ each_map : {A : Type 0} (run : ℕ → A → List Cell) → ((key : ℕ) (v : A)
 unfolding run_map
 each_map run keyed class high h [] = tt
 each_map run keyed class high h (e ∷ es) = (omega (arith, keyed (class_key class e.key) e.value), each_map run keyed class high h es)
-
-each-join : {A : Type 0} (P : A → Type 0) (a b : List A) → Each P a → Each P b → Each P (a ++ b)
-each-join P [] b f g = g
-each-join P (x ∷ a) b f g = (f.0, each-join P a b f.1 g)
 
 -- a register of those that is deep
 record DeepIn (first end low : ℕ) (es : List (Entry RegDataType)) : Type 0 where
@@ -310,7 +305,7 @@ module _ (cs : List Cell) (first end : ℕ) (rest : Runs) (others : Each (λ r. 
 module _ (limit bound : ℕ) (cs : List Cell) (a : IntMap) (m : MemoryState) (holds : HoldsMap limit bound cs a m) (first n : ℕ) (within : first + n ≤ 65536) where
   pub held_deep : any_deep cs (class_key 0 first) (class_key 0 (first + n)) a.len a.base ≡ true → 7 < columns_depth (from_dense_record (columns_from n first m))
   held_deep d =
-      let others = each-join (λ r. class_key 0 (first + n) ≤ key_run r) (run_map run_cursor 1 m.p) (run_map run_table 2 m.t) (each_map run_cursor cursor-key 1 (class_key 0 (first + n)) (omega arith) m.p) (each_map run_table table-key 2 (class_key 0 (first + n)) (omega arith) m.t) in
+      let others = each_append (λ r. class_key 0 (first + n) ≤ key_run r) (run_map run_cursor 1 m.p) (run_map run_table 2 m.t) (each_map run_cursor cursor-key 1 (class_key 0 (first + n)) (omega arith) m.p) (each_map run_table table-key 2 (class_key 0 (first + n)) (omega arith) m.t) in
       let w = deep_register cs (class_key 0 first) (class_key 0 (first + n)) (run_map run_cursor 1 m.p ++ run_map run_table 2 m.t) others m.r 0 holds.good.registers a.len a.base (unfold runs_of in holds.runs) d in
       some_deep m n first 0 7 w.key (omega (arith, w.above)) (omega (arith, w.below)) (subst (λ o. 7 < column_depth (register_column o)) (sym w.found) (omega (arith, w.deep, column_depth_lem w.value)))
 

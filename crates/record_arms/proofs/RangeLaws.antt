@@ -1,5 +1,5 @@
 -- Which reads of registers one after the other are refused, and what is read otherwise. From the definition alone. Assumes nothing.
-use Rattle.record_arms.specs.declared.registers.Registers.{Registers}
+use Rattle.state.specs.declared.registers.Registers.{Registers}
 use Rattle.refusal.specs.declared.Refusal.TheVariants.{IndexTooLarge}
 use Rattle.refusal.specs.Numbers.{number_of}
 use Rattle.refusal.specs.declared.Refusal.{Refusal}

@@ -1,7 +1,8 @@
 -- MakeRecord: what the code refuses the definition refuses, in its order, and a record that is built and stored is the definition's.
 -- Assumes nothing.
-use Rattle.record_arms.specs.declared.registers.Registers.{Registers}
-use Rattle.state.proofs.LeadsLaws.{frame-within, frame_then}
+use Rattle.state.specs.declared.registers.Registers.{Registers}
+use Rattle.state.proofs.ArmLaws.{register_arm_as}
+use Rattle.state.proofs.LeadsLaws.{frame-within, frame_then, unchanged, tells_stored, leaves_stored}
 use Rattle.refusal.specs.declared.Refusal.TheVariants.{TooManyCells, TooDeep, Negative}
 use Rattle.refusal.specs.Numbers.{number_of}
 use Rattle.refusal.specs.declared.Refusal.{Refusal}
@@ -24,7 +25,7 @@ use Rattle.model.specs.Good.{SortedColumn}
 use Rattle.model.specs.Meaning.{Meaning}
 use Rattle.model.specs.Operation.{op_make_record}
 use Rattle.model.specs.RegisterArms.{register_arm}
-use Rattle.model.proofs.Tried.{kept}
+use Rattle.model.proofs.Tried.{kept, done-same}
 use Rattle.model.proofs.IntMap.{total_insert}
 use Rattle.model.proofs.Access.{read_columns_good}
 use Rattle.model.proofs.Sorted.{sorted_dense, dense_cells}
@@ -39,7 +40,7 @@ use Rattle.intmap.specs.Map.{levels, runs_at, Frame, HasRoom}
 use Rattle.intmap.specs.Change.{rekeyed}
 use Rattle.intmap.specs.Get.{read_runs, index_of, Judges, Index}
 use Rattle.intmap.specs.Signed.{offset, int_of}
-use Rattle.intmap.specs.Store.{stored_of, Stores, Stored}
+use Rattle.intmap.specs.Store.{Stores, Stored}
 use Rattle.intmap.specs.declared.IntMap.{IntMap}
 use Rattle.intmap.proofs.EntryLaws.{length-span}
 use Rattle.intmap.proofs.MapLaws.{placed_room}
@@ -55,14 +56,12 @@ use Rattle.encoding.proofs.Held.{held_elsewhere}
 use Rattle.encoding.proofs.HeldAfter.{Carried}
 use Rattle.encoding.proofs.HeldFrom.{held_register_from}
 use Rattle.rows.specs.Judged.{Judged}
-use Rattle.rows.specs.declared.Row.{Row}
-use Rattle.state.specs.Leads.{Current, HoldsMap, Tells, Leaves, Leads}
+use Rattle.rows.specs.declared.row.Row.{Row}
+use Rattle.state.specs.Leads.{Current, HoldsMap, Leads}
 use Rattle.state.specs.Arms.{Standard, RegisterArm}
-use Rattle.state.proofs.StoreLeads.{leads_as}
 use Rattle.record_arms.specs.Records.{columns_from, runs_from, any_deep, JudgesRange, BuildsRecord, record_from}
 use Rattle.record_arms.proofs.RangeLaws.{columns-read}
-use Rattle.record_arms.proofs.DeepLaws.{held_deep, held_flat, done-same}
-use Rattle.record_arms.proofs.BuildLaws.{frame-none}
+use Rattle.record_arms.proofs.DeepLaws.{held_deep, held_flat}
 
 -- ---- the definition's store, refused
 
@@ -150,7 +149,7 @@ module _ (limit : ℕ) (cs : List Cell) (a : IntMap) (first n i : ℕ) (within :
 
   pub record_index : (x : Index) → Judges i x → (k : Refusal) → x ≡ Err k → Leads limit cs cs a (Err k) (record_from limit n first (int_of i))
   unfolding record_from
-  record_index x judges k xe = stops cs k (frame-none cs a.base (limit + limit)) (λ bound m h. store_index limit (int_of i) _ m (number_of k) (sym judges.answer ∙ ap index_of xe))
+  record_index x judges k xe = stops cs k (unchanged cs a.base (limit + limit)) (λ bound m h. store_index limit (int_of i) _ m (number_of k) (sym judges.answer ∙ ap index_of xe))
 
   module _ (x : Index) (judges : Judges i x) (k : ℕ) (xe : x ≡ Ok k) where
     judged_index : index (int_of i) ≡ done k
@@ -159,7 +158,7 @@ module _ (limit : ℕ) (cs : List Cell) (a : IntMap) (first n i : ℕ) (within :
     pub record_deep : any_deep cs (class_key 0 first) (class_key 0 (first + n)) a.len a.base ≡ true → Leads limit cs cs a (Err TooDeep) (record_from limit n first (int_of i))
     unfolding record_from
     record_deep d =
-        stops cs TooDeep (frame-none cs a.base (limit + limit))
+        stops cs TooDeep (unchanged cs a.base (limit + limit))
         (λ bound m h. store_deep limit (int_of i) _ m k judged_index (omega (arith, held_deep limit bound cs a m h first n within d, made_depth limit bound cs a m h n first within)))
 
     module _ (flat : any_deep cs (class_key 0 first) (class_key 0 (first + n)) a.len a.base ≡ false) where
@@ -170,7 +169,7 @@ module _ (limit : ℕ) (cs : List Cell) (a : IntMap) (first n i : ℕ) (within :
           (λ bound m h. store_large limit (int_of i) _ m k judged_index (omega (arith, held_flat limit bound cs a m h first n within flat, made_depth limit bound cs a m h n first within)) (more bound m h))
 
       pub record_many : limit ≤ n → Leads limit cs cs a (Err TooManyCells) (record_from limit n first (int_of i))
-      record_many le = large cs (frame-none cs a.base (limit + limit)) (λ bound m h. omega (arith, made_least limit bound cs a m h n first within))
+      record_many le = large cs (unchanged cs a.base (limit + limit)) (λ bound m h. omega (arith, made_least limit bound cs a m h n first within))
 
       pub record_full : (ds : List Cell) → BuildsRecord cs ds a first n limit None → Leads limit cs ds a (Err TooManyCells) (record_from limit n first (int_of i))
       record_full ds b =
@@ -198,20 +197,12 @@ module _ (limit : ℕ) (cs : List Cell) (a : IntMap) (first n i : ℕ) (within :
                   (let run : span es p (size es levels p) ≡ run_register 0 (Column (Record (from_dense_record (columns_from n first m)))) = b.answer.run ∙ made_run limit bound cs a m h n first within in
                   let long = ap length (sym run) ∙ length-span es p (size es levels p) in
                   let c = held_register_from (held_elsewhere limit bound cs a.base a.len a.used m h es a.base same) p 0 (int_of i) (Column (Record (from_dense_record (columns_from n first m)))) (ap (span es p) long ∙ run) (omega (arith, held_flat limit bound cs a m h first n within flat, made_depth limit bound cs a m h n first within)) (λ _. made_sorted limit bound cs a m h n first within) tt in
-                  tells bound (store_register limit (int_of i) (Column (Record (from_dense_record (columns_from n first m)))) m) r (subst (λ u. Carried limit bound u (store_register limit (int_of i) (Column (Record (from_dense_record (columns_from n first m)))) m)) (sym st.answer) c) (left r st));
-              leaves = left r st;
+                  tells_stored limit bound ds a r (store_register limit (int_of i) (Column (Record (from_dense_record (columns_from n first m)))) m) (subst (λ u. Carried limit bound u (store_register limit (int_of i) (Column (Record (from_dense_record (columns_from n first m)))) m)) (sym st.answer) c) (leaves_stored es ds limit a i _ _ r st));
+              leaves = leaves_stored es ds limit a i _ _ r st;
               frame =
                   frame_then cs es ds a.base (limit + limit) (frame-within cs es (a.base + limit) limit a.base (limit + limit) (omega arith) (omega arith) b.frame)
                   (frame-within es ds a.base limit a.base (limit + limit) (omega arith) (omega arith) st.frame);
             }
-          where
-            left : (r : Stored) → Stores es ds limit a 0 i (nesting es levels p) (span es p (size es levels p)) r → Leaves limit ds a r
-            left (Err n) st = tt
-            left (Ok b) st = record { base = st.leaves.base; room = st.leaves.room }
-
-            tells : (bound : ℕ) (t : Tried MemoryState) (r : Stored) → Carried limit bound (stored_of ds r) t → Leaves limit ds a r → Tells limit bound ds r t
-            tells bound t (Err n) c l = c.refuses (number_of n) refl
-            tells bound t (Ok b) c l = c.next ds b.base b.len b.used (runs_at ds b) refl refl l.room.used
 
 -- ---- the arm
 
@@ -227,11 +218,9 @@ module _ (limit : ℕ) (cs : List Cell) (a : IntMap) (x : Row) where
   pub arm_negative : x.p2 < offset → RegisterArm limit cs cs a x op_make_record (Err Negative)
   arm_negative h =
       record {
-        leads = λ meaning l s j. record {
-          says = λ bound m le y. arm_is meaning l s j m ∙ ap (λ t. counted t l m) (count_below x.p2 h);
-          leaves = tt;
-          frame = frame-none cs a.base (limit + limit);
-        };
+        says = λ meaning l s j bound m le y. arm_is meaning l s j m ∙ ap (λ t. counted t l m) (count_below x.p2 h);
+        leaves = tt;
+        frame = unchanged cs a.base (limit + limit);
       }
 
   module _ (h : offset ≤ x.p2) (n : ℕ) (ne : n ≡ x.p2 - offset) where
@@ -245,16 +234,13 @@ module _ (limit : ℕ) (cs : List Cell) (a : IntMap) (x : Row) where
     pub arm_range : (k : Refusal) → JudgesRange x.p1 n (Err k) → RegisterArm limit cs cs a x op_make_record (Err k)
     arm_range k g =
         record {
-          leads = λ meaning l s j. record {
-            says = λ bound m le y. arm_reads meaning l s j m ∙ ap (λ t. read t l m) (g.says m);
-            leaves = tt;
-            frame = frame-none cs a.base (limit + limit);
-          };
+          says = λ meaning l s j bound m le y. arm_reads meaning l s j m ∙ ap (λ t. read t l m) (g.says m);
+          leaves = tt;
+          frame = unchanged cs a.base (limit + limit);
         }
 
     pub arm_stored : (from : Registers) → JudgesRange x.p1 n (Ok from) → (ds : List Cell) (r : Stored) → Leads limit cs ds a r (record_from limit from.count from.first (int_of x.p3)) → RegisterArm limit cs ds a x op_make_record r
     unfolding record_from
     arm_stored from g ds r led =
-        record {
-          leads = λ meaning l s j. leads_as r (λ m. sym (arm_reads meaning l s j m ∙ ap (λ t. read t l m) (g.says m) ∙ ap (λ z. store_register limit z (Column (Record (from_dense_record (columns_from n from.first m)))) m) (sym j.p3))) (subst (λ k. Leads limit cs ds a r (record_from limit k from.first (int_of x.p3))) g.many led);
-        }
+        register_arm_as (subst (λ k. Leads limit cs ds a r (record_from limit k from.first (int_of x.p3))) g.many led)
+        (λ meaning l s j m. sym (arm_reads meaning l s j m ∙ ap (λ t. read t l m) (g.says m) ∙ ap (λ z. store_register limit z (Column (Record (from_dense_record (columns_from n from.first m)))) m) (sym j.p3)))

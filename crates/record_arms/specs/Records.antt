@@ -1,6 +1,6 @@
 -- Registers one after the other as columns, as MakeRecord and ResultRow read them: which reads are refused, which columns they are otherwise, of a
 -- state and of runs; whether a record of them nests too deep, by the cells; and its run, built column after column. Assumes nothing.
-use Rattle.record_arms.specs.declared.registers.Registers.{Registers}
+use Rattle.state.specs.declared.registers.Registers.{Registers}
 use Rattle.refusal.specs.Numbers.{number_of}
 use Rattle.refusal.specs.declared.Refusal.{Refusal}
 use Rattle.std.specs.Prelude.{◌≡◌, Bool, true, false, ℕ, zero, suc, ◌+◌, ◌-◌, ◌<◌, ◌≤◌, leb, ltb, length, get_or, ℤ, Some, Ok, Err, None, Result, Option}

@@ -10,19 +10,16 @@ ghost use Rattle.intmap.specs.Pack.{class_key};
 ghost use Rattle.intmap.specs.Runs.{IsColumn};
 ghost use Rattle.intmap.specs.Signed.{int_of};
 ghost use Rattle.encoding.specs.Heads.{as_column};
-ghost use Rattle.rows.specs.Judged.{IsRow};
 ghost use Rattle.state.specs.Leads.{Held, Current, Leads};
 ghost use Rattle.state.specs.Arms.{RegisterArm};
 ghost use Rattle.record_arms.specs.Records.{JudgesRange, deep_at, any_deep, Flat, Puttable, PutsColumn, PutsColumns, BuildsRecord, record_from};
 ghost use Rattle.record_arms.specs.Over.{TellsSideBySide, Apart, PutsRegisters, PutsRecord, RecordOver};
 
-mod registers;
-
 use area::Cell;
 use intmap::IntMap;
 use refusal::Refusal;
-pub use registers::Registers;
 use rows::Row;
+use state::Registers;
 use type_info::DataType;
 
 // Where a column goes, and the entries that its register is looked for among: `left` of them from `at` on.
@@ -96,7 +93,7 @@ fn map_to_columntype(c: Cell) -> Cell
     ensures { result ≡ as_column c }
 {
     if intmap::tag_of(c) == intmap::INT {
-        return state::single(DataType::Integer, state::NEVER);
+        return state::single(DataType::Integer, Some(false));
     }
     c
 }
@@ -129,7 +126,7 @@ fn put_column(area: &mut [u8], from: Progress, k: u64, key: u64, end: usize) -> 
     if end <= to {
         return None;
     }
-    let c = state::single(DataType::Null, state::UNKNOWN);
+    let c = state::single(DataType::Null, None);
     area::put_cell(area, to, intmap::with_key(c, key));
     Some(Progress {
         to: to + 1,
@@ -320,7 +317,7 @@ fn store_record(
 
 // MakeRecord: register P3 becomes the record of P2 registers from P1 on.
 pub fn make_record(map: IntMap, area: &mut [u8], x: Row, limit: usize) -> Result<IntMap, Refusal>
-    requires { Current limit (cells area.old) map × IsRow x }
+    requires { Current limit (cells area.old) map }
     ensures { RegisterArm limit (cells area.old) (cells area.new) map x op_make_record result }
 {
     if x.p2 < intmap::ZERO {

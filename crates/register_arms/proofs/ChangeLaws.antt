@@ -2,14 +2,12 @@
 use Rattle.refusal.specs.Numbers.{number_of}
 use Rattle.refusal.specs.declared.Refusal.{Refusal}
 use mathlib.Core.Path.{◌≡◌, refl, sym, ap, subst, ◌∙◌}
-use mathlib.Core.Bool.{true, false}
+use mathlib.Core.Bool.{true, false, Bool}
 use Rattle.std.specs.Prelude.{Option, None, Some, Ok, Err, is_some}
 use mathlib.Core.List.{List}
 use Prim.Native.Nat.{ℕ, ◌%◌}
 use lib.IntN.{ℤ}
-use lib.ListN.{get_or}
 use Rattle.type_info.specs.declared.DataType.{DataType}
-use Rattle.type_info.specs.declared.DataType.TheVariants.{Null}
 use Rattle.model.specs.Walk.{refused, done}
 use Rattle.model.specs.Row.{Row as Listed}
 use Rattle.model.specs.State.{Single, Record, RegDataType, Column, Int, MemoryState, to_not_null}
@@ -23,10 +21,9 @@ use Rattle.area.specs.declared.Cell.{Cell}
 use Rattle.intmap.specs.Signed.{int_of}
 use Rattle.intmap.specs.declared.IntMap.{IntMap}
 use Rattle.intmap.proofs.SignedLaws.{int_low}
-use Rattle.encoding.specs.Decode.{datatypes, nullables}
 use Rattle.encoding.proofs.Updates.{update_stored, update_kept, update_refused}
 use Rattle.rows.specs.Judged.{Judged}
-use Rattle.rows.specs.declared.Row.{Row}
+use Rattle.rows.specs.declared.row.Row.{Row}
 use Rattle.state.specs.Arms.{Standard}
 use Rattle.state.specs.Leads.{HoldsMap}
 use Rattle.state.specs.Reads.{Reads, TellsRegister, Reading}
@@ -36,7 +33,7 @@ use Rattle.register_arms.specs.Values.{nullable_of, IsNullable}
 use Rattle.register_arms.proofs.ValueLaws.{absent_lem, IsSome, some-value}
 use Rattle.register_arms.proofs.RegisterLaws.{good_read}
 
-cast_column : (limit : ℕ) (m : MemoryState) → Good limit m → (i : ℤ) (v : Option RegDataType) → IsSome v → read_register i m ≡ done v → (d : DataType) (n : ℕ) → get_or nullables n None ≡ nullable_of v → store_register limit i (Column (Single d (get_or nullables n None))) m ≡ update_register i (cast_to d) m
+cast_column : (limit : ℕ) (m : MemoryState) → Good limit m → (i : ℤ) (v : Option RegDataType) → IsSome v → read_register i m ≡ done v → (d : DataType) (n : Option Bool) → n ≡ nullable_of v → store_register limit i (Column (Single d n)) m ≡ update_register i (cast_to d) m
 cast_column limit m good i None is read d n e = absurd is
 cast_column limit m good i (Some v) is read d n e =
     ap (λ z. store_register limit i (Column (Single d z)) m) e ∙ sym (update_stored good i (cast_to d) v read (cast_to_no_larger d))
@@ -62,7 +59,7 @@ module _
           cast_is
           ∙ update_kept h.good (int_of x.p1) (cast_to (affinity_to_type (low_byte l.p2))) None (told x.p1 g (Ok None) (good ∙ ap Ok (absent_lem q e))) tt
 
-      pub cast_stored : (q : Option Register) → r ≡ Ok q → is_some q ≡ true → (d : DataType) (b n : ℕ) → b ≡ x.p2 % 256 → d ≡ affinity_to_type b → IsNullable q n → store_register limit (int_of x.p1) (Column (Single d (get_or nullables n None))) m ≡ register_arm meaning l m op_cast
+      pub cast_stored : (q : Option Register) → r ≡ Ok q → is_some q ≡ true → (d : DataType) (b : ℕ) (n : Option Bool) → b ≡ x.p2 % 256 → d ≡ affinity_to_type b → IsNullable q n → store_register limit (int_of x.p1) (Column (Single d n)) m ≡ register_arm meaning l m op_cast
       cast_stored q good present d b n low kind nullable =
           let v = good_read limit bound cs a x.p1 r g m h q good in
           let byte : b ≡ low_byte l.p2 = low ∙ sym (int_low x.p2) ∙ ap low_byte j.p2 in
@@ -90,8 +87,5 @@ module _
       halt_int w e =
           halt_is ∙ update_kept h.good (int_of x.p3) to_not_null (Some (Int (int_of w))) (told x.p3 g (Ok (Some (register.Int w))) e).answer refl
 
-      pub halt_stored : (k n : ℕ) (d : DataType) → r ≡ Ok (Some (register.Single k n)) → d ≡ get_or datatypes k Null → store_register limit (int_of x.p3) (Column (Single d (get_or nullables 1 None))) m ≡ register_arm meaning l m op_halt_if_null
-      halt_stored k n d e kind =
-          let v = Column (Single (get_or datatypes k Null) (get_or nullables n None)) in
-          ap (λ y. store_register limit (int_of x.p3) (Column (Single y (Some false))) m) kind
-          ∙ sym (halt_is ∙ update_stored h.good (int_of x.p3) to_not_null v (told x.p3 g (Ok (Some (register.Single k n))) e).answer to_not_null_no_larger)
+      pub halt_stored : (d : DataType) (n : Option Bool) → r ≡ Ok (Some (register.Single d n)) → store_register limit (int_of x.p3) (Column (Single d (Some false))) m ≡ register_arm meaning l m op_halt_if_null
+      halt_stored d n e = sym (halt_is ∙ update_stored h.good (int_of x.p3) to_not_null (Column (Single d n)) (told x.p3 g (Ok (Some (register.Single d n))) e) to_not_null_no_larger)

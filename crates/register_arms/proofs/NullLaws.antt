@@ -21,7 +21,7 @@ use Rattle.intmap.specs.Map.{Frame}
 use Rattle.intmap.specs.declared.IntMap.{IntMap}
 use Rattle.intmap.proofs.SignedLaws.{int_suc, int_difference}
 use Rattle.rows.specs.Judged.{Judged}
-use Rattle.rows.specs.declared.Row.{Row}
+use Rattle.rows.specs.declared.row.Row.{Row}
 use Rattle.state.specs.Leads.{Current, Leads, HoldsMap, operands}
 use Rattle.state.specs.Arms.{Standard}
 use Rattle.state.proofs.LeadsLaws.{led_current}
@@ -56,16 +56,6 @@ pub null-none : (limit left : ℕ) (i : ℤ) (m : MemoryState) → (0 < left →
 unfolding null_many
 null-none limit zero i m h = refl
 null-none limit (suc left) i m h = absurd (h (omega arith))
-
-pub null-begins : (limit : ℕ) (cs : List Cell) (a : IntMap) (from n : ℕ) → Current limit cs a → Rest limit cs cs a a from n from n
-null-begins limit cs a from n c =
-    record {
-      current = c;
-      base = refl;
-      frame = record { long = refl; below = λ j h. refl; above = λ j h. refl };
-      total = refl;
-      says = λ bound m le h. record { state = m; holds = h; same = refl };
-    }
 
 module _ (limit : ℕ) (cs ds : List Cell) (a b : IntMap) (from n i left : ℕ) (rest : Rest limit cs ds a b from n i left) where
   pub null_ends : (0 < left → ⊥) → Leads limit cs ds a (Ok b) (null_many limit n (int_of from))

@@ -4,13 +4,11 @@ use Rattle.refusal.specs.declared.Refusal.{Refusal}
 use Rattle.intmap.specs.Store.{Stored}
 use mathlib.Core.Path.{◌≡◌, refl, sym, ap, ap₂, subst, ◌∙◌}
 use mathlib.Core.Logic.{◌⊎◌, inl, inr}
-use mathlib.Core.Bool.{true, false, not}
+use mathlib.Core.Bool.{true, false, not, Bool}
 use Rattle.std.specs.Prelude.{Option, None, Some, Ok, Err, is_some}
 use mathlib.Core.List.{List}
 use Prim.Native.Nat.{ℕ}
 use lib.IntN.{ℤ}
-use lib.ListN.{get_or}
-use borrow.Author.Tests.{eq-eqb, ne_eqb}
 use Rattle.type_info.specs.declared.DataType.{DataType}
 use Rattle.type_info.specs.declared.DataType.TheVariants.{Integer, Float, Text}
 use Rattle.model.specs.Walk.{Tried, refused, done}
@@ -23,10 +21,8 @@ use Rattle.model.specs.Operation.{op_integer, op_constant, op_variable, op_funct
 use Rattle.model.specs.RegisterArms.{register_arm, function_arm, operands, summed, from_other_row, store_some, copy_to, agg_step_arm, agg_final_arm}
 use Rattle.area.specs.declared.Cell.{Cell}
 use Rattle.intmap.specs.Signed.{offset, int_of}
-use Rattle.intmap.specs.Map.{Frame}
 use Rattle.intmap.specs.declared.IntMap.{IntMap}
 use Rattle.intmap.proofs.SignedLaws.{int_same}
-use Rattle.encoding.specs.Decode.{nullables}
 use Rattle.opcode.specs.P4.{values_of, given_by, JudgedText, Judges}
 use Rattle.opcode.specs.declared.FunctionValue.{FunctionValue}
 use Rattle.opcode.specs.declared.FunctionValue.TheVariants as function
@@ -35,31 +31,29 @@ use Rattle.opcode.specs.declared.Aggregate.TheVariants as aggregate
 use Rattle.opcode.specs.declared.P4.{P4}
 use Rattle.rows.specs.Rows.{p4_at}
 use Rattle.rows.specs.Judged.{Judged}
-use Rattle.rows.specs.declared.Row.{Row}
+use Rattle.rows.specs.declared.row.Row.{Row}
 use Rattle.state.specs.Leads.{Current, Leads, HoldsMap, Tells}
 use Rattle.state.specs.Reads.{Reads, Reading}
 use Rattle.state.specs.declared.Register.{Register}
 use Rattle.register_arms.specs.Values.{datatype_of, nullable_of, IsDatatype, IsNullable, AreNullable}
 use Rattle.register_arms.proofs.ValueLaws.{IsRead, value_read, operands_are, absent_lem, IsSome, some-value}
 use Rattle.state.specs.Arms.{Standard}
+use lib.Dec.{eqb}
+use Rattle.state.proofs.LeadsLaws.{unchanged}
 
 -- ---- without a store
-
--- nothing has changed
-same-frame : (cs : List Cell) (base n : ℕ) → Frame cs cs base n
-same-frame cs base n = record { long = refl; below = λ j h. refl; above = λ j h. refl }
 
 module _ (limit : ℕ) (cs : List Cell) (a : IntMap) (f : MemoryState → Tried MemoryState) where
   -- a refusal, and a map left as it is; what holds of every state that is held suffices
   pub refuses_leads : (n : Refusal) → ((bound : ℕ) (m : MemoryState) → HoldsMap limit bound cs a m → f m ≡ refused (number_of n)) → Leads limit cs cs a (Err n) f
-  refuses_leads n e = record { says = λ bound m le h. e bound m h; leaves = tt; frame = same-frame cs a.base _ }
+  refuses_leads n e = record { says = λ bound m le h. e bound m h; leaves = tt; frame = unchanged cs a.base _ }
 
   pub same_leads : Current limit cs a → ((bound : ℕ) (m : MemoryState) → HoldsMap limit bound cs a m → f m ≡ done m) → Leads limit cs cs a (Ok a) f
   same_leads c e =
       record {
         says = λ bound m le h. record { state = m; answer = e bound m h; holds = h };
         leaves = record { base = refl; room = c.room };
-        frame = same-frame cs a.base _;
+        frame = unchanged cs a.base _;
       }
 
 -- the same answer, said otherwise of every state that is held
@@ -69,13 +63,9 @@ leads_where {limit} {ds} r e l =
 
 -- ---- Function's values
 
-pub zero-not-null : (p2 : ℕ) → p2 ≡ 9223372036854775808 → get_or nullables 1 None ≡ Some (is_nullable by_p2 (int_of p2))
+pub null_by : (p2 : ℕ) → Some (not (eqb p2 offset)) ≡ Some (is_nullable by_p2 (int_of p2))
 unfolding int_of
-zero-not-null p2 e = ap (λ b. Some (not b)) (sym (int_same p2 offset ∙ eq-eqb p2 offset e))
-
-pub others-null : (p2 : ℕ) → (p2 ≡ 9223372036854775808 → ⊥) → get_or nullables 2 None ≡ Some (is_nullable by_p2 (int_of p2))
-unfolding int_of
-others-null p2 e = ap (λ b. Some (not b)) (sym (int_same p2 offset ∙ ne_eqb p2 offset e))
+null_by p2 = ap (λ b. Some (not b)) (sym (int_same p2 offset))
 
 module _ (limit : ℕ) (meaning : Meaning) (l : Listed) (x : Row) (s : Standard limit meaning) (j : Judged l x) (m : MemoryState) where
   pub integer_arm : store_register limit (int_of x.p2) (Int (int_of x.p1)) m ≡ register_arm meaning l m op_integer
@@ -99,7 +89,7 @@ module _ (limit : ℕ) (meaning : Meaning) (l : Listed) (x : Row) (s : Standard 
   unfolding register_arm
   function_refused e = ap (λ t. t >>= λ text. function_arm meaning.cell_limit l m (meaning.function_for text)) (not_text e)
 
-  value_stored : (d : DataType) (k : MayBeNull) (nullable : ℕ) → get_or nullables nullable None ≡ Some (is_nullable k (int_of x.p2)) → store_register limit (int_of x.p3) (Column (Single d (get_or nullables nullable None))) m ≡ function_arm meaning.cell_limit l m (Some (gives d k))
+  value_stored : (d : DataType) (k : MayBeNull) (nullable : Option Bool) → nullable ≡ Some (is_nullable k (int_of x.p2)) → store_register limit (int_of x.p3) (Column (Single d nullable)) m ≡ function_arm meaning.cell_limit l m (Some (gives d k))
   value_stored d k nullable e = rw (e, s.cells, j.p2, j.p3)
 
   module _ (p : P4) (e : p4_at x.p4 ≡ Some p) where
@@ -120,16 +110,16 @@ module _ (limit : ℕ) (meaning : Meaning) (l : Listed) (x : Row) (s : Standard 
     function_unknown is = function_is None is
 
     pub function_rowid : (f : FunctionValue) → p.function ≡ Some f → f ≡ function.Rowid → store_register limit (int_of x.p3) (never_null Integer) m ≡ register_arm meaning l m op_function
-    function_rowid f is e' = value_stored Integer never 1 refl ∙ sym (function_is (Some function.Rowid) (is ∙ ap Some e'))
+    function_rowid f is e' = value_stored Integer never (Some false) refl ∙ sym (function_is (Some function.Rowid) (is ∙ ap Some e'))
 
-    module _ (nullable : ℕ) (by_p : get_or nullables nullable None ≡ Some (is_nullable by_p2 (int_of x.p2))) where
-      pub function_text : (f : FunctionValue) → p.function ≡ Some f → f ≡ function.Text → store_register limit (int_of x.p3) (Column (Single Text (get_or nullables nullable None))) m ≡ register_arm meaning l m op_function
+    module _ (nullable : Option Bool) (by_p : nullable ≡ Some (is_nullable by_p2 (int_of x.p2))) where
+      pub function_text : (f : FunctionValue) → p.function ≡ Some f → f ≡ function.Text → store_register limit (int_of x.p3) (Column (Single Text nullable)) m ≡ register_arm meaning l m op_function
       function_text f is e' = value_stored Text by_p2 nullable by_p ∙ sym (function_is (Some function.Text) (is ∙ ap Some e'))
 
-      pub function_days : (f : FunctionValue) → p.function ≡ Some f → f ≡ function.Days → store_register limit (int_of x.p3) (Column (Single Float (get_or nullables nullable None))) m ≡ register_arm meaning l m op_function
+      pub function_days : (f : FunctionValue) → p.function ≡ Some f → f ≡ function.Days → store_register limit (int_of x.p3) (Column (Single Float nullable)) m ≡ register_arm meaning l m op_function
       function_days f is e' = value_stored Float by_p2 nullable by_p ∙ sym (function_is (Some function.Days) (is ∙ ap Some e'))
 
-      pub function_seconds : (f : FunctionValue) → p.function ≡ Some f → f ≡ function.Seconds → store_register limit (int_of x.p3) (Column (Single Integer (get_or nullables nullable None))) m ≡ register_arm meaning l m op_function
+      pub function_seconds : (f : FunctionValue) → p.function ≡ Some f → f ≡ function.Seconds → store_register limit (int_of x.p3) (Column (Single Integer nullable)) m ≡ register_arm meaning l m op_function
       function_seconds f is e' = value_stored Integer by_p2 nullable by_p ∙ sym (function_is (Some function.Seconds) (is ∙ ap Some e'))
 
 -- ---- registers that are read
@@ -162,11 +152,11 @@ module _
       pub second_refused : (n : Refusal) → r ≡ Err n → register_arm meaning l m op_arithmetic ≡ refused (number_of n)
       second_refused n e = arithmetic_is ∙ ap₂ both v.answer (bad_read limit bound cs a x.p2 r gr m h n e)
 
-      pub operands_stored : (second_read : Option Register) → r ≡ Ok second_read → (d c e : DataType) (n : ℕ) → e ≡ first_datatype d c → IsDatatype first_read d → IsDatatype second_read c → AreNullable first_read second_read n → store_register limit (int_of x.p3) (Column (Single e (get_or nullables n None))) m ≡ register_arm meaning l m op_arithmetic
+      pub operands_stored : (second_read : Option Register) → r ≡ Ok second_read → (d c e : DataType) (n : Option Bool) → e ≡ first_datatype d c → IsDatatype first_read d → IsDatatype second_read c → AreNullable first_read second_read n → store_register limit (int_of x.p3) (Column (Single e n)) m ≡ register_arm meaning l m op_arithmetic
       operands_stored second_read other d c e n first dq cr nullable =
           let w = good_read limit bound cs a x.p2 r gr m h second_read other in
           let kind : e ≡ first_datatype (datatype_of v.value) (datatype_of w.value) = first ∙ ap₂ first_datatype (dq.says bound cs a v.value v.told) (cr.says bound cs a w.value w.told) in
-          let column : Column (Single e (get_or nullables n None)) ≡ operands v.value w.value =
+          let column : Column (Single e n) ≡ operands v.value w.value =
           ap₂ (λ y z. Column (Single y z)) kind (nullable.says bound cs a v.value w.value v.told w.told) ∙ sym (operands_are v.value w.value) in
           ap (λ y. store_register limit (int_of x.p3) y m) column
           ∙ ap₂ (λ y z. store_register y z (operands v.value w.value) m) (sym s.cells) j.p3
@@ -174,11 +164,11 @@ module _
 
 -- ---- aggregates
 
-sum_column : (limit : ℕ) (k : ℤ) (m : MemoryState) (v : Option RegDataType) → IsSome v → (d e : DataType) (n : ℕ) → e ≡ sum_datatype d → d ≡ datatype_of v → get_or nullables n None ≡ nullable_of v → store_register limit k (Column (Single e (get_or nullables n None))) m ≡ store_some limit k summed v m
+sum_column : (limit : ℕ) (k : ℤ) (m : MemoryState) (v : Option RegDataType) → IsSome v → (d e : DataType) (n : Option Bool) → e ≡ sum_datatype d → d ≡ datatype_of v → n ≡ nullable_of v → store_register limit k (Column (Single e n)) m ≡ store_some limit k summed v m
 sum_column limit k m None is d e n kind dv nv = absurd is
 sum_column limit k m (Some v) is d e n kind dv nv = ap₂ (λ y z. store_register limit k (Column (Single y z)) m) (kind ∙ ap sum_datatype dv) nv
 
-row_column : (limit : ℕ) (k : ℤ) (m : MemoryState) (v : Option RegDataType) → IsSome v → (d : DataType) → d ≡ datatype_of v → store_register limit k (Column (Single d (get_or nullables 2 None))) m ≡ store_some limit k from_other_row v m
+row_column : (limit : ℕ) (k : ℤ) (m : MemoryState) (v : Option RegDataType) → IsSome v → (d : DataType) → d ≡ datatype_of v → store_register limit k (Column (Single d (Some true))) m ≡ store_some limit k from_other_row v m
 row_column limit k m None is d dv = absurd is
 row_column limit k m (Some v) is d dv = ap (λ y. store_register limit k (Column (Single y (Some true))) m) dv
 
@@ -197,13 +187,13 @@ module _ (limit : ℕ) (cs : List Cell) (a : IntMap) (i k : ℕ) (r : Reading) (
   copy_nothing f q good e = copy_is f ∙ ap (stores f) ((subst (Reads cs a i) (good ∙ ap Ok (absent_lem q e)) g).says limit bound m h)
 
   module _ (q : Option Register) (good : r ≡ Ok q) (present : is_some q ≡ true) (d : DataType) (kind : IsDatatype q d) where
-    pub sum_stored : (e : DataType) (n : ℕ) → e ≡ sum_datatype d → IsNullable q n → store_register limit (int_of k) (Column (Single e (get_or nullables n None))) m ≡ copy_to limit (int_of i) (int_of k) summed m
+    pub sum_stored : (e : DataType) (n : Option Bool) → e ≡ sum_datatype d → IsNullable q n → store_register limit (int_of k) (Column (Single e n)) m ≡ copy_to limit (int_of i) (int_of k) summed m
     sum_stored e n ed nullable =
         let v = good_read limit bound cs a i r g m h q good in
         sum_column limit (int_of k) m v.value (some-value bound cs a q v.value present v.told) d e n ed (kind.says bound cs a v.value v.told) (nullable.says bound cs a v.value v.told)
         ∙ sym (copy_is summed ∙ ap (stores summed) v.answer)
 
-    pub row_stored : store_register limit (int_of k) (Column (Single d (get_or nullables 2 None))) m ≡ copy_to limit (int_of i) (int_of k) from_other_row m
+    pub row_stored : store_register limit (int_of k) (Column (Single d (Some true))) m ≡ copy_to limit (int_of i) (int_of k) from_other_row m
     row_stored =
         let v = good_read limit bound cs a i r g m h q good in
         row_column limit (int_of k) m v.value (some-value bound cs a q v.value present v.told) d (kind.says bound cs a v.value v.told)

@@ -17,7 +17,7 @@ use Rattle.intmap.specs.Get.{Gets, Slot}
 use Rattle.intmap.specs.Signed.{int_of}
 use Rattle.intmap.specs.declared.IntMap.{IntMap}
 use Rattle.intmap.proofs.SignedLaws.{int_suc}
-use Rattle.encoding.specs.Encode.{single}
+use Rattle.encoding.specs.Encode.{single, nullable_code}
 use Rattle.state.specs.Leads.{Current, Leads}
 use Rattle.state.specs.Own.{Overwrites}
 use Rattle.state.proofs.LeadsLaws.{led_current, reached_first, reached_end, leads_then}
@@ -99,9 +99,9 @@ module _ {limit : ℕ} {cs ds : List Cell} {a : IntMap} {p from n d : ℕ} (null
   pub nulling_stop : r ≡ false → NullsRun limit cs es a from n d
   nulling_stop e = subst (λ l. NullsRun limit cs l a from n d) (sym (over.no e)) nulling.run
 
-  pub nulling_on : Current limit cs a → d < n → c ≡ single (datatype_code Null) 2 0 → r ≡ true → Nulling limit cs es a p from n (d + 1)
+  pub nulling_on : Current limit cs a → d < n → c ≡ single (datatype_code Null) (nullable_code (Some true)) 0 → r ≡ true → Nulling limit cs es a p from n (d + 1)
   nulling_on current lt ce e =
-      let step : Leads limit ds es a (Ok a) (store_register limit (int_of (from + d)) (Column null)) = cell_leads (over.yes e limit nulling.current.room) (single_leads limit ds es a (from + d) (Ok a) Null 2 c (omega arith) ce) in
+      let step : Leads limit ds es a (Ok a) (store_register limit (int_of (from + d)) (Column null)) = cell_leads (over.yes e limit nulling.current.room) (single_leads limit ds es a (from + d) (Ok a) Null (Some true) c ce) in
       let inside = over.inside e in
       record {
         run = record {

@@ -1,12 +1,11 @@
--- The kind and the nullable of what a register holds, and what the codes by value say of them. Assumes nothing.
-use Rattle.std.specs.Prelude.{◌≡◌, Bool, true, false, List, ℕ, ◌<◌, get_or, Option, None, Some, Ok}
+-- The kind and the nullable of what a register holds, and what is told by value says of them. Assumes nothing.
+use Rattle.std.specs.Prelude.{◌≡◌, Bool, false, List, ℕ, Option, None, Some, Ok}
 use Rattle.type_info.specs.declared.DataType.{DataType}
 use Rattle.type_info.specs.declared.DataType.TheVariants.{Null, Integer}
 use Rattle.model.specs.Walk.{done}
 use Rattle.model.specs.State.{RegDataType, map_to_datatype, map_to_nullable, either_nullable}
 use Rattle.area.specs.declared.Cell.{Cell}
 use Rattle.intmap.specs.declared.IntMap.{IntMap}
-use Rattle.encoding.specs.Decode.{datatypes, nullables}
 use Rattle.state.specs.Reads.{TellsRegister}
 use Rattle.state.specs.declared.Register.{Register}
 use Rattle.state.specs.declared.Register.TheVariants as register
@@ -29,13 +28,13 @@ operands_nullable (Some v) (Some w) = either_nullable (map_to_nullable v) (map_t
 -- of a register as it was read
 abbrev pub register_datatype : Option Register → DataType
 register_datatype None = Null
-register_datatype (Some (register.Single k n)) = get_or datatypes k Null
+register_datatype (Some (register.Single d n)) = d
 register_datatype (Some (register.Record at)) = Null
 register_datatype (Some (register.Int w)) = Integer
 
 abbrev pub register_nullable : Option Register → Option Bool
 register_nullable None = None
-register_nullable (Some (register.Single k n)) = get_or nullables n None
+register_nullable (Some (register.Single d n)) = n
 register_nullable (Some (register.Record at)) = None
 register_nullable (Some (register.Int w)) = Some false
 
@@ -44,11 +43,9 @@ pub record IsDatatype (r : Option Register) (d : DataType) : Type 0 where
   pub is : d ≡ register_datatype r
   pub says : (bound : ℕ) (cs : List Cell) (a : IntMap) (v : Option RegDataType) → TellsRegister bound cs a (Ok r) (done v) → d ≡ datatype_of v
 
-pub record IsNullable (r : Option Register) (n : ℕ) : Type 0 where
-  pub is : get_or nullables n None ≡ register_nullable r
-  pub says : (bound : ℕ) (cs : List Cell) (a : IntMap) (v : Option RegDataType) → TellsRegister bound cs a (Ok r) (done v) → get_or nullables n None ≡ nullable_of v
-  pub below : n < 3
+pub record IsNullable (r : Option Register) (n : Option Bool) : Type 0 where
+  pub is : n ≡ register_nullable r
+  pub says : (bound : ℕ) (cs : List Cell) (a : IntMap) (v : Option RegDataType) → TellsRegister bound cs a (Ok r) (done v) → n ≡ nullable_of v
 
-pub record AreNullable (r s : Option Register) (n : ℕ) : Type 0 where
-  pub says : (bound : ℕ) (cs : List Cell) (a : IntMap) (v w : Option RegDataType) → TellsRegister bound cs a (Ok r) (done v) → TellsRegister bound cs a (Ok s) (done w) → get_or nullables n None ≡ operands_nullable v w
-  pub below : n < 3
+pub record AreNullable (r s : Option Register) (n : Option Bool) : Type 0 where
+  pub says : (bound : ℕ) (cs : List Cell) (a : IntMap) (v w : Option RegDataType) → TellsRegister bound cs a (Ok r) (done v) → TellsRegister bound cs a (Ok s) (done w) → n ≡ operands_nullable v w

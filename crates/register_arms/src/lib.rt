@@ -6,13 +6,10 @@
 ghost use Rattle.std.specs.Prelude.{◌≡◌, ◌+◌, ◌%◌, ◌<◌, get_or, None, Some};
 ghost use Rattle.model.specs.Functions.{by_p2, is_nullable, sum_datatype};
 ghost use Rattle.model.specs.RegisterArms.{summed, from_other_row, copy_to, null_many};
-ghost use Rattle.type_info.specs.declared.DataType.TheVariants.{Null};
 ghost use Rattle.model.specs.State.{first_datatype, either_nullable};
 ghost use Rattle.model.specs.Operation.{op_integer, op_constant, op_variable, op_function, op_arithmetic, op_agg_step, op_agg_final, op_null, op_cast, op_halt_if_null};
 ghost use Rattle.area.specs.Cells.{cells};
 ghost use Rattle.intmap.specs.Signed.{int_of};
-ghost use Rattle.encoding.specs.Decode.{datatypes, nullables};
-ghost use Rattle.rows.specs.Judged.{IsRow};
 ghost use Rattle.state.specs.Leads.{Current, Leads};
 ghost use Rattle.state.specs.Arms.{RegisterArm};
 ghost use Rattle.register_arms.specs.Nulls.{NullsRun};
@@ -27,7 +24,7 @@ use type_info::DataType;
 
 // Integer: the number P1 in register P2.
 pub fn integer(map: IntMap, area: &mut [u8], x: Row, limit: usize) -> Result<IntMap, Refusal>
-    requires { Current limit (cells area.old) map × IsRow x }
+    requires { Current limit (cells area.old) map }
     ensures { RegisterArm limit (cells area.old) (cells area.new) map x op_integer result }
 {
     state::store_int(map, area, x.p2, x.p1, limit)
@@ -41,33 +38,30 @@ pub fn constant(
     d: DataType,
     limit: usize,
 ) -> Result<IntMap, Refusal>
-    requires { Current limit (cells area.old) map × IsRow x }
+    requires { Current limit (cells area.old) map }
     ensures { RegisterArm limit (cells area.old) (cells area.new) map x (op_constant d) result }
 {
-    state::store_single(map, area, x.p2, d, state::NEVER, limit)
+    state::store_single(map, area, x.p2, d, Some(false), limit)
 }
 
 // Variable: a parameter may be null, and its kind is not known.
 pub fn variable(map: IntMap, area: &mut [u8], x: Row, limit: usize) -> Result<IntMap, Refusal>
-    requires { Current limit (cells area.old) map × IsRow x }
+    requires { Current limit (cells area.old) map }
     ensures { RegisterArm limit (cells area.old) (cells area.new) map x op_variable result }
 {
-    state::store_single(map, area, x.p2, DataType::Null, state::NULLABLE, limit)
+    state::store_single(map, area, x.p2, DataType::Null, Some(true), limit)
 }
 
 // Without arguments, where P2 is 0, the value is never null.
-fn nullable_by(p2: u64) -> u64
-    ensures { (get_or nullables result None ≡ Some (is_nullable by_p2 (int_of p2))) × (result < 3) }
+fn nullable_by(p2: u64) -> Option<bool>
+    ensures { result ≡ Some (is_nullable by_p2 (int_of p2)) }
 {
-    if p2 == intmap::ZERO {
-        return state::NEVER;
-    }
-    state::NULLABLE
+    Some(p2 != intmap::ZERO)
 }
 
 // Function: the value of a built-in function in register P3; an unknown function changes nothing.
 pub fn function(map: IntMap, area: &mut [u8], x: Row, limit: usize) -> Result<IntMap, Refusal>
-    requires { Current limit (cells area.old) map × IsRow x }
+    requires { Current limit (cells area.old) map }
     ensures { RegisterArm limit (cells area.old) (cells area.new) map x op_function result }
 {
     let Some(p4) = x.read_p4() else {
@@ -78,7 +72,7 @@ pub fn function(map: IntMap, area: &mut [u8], x: Row, limit: usize) -> Result<In
     };
     match value {
         FunctionValue::Rowid => {
-            state::store_single(map, area, x.p3, DataType::Integer, state::NEVER, limit)
+            state::store_single(map, area, x.p3, DataType::Integer, Some(false), limit)
         }
         FunctionValue::Text => {
             state::store_single(map, area, x.p3, DataType::Text, nullable_by(x.p2), limit)
@@ -92,13 +86,6 @@ pub fn function(map: IntMap, area: &mut [u8], x: Row, limit: usize) -> Result<In
     }
 }
 
-// The kind of a code.
-pub fn datatype(kind: u64) -> DataType
-    ensures { result ≡ get_or datatypes kind Null }
-{
-    DataType::try_from(kind).unwrap_or(DataType::Null)
-}
-
 // The kind of what a register holds: nothing and a record have none, and a known number is an integer.
 pub fn map_to_datatype(r: Option<Register>) -> DataType
     ensures { IsDatatype r result }
@@ -107,33 +94,20 @@ pub fn map_to_datatype(r: Option<Register>) -> DataType
         return DataType::Null;
     };
     match held {
-        Register::Single(kind, _) => datatype(kind),
+        Register::Single(d, _) => d,
         Register::Record(_) => DataType::Null,
         Register::Int(_) => DataType::Integer,
     }
 }
 
-// A code of `nullable`: what is none of them says nothing.
-fn nullable_code(n: u64) -> u64
-    ensures { (get_or nullables result None ≡ get_or nullables n None) × (result < 3) }
-{
-    if n < 3 {
-        return n;
-    }
-    state::UNKNOWN
-}
-
 // Whether what a register holds is nullable: of nothing and of a record that is not known, and a known number is not null.
-pub fn map_to_nullable(r: Option<Register>) -> u64
+pub fn map_to_nullable(r: Option<Register>) -> Option<bool>
     ensures { IsNullable r result }
 {
-    let Some(held) = r else {
-        return state::UNKNOWN;
-    };
-    match held {
-        Register::Single(_, n) => nullable_code(n),
-        Register::Record(_) => state::UNKNOWN,
-        Register::Int(_) => state::NEVER,
+    match r? {
+        Register::Single(_, nullable) => nullable,
+        Register::Record(_) => None,
+        Register::Int(_) => Some(false),
     }
 }
 
@@ -147,30 +121,29 @@ pub fn first_datatype(a: DataType, b: DataType) -> DataType
     }
 }
 
-// Nullable if one is; what is not known says nothing. The codes rise in this order.
-fn either_nullable(a: u64, b: u64) -> u64
-    requires { (a < 3) × (b < 3) }
-    ensures { (get_or nullables result None ≡ either_nullable (get_or nullables a None) (get_or nullables b None)) × (result < 3) }
+// Nullable if one is; what is not known says nothing, and is the least.
+fn either_nullable(a: Option<bool>, b: Option<bool>) -> Option<bool>
+    ensures { result ≡ either_nullable a b }
 {
     a.max(b)
 }
 
 // Two operands: where one is absent, nothing is known of the other.
-pub fn operands_nullable(a: Option<Register>, b: Option<Register>) -> u64
+pub fn operands_nullable(a: Option<Register>, b: Option<Register>) -> Option<bool>
     ensures { AreNullable a b result }
 {
     if a.is_none() {
-        return state::UNKNOWN;
+        return None;
     }
     if b.is_none() {
-        return state::UNKNOWN;
+        return None;
     }
     either_nullable(map_to_nullable(a), map_to_nullable(b))
 }
 
 // The operations on two operands: the kind of the first, unless it is Null, in register P3.
 pub fn arithmetic(map: IntMap, area: &mut [u8], x: Row, limit: usize) -> Result<IntMap, Refusal>
-    requires { Current limit (cells area.old) map × IsRow x }
+    requires { Current limit (cells area.old) map }
     ensures { RegisterArm limit (cells area.old) (cells area.new) map x op_arithmetic result }
 {
     let a = state::read_register(map, area, x.p1)?;
@@ -226,12 +199,12 @@ fn other_row(
     if v.is_none() {
         return Ok(map);
     }
-    state::store_single(map, area, to, map_to_datatype(v), state::NULLABLE, limit)
+    state::store_single(map, area, to, map_to_datatype(v), Some(true), limit)
 }
 
 // AggStep and AggValue: what the aggregate gives in register P3. An operand may be a record.
 pub fn agg_step(map: IntMap, area: &mut [u8], x: Row, limit: usize) -> Result<IntMap, Refusal>
-    requires { Current limit (cells area.old) map × IsRow x }
+    requires { Current limit (cells area.old) map }
     ensures { RegisterArm limit (cells area.old) (cells area.new) map x op_agg_step result }
 {
     let Some(p4) = x.read_p4() else {
@@ -239,10 +212,10 @@ pub fn agg_step(map: IntMap, area: &mut [u8], x: Row, limit: usize) -> Result<In
     };
     match p4.aggregate {
         Aggregate::Integer => {
-            state::store_single(map, area, x.p3, DataType::Integer, state::NEVER, limit)
+            state::store_single(map, area, x.p3, DataType::Integer, Some(false), limit)
         }
         Aggregate::Real => {
-            state::store_single(map, area, x.p3, DataType::Float, state::NEVER, limit)
+            state::store_single(map, area, x.p3, DataType::Float, Some(false), limit)
         }
         Aggregate::Sum => sum(map, area, x.p2, x.p3, limit),
         Aggregate::OtherRow => other_row(map, area, x.p2, x.p3, limit),
@@ -252,7 +225,7 @@ pub fn agg_step(map: IntMap, area: &mut [u8], x: Row, limit: usize) -> Result<In
 
 // AggFinal: an integer goes to register P1, a real to register P3; a sum and an operand stay as they are.
 pub fn agg_final(map: IntMap, area: &mut [u8], x: Row, limit: usize) -> Result<IntMap, Refusal>
-    requires { Current limit (cells area.old) map × IsRow x }
+    requires { Current limit (cells area.old) map }
     ensures { RegisterArm limit (cells area.old) (cells area.new) map x op_agg_final result }
 {
     let Some(p4) = x.read_p4() else {
@@ -260,10 +233,10 @@ pub fn agg_final(map: IntMap, area: &mut [u8], x: Row, limit: usize) -> Result<I
     };
     match p4.aggregate {
         Aggregate::Integer => {
-            state::store_single(map, area, x.p1, DataType::Integer, state::NEVER, limit)
+            state::store_single(map, area, x.p1, DataType::Integer, Some(false), limit)
         }
         Aggregate::Real => {
-            state::store_single(map, area, x.p3, DataType::Float, state::NEVER, limit)
+            state::store_single(map, area, x.p3, DataType::Float, Some(false), limit)
         }
         Aggregate::OtherRow => other_row(map, area, x.p2, x.p3, limit),
         Aggregate::Sum | Aggregate::Operand => Ok(map),
@@ -278,7 +251,7 @@ fn null_run(map: IntMap, area: &mut [u8], from: u64, n: u64, limit: usize) -> u6
     let Ok(Some(p)) = state::get(map, area, intmap::Class::Registers, from) else {
         return 0;
     };
-    let c = state::single(DataType::Null, state::NULLABLE);
+    let c = state::single(DataType::Null, Some(true));
     for done in 0..n {
         if !state::overwrite(map, area, p + done as usize, from + done, c) {
             return done;
@@ -302,14 +275,14 @@ fn null_many(
     let first = null_run(map, area, from, n, limit);
     let mut held = map;
     for i in from + first..from + n {
-        held = state::store_single(held, area, i, DataType::Null, state::NULLABLE, limit)?;
+        held = state::store_single(held, area, i, DataType::Null, Some(true), limit)?;
     }
     Ok(held)
 }
 
 // Null: null in the registers from P2 to P3, or in P2 alone.
 pub fn null(map: IntMap, area: &mut [u8], x: Row, limit: usize) -> Result<IntMap, Refusal>
-    requires { Current limit (cells area.old) map × IsRow x }
+    requires { Current limit (cells area.old) map }
     ensures { RegisterArm limit (cells area.old) (cells area.new) map x op_null result }
 {
     if x.p2 < x.p3 {
@@ -327,7 +300,7 @@ fn low_byte(w: u64) -> u8
 
 // Cast: the kind of the affinity in P2's low byte in register P1, if something is there; whether it is null stays.
 pub fn cast(map: IntMap, area: &mut [u8], x: Row, limit: usize) -> Result<IntMap, Refusal>
-    requires { Current limit (cells area.old) map × IsRow x }
+    requires { Current limit (cells area.old) map }
     ensures { RegisterArm limit (cells area.old) (cells area.new) map x op_cast result }
 {
     let v = state::read_register(map, area, x.p1)?;
@@ -340,13 +313,13 @@ pub fn cast(map: IntMap, area: &mut [u8], x: Row, limit: usize) -> Result<IntMap
 
 // HaltIfNull: behind it a plain column in register P3 is not null; what else is there stays.
 pub fn halt_if_null(map: IntMap, area: &mut [u8], x: Row, limit: usize) -> Result<IntMap, Refusal>
-    requires { Current limit (cells area.old) map × IsRow x }
+    requires { Current limit (cells area.old) map }
     ensures { RegisterArm limit (cells area.old) (cells area.new) map x op_halt_if_null result }
 {
     match state::read_register(map, area, x.p3)? {
         None => Ok(map),
-        Some(Register::Single(kind, _)) => {
-            state::store_single(map, area, x.p3, datatype(kind), state::NEVER, limit)
+        Some(Register::Single(d, _)) => {
+            state::store_single(map, area, x.p3, d, Some(false), limit)
         }
         Some(Register::Record(_)) => Ok(map),
         Some(Register::Int(_)) => Ok(map),

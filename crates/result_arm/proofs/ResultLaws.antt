@@ -17,7 +17,7 @@ use Rattle.model.specs.ResultArm.{result_if, result_row_arm}
 use Rattle.intmap.specs.Signed.{offset, int_of}
 use Rattle.intmap.proofs.SignedLaws.{int_turns}
 use Rattle.rows.specs.Judged.{Judged}
-use Rattle.rows.specs.declared.Row.{Row}
+use Rattle.rows.specs.declared.row.Row.{Row}
 use Rattle.record_arms.specs.Records.{JudgesRange, Range, columns_from}
 use Rattle.result_arm.specs.Results.{JudgesRow}
 
@@ -53,5 +53,5 @@ module _ (x : Row) (n : ℕ) (ne : n ≡ x.p2 - offset) where
             read = read l j m;
             answer = arm_is row l j m ∙ ap (λ t. after t row m) (read l j m);
           };
-          narrow = (r.within, omega (arith, g.many, h));
+          narrow = omega (arith, g.many, h);
         }

@@ -2,19 +2,18 @@
 // src/connection/explain.rs.
 #![tactic(auto)]
 
-ghost use Rattle.rows.specs.Judged.{IsRow};
 ghost use Rattle.result_arm.specs.Results.{JudgesRow};
 
-use record_arms::Registers;
 use refusal::Refusal;
 use rows::Row;
+use state::Registers;
 
 // How many columns a result row may have.
 pub const WIDEST: u64 = 2000;
 
 // ResultRow: the columns of the row are the P2 registers from P1 on, none if P2 is negative. Its width is judged before they are read.
+#[tactic(auto, using(crate::proofs::ResultLaws::row_wide))]
 pub fn result_row(x: Row) -> Result<Registers, Refusal>
-    requires { IsRow x }
     ensures { JudgesRow x result }
 {
     let count = x.p2.saturating_sub(intmap::ZERO);

@@ -25,12 +25,13 @@ use Rattle.intmap.specs.Signed.{offset, int_of}
 use Rattle.intmap.specs.declared.IntMap.{IntMap}
 use Rattle.encoding.proofs.Updates.{table_kept}
 use Rattle.rows.specs.Judged.{Judged}
-use Rattle.rows.specs.declared.Row.{Row}
+use Rattle.rows.specs.declared.row.Row.{Row}
 use Rattle.state.specs.Leads.{Current}
 use Rattle.state.specs.Steps.{HoldsState, Offered, TellsStep, JumpArm, Step, offered}
 use Rattle.state.specs.declared.MemoryState.{MemoryState}
+use Rattle.state.proofs.LeadsLaws.{unchanged}
 use Rattle.jump_arms.specs.Arms.{at, Puts, BothArm}
-use Rattle.jump_arms.proofs.StepLaws.{unchanged, zero_word, other_word, held_at, held_next, ends_here, goes_on_lem, branches_only, lies_here}
+use Rattle.jump_arms.proofs.StepLaws.{zero_word, other_word, held_at, held_next, ends_here, goes_on_lem, branches_only, lies_here}
 use Rattle.jump_arms.proofs.BothLaws.{behind_room, state_room, both_arm}
 use Rattle.cursor_arms.specs.Cursors.{Reading, ReadsCursor}
 use Rattle.cursor_arms.specs.StandsFor.{TellsEmpty, CursorTableChanged}

@@ -6,7 +6,7 @@ use Rattle.model.specs.JumpArms.{rewind_cursor}
 use Rattle.area.specs.declared.Cell.{Cell}
 use Rattle.intmap.specs.Map.{Frame}
 use Rattle.rows.specs.Judged.{Judged}
-use Rattle.rows.specs.declared.Row.{Row}
+use Rattle.rows.specs.declared.row.Row.{Row}
 use Rattle.state.specs.Leads.{operands}
 use Rattle.state.specs.Steps.{HoldsState, TellsStep, LeavesStep, Step}
 use Rattle.state.specs.declared.MemoryState.{MemoryState}

@@ -17,7 +17,7 @@ use state::{MemoryState, Ways};
 // The arm on the table that a row opened. Where it is not known whether the table is empty, the state that goes on keeps it so, and the
 // branch, in which it is empty, is built in the room behind the map.
 fn rewind_table(s: MemoryState, area: &mut [u8], x: Row, row: u64, limit: usize) -> Ways
-    requires { Ready limit (cells area.old) s x × (row ≤ 65535) }
+    requires { Ready limit (cells area.old) s × (row ≤ 65535) }
     ensures { RewindsTable limit (cells area.old) (cells area.new) s x row (Ok result) }
 {
     let map = s.map;
@@ -49,7 +49,7 @@ fn rewind_table(s: MemoryState, area: &mut [u8], x: Row, row: u64, limit: usize)
 
 // Rewind, Last, Sort, SorterSort. A pseudo cursor is never empty.
 pub fn rewind(s: MemoryState, area: &mut [u8], x: Row, limit: usize) -> Result<Ways, Refusal>
-    requires { Ready limit (cells area.old) s x }
+    requires { Ready limit (cells area.old) s }
     ensures { JumpArm limit (cells area.old) (cells area.new) s x op_rewind result }
 {
     let map = s.map;

@@ -1,5 +1,5 @@
 -- A record's column as a cell, and its cell among the blocks. Assumes nothing.
-use mathlib.Core.Path.{◌≡◌, sym, ap, ap₂, ◌∙◌}
+use mathlib.Core.Path.{◌≡◌, sym, ap, ◌∙◌}
 use mathlib.Core.Bool.{Bool, true, false, not}
 use Rattle.std.specs.Prelude.{Option, Some, option_map}
 use mathlib.Core.List.{List, [], ◌∷◌}
@@ -22,15 +22,15 @@ use Rattle.catalogue.specs.declared.Record.{Record}
 use Rattle.text.specs.Reads.{with_rest, Reads}
 use Rattle.root_block.specs.Build.{IsColumn, Unlinked}
 
-pub code_few : (b : Bool) → nullable_code (Some b) < 3
+code_few : (b : Bool) → nullable_code (Some b) < 3
 code_few true = omega arith
 code_few false = omega arith
 
-pub column_made : (r : Record) (d : DataType) (n : ℕ) (k c : Cell) → d ≡ kind_of r.declared.now → n ≡ nullable_code (Some (not r.notnull)) → k ≡ single (datatype_code d) n 0 → c ≡ with_key r.col k → IsColumn r c
+pub column_made : (r : Record) (d : DataType) (k c : Cell) → d ≡ kind_of r.declared.now → k ≡ single (datatype_code d) (nullable_code (Some (not r.notnull))) 0 → c ≡ with_key r.col k → IsColumn r c
 unfolding run_column record_column
-column_made r d n k c de ne ke ce =
+column_made r d k c de ke ce =
     ap (λ y. y ∷ []) (ce ∙ ap (with_key r.col) ke)
-    ∙ ap₂ (λ y v. with_key r.col (single (datatype_code y) v 0) ∷ []) de ne
+    ∙ ap (λ y. with_key r.col (single (datatype_code y) (nullable_code (Some (not r.notnull))) 0) ∷ []) de
     ∙ column_rekey (record_column (record_of r)) 0 r.col
 
 -- what is known of a record that was read

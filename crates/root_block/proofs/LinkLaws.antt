@@ -40,10 +40,6 @@ block_kept k b = record { db = k.db ∙ b.db; page = k.page ∙ b.page; column =
 
 -- ---- one record linked
 
--- a bucket is one of the cells
-pub bucket_inside : (bs : List ℕ) (page b : ℕ) → b ≡ page % length (cells bs) → 0 < length (cells bs) → length (cells bs) ≤ 1048576 → Inside bs b 1
-bucket_inside bs page b e positive small = record { within = omega (arith, mod-lt page positive); small = small }
-
 -- both stores make the link
 pub link_made :
     (xs ys zs : List ℕ) (i : ℕ) (c : Cell) (f b : ℕ) (d : Cell) →

@@ -4,7 +4,6 @@
 
 ghost use Rattle.std.specs.Prelude.{◌≡◌, not, ◌%◌, ◌<◌, ◌≤◌, length, get_or, Some};
 ghost use Rattle.area.specs.Cells.{blank, cells, Inside, CellsNow};
-ghost use Rattle.encoding.specs.Encode.{nullable_code};
 ghost use Rattle.catalogue.specs.Records.{record_of};
 ghost use Rattle.root_block.specs.Blocks.{first_of};
 ghost use Rattle.root_block.specs.Build.{Indexable, Indexed, IsColumn, Unlinked, Stand, linked, linked_all};
@@ -23,23 +22,13 @@ pub const LINK: u64 = 4294967296;
 // A head is a column's head, and COLUMN times the link to a bucket's first record.
 pub const COLUMN: u64 = 1099511627776;
 
-// The code of `nullable` for a column that is declared never null, or is not.
-fn nullable(notnull: bool) -> u64
-    ensures { result ≡ nullable_code (Some (not notnull)) }
-{
-    if notnull {
-        return state::NEVER;
-    }
-    state::NULLABLE
-}
-
 // The cell of a record's column, under its number.
 fn column_of(r: Record) -> Cell
     requires { r.col ≤ 65535 }
     ensures { IsColumn r.entry result }
 {
     let d = DataType::from_str(r.declared);
-    intmap::with_key(state::single(d, nullable(r.notnull)), r.col)
+    intmap::with_key(state::single(d, Some(!r.notnull)), r.col)
 }
 
 // The cell of a record, with no links.

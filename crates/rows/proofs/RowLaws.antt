@@ -1,14 +1,9 @@
--- A row is read from its cell as it was written; rows stay where their cells do. Assumes nothing.
-use mathlib.Core.Path.{◌≡◌, refl, sym, ap, subst, ◌∙◌}
+-- A row is read from its cell as it was written. Assumes nothing.
+use mathlib.Core.Path.{◌≡◌, refl, ap, ◌∙◌}
 use Rattle.std.specs.Prelude.{Option, None, Some}
-use mathlib.Core.List.{List}
-use Prim.Native.Nat.{ℕ, ◌+◌, ◌/◌, ◌%◌, ◌<◌, ◌≤◌}
+use Prim.Native.Nat.{◌/◌, ◌%◌, ◌<◌}
 use native.Mathlib.Omega.{arith}
 use lib.Dec.{eqb}
-use lib.ListN.{get_or}
-use Rattle.model.specs.Row.{Row as Listed}
-use Rattle.area.specs.Cells.{blank}
-use Rattle.area.specs.declared.Cell.{Cell}
 use Rattle.opcode.specs.Opcode.{number, operation_at}
 use Rattle.opcode.specs.declared.FunctionValue.{FunctionValue}
 use Rattle.opcode.specs.declared.FunctionValue.TheVariants as function
@@ -16,9 +11,8 @@ use Rattle.opcode.specs.declared.Aggregate.{Aggregate}
 use Rattle.opcode.specs.declared.Aggregate.TheVariants as aggregate
 use Rattle.opcode.specs.declared.P4.{P4}
 use Rattle.opcode.proofs.Numbers.{read_again, number-below}
-use Rattle.rows.specs.Rows.{Fits, function_number, function_at, aggregate_number, aggregate_at, p4_number, p4_at, p4_if, cell_of, row_in}
-use Rattle.rows.specs.Judged.{Judged, HaveRows}
-use Rattle.rows.specs.declared.Row.{Row}
+use Rattle.rows.specs.Parts.{Parts, Fits}
+use Rattle.rows.specs.Rows.{function_number, function_at, aggregate_number, aggregate_at, p4_number, p4_at, p4_if, cell_of, row_in}
 
 function_again : (f : Option FunctionValue) → function_at (function_number f) ≡ f
 function_again None = refl
@@ -63,7 +57,7 @@ p4_again (Some x) =
     ∙ ap (λ g. Some (record { function = g; aggregate = aggregate_at (n / 65536 % 256) })) (ap function_at f ∙ function_again x.function)
     ∙ ap (λ g. Some (record { function = x.function; aggregate = g })) (ap aggregate_at a ∙ aggregate_again x.aggregate)
 
-module _ (r : Row) (f : Fits r) where
+module _ (r : Parts) (f : Fits r.p4 r.p1 r.p2 r.p3) where
   op_again : (row_in (cell_of r)).op ≡ r.op
   op_again =
       let n : (cell_of r).head % 256 ≡ number r.op = omega (arith, number-below r.op) in
@@ -83,7 +77,3 @@ module _ (r : Row) (f : Fits r) where
 
   pub row_again : row_in (cell_of r) ≡ r
   row_again = λ i. record { op = op_again i; p4 = p4_same i; p1 = p1_again i; p2 = p2_again i; p3 = p3_again i }
-
--- the rows stay where their cells do
-pub rows_kept : (cs ds : List Cell) (from : ℕ) (rows : List Listed) → ((j : ℕ) → from ≤ j → get_or ds j blank ≡ get_or cs j blank) → HaveRows cs from rows → HaveRows ds from rows
-rows_kept cs ds from rows same h i x e = subst (λ c. Judged x (row_in c)) (sym (same (from + i) (omega arith))) (h i x e)

@@ -9,8 +9,9 @@ use Rattle.area.specs.declared.Cell.{Cell}
 use Rattle.intmap.specs.Signed.{int_of}
 use Rattle.opcode.specs.Opcode.{IsOpcode}
 use Rattle.opcode.specs.P4.{Judges}
-use Rattle.rows.specs.Rows.{Fits, p4_number, p4_at, row_in}
-use Rattle.rows.specs.declared.Row.{Row}
+use Rattle.rows.specs.Parts.{Parts, Fits}
+use Rattle.rows.specs.Rows.{parts, p4_number, p4_at, row_in}
+use Rattle.rows.specs.declared.row.Row.{Row}
 
 -- a row of the listing, its operands given as words
 abbrev pub listed : List ℕ → ℕ → ℕ → ℕ → List ℕ → Listed
@@ -18,8 +19,8 @@ listed op p1 p2 p3 p4 = record { op = op; p1 = int_of p1; p2 = int_of p2; p3 = i
 
 -- what a P4 that is not UTF-8 names is not asked: it is refused
 -- (`written` makes the number that of what it says, so that one judged row stands for each row)
-pub record Judged (x : Listed) (r : Row) : Type 0 where
-  pub fits : Fits r
+pub record JudgedParts (x : Listed) (r : Parts) : Type 0 where
+  pub fits : Fits r.p4 r.p1 r.p2 r.p3
   pub op : IsOpcode (operation_of x.op) r.op
   pub p1 : int_of r.p1 ≡ x.p1
   pub p2 : int_of r.p2 ≡ x.p2
@@ -27,14 +28,13 @@ pub record Judged (x : Listed) (r : Row) : Type 0 where
   pub p4 : Judges (p4_at r.p4) x.p4
   pub written : r.p4 ≡ p4_number (p4_at r.p4)
 
--- a row of the listing is judged to this
-pub record IsRow (r : Row) : Type 0 where
-  pub listed : Listed
-  pub judged : Judged listed r
+-- the same of a row
+abbrev pub Judged : Listed → Row → Type 0
+Judged x r = JudgedParts x (parts r)
 
 -- the cells from `from` on have the listing's rows
 abbrev pub HaveRows : List Cell → ℕ → List Listed → Type 0
-HaveRows cs from rows = (i : ℕ) (x : Listed) → slice_get rows i ≡ Some x → Judged x (row_in (get_or cs (from + i) blank))
+HaveRows cs from rows = (i : ℕ) (x : Listed) → slice_get rows i ≡ Some x → JudgedParts x (row_in (get_or cs (from + i) blank))
 
 -- the n cells from `from` on are there, and have the rows of some listing
 pub record SomeRows (cs : List Cell) (from n : ℕ) : Type 0 where

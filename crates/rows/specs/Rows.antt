@@ -1,7 +1,7 @@
 -- A judged row as a cell of two words: four bytes and an operand in the first, two operands in the second. The bytes are the operation's number,
 -- whether P4 is UTF-8, and the numbers of its function and its aggregate. An operand is a signed number of 32 bits; it stands as a word with an
 -- offset (`Signed`), and in the cell as its distance from the least. Assumes nothing.
-use Rattle.std.specs.Prelude.{Bool, true, false, List, [], ◌∷◌, ℕ, ◌+◌, ◌-◌, ◌*◌, ◌/◌, ◌%◌, ◌≡◌, ◌<◌, ◌≤◌, eqb, get_or, Option, None, Some}
+use Rattle.std.specs.Prelude.{Bool, true, false, [], ◌∷◌, ℕ, ◌+◌, ◌-◌, ◌*◌, ◌/◌, ◌%◌, ◌≡◌, eqb, get_or, Option, None, Some}
 use Rattle.area.specs.Cells.{cell}
 use Rattle.area.specs.declared.Cell.{Cell}
 use Rattle.opcode.specs.declared.FunctionValue.{FunctionValue}
@@ -10,22 +10,12 @@ use Rattle.opcode.specs.declared.Aggregate.{Aggregate}
 use Rattle.opcode.specs.declared.Aggregate.TheVariants as aggregate
 use Rattle.opcode.specs.declared.P4.{P4}
 use Rattle.opcode.specs.Opcode.{number, operation_at}
-use Rattle.rows.specs.declared.Row.{Row}
+use Rattle.rows.specs.Parts.{least, Parts}
+use Rattle.rows.specs.declared.row.Row.{Row}
 
--- the word of −2^31
-abbrev pub least : ℕ
-least = 9223372034707292160
-
--- the word of a signed number of 32 bits
-pub record Operand (w : ℕ) : Type 0 where
-  pub above : least ≤ w
-  pub below : w < least + 4294967296
-
-pub record Fits (r : Row) : Type 0 where
-  pub p4 : r.p4 < 16777216
-  pub p1 : Operand r.p1
-  pub p2 : Operand r.p2
-  pub p3 : Operand r.p3
+-- what a row has, which a cell may have too: the words in any cell are not known to fit
+abbrev pub parts : Row → Parts
+parts r = record { op = r.op; p4 = r.p4; p1 = r.p1; p2 = r.p2; p3 = r.p3 }
 
 -- the numbers of a function, and what a number is read as
 abbrev pub function_number : Option FunctionValue → ℕ
@@ -49,7 +39,7 @@ aggregate_number aggregate.OtherRow = 4
 abbrev pub aggregate_at : ℕ → Aggregate
 aggregate_at n = get_or (aggregate.Operand ∷ aggregate.Integer ∷ aggregate.Real ∷ aggregate.Sum ∷ aggregate.OtherRow ∷ []) n aggregate.Operand
 
--- and of a P4, whose last byte says whether it is UTF-8
+-- and of a P4, whose lowest byte says whether it is UTF-8
 abbrev pub p4_number : Option P4 → ℕ
 p4_number None = 0
 p4_number (Some x) = 1 + 256 * function_number x.function + 65536 * aggregate_number x.aggregate
@@ -61,10 +51,10 @@ p4_if false x = None
 abbrev pub p4_at : ℕ → Option P4
 p4_at n = p4_if (eqb (n % 256) 1) (record { function = function_at (n / 256 % 256); aggregate = aggregate_at (n / 65536 % 256) })
 
-abbrev pub cell_of : Row → Cell
+abbrev pub cell_of : Parts → Cell
 cell_of r = cell (number r.op + 256 * r.p4 + 4294967296 * (r.p1 - least)) (r.p2 - least + 4294967296 * (r.p3 - least))
 
-abbrev pub row_in : Cell → Row
+abbrev pub row_in : Cell → Parts
 row_in c =
     record {
       op = operation_at (c.head % 256);

@@ -3,21 +3,15 @@
 
 ghost use Rattle.std.specs.Prelude.{◌≡◌, ◌+◌, get_or, set};
 ghost use Rattle.area.specs.Cells.{blank, cells, Inside, CellsNow};
-ghost use Rattle.rows.specs.Rows.{Operand, Fits, function_number, function_at, aggregate_at, p4_number, p4_at, cell_of, row_in};
+ghost use Rattle.rows.specs.Parts.{Operand};
+ghost use Rattle.rows.specs.Rows.{parts, function_number, function_at, aggregate_at, p4_number, p4_at, cell_of, row_in};
 ghost use Rattle.rows.specs.Judged.{listed, Judged};
+
+mod row;
 
 use area::Cell;
 use opcode::{Aggregate, FunctionValue, Operation, P4};
-
-// A row whose operation and P4 were judged. P4 stands as in a cell, since most arms never read it; an operand p stands as p + 2^63.
-#[derive(Clone, Copy, Debug, PartialEq, Eq)]
-pub struct Row {
-    pub op: Operation,
-    pub p4: u64,
-    pub p1: u64,
-    pub p2: u64,
-    pub p3: u64,
-}
+pub use row::Row;
 
 impl Row {
     // What P4 says, if it is UTF-8.
@@ -103,8 +97,7 @@ fn unpack_p4(n: u64) -> Option<P4>
 
 // The row in one cell: an operand takes 32 bits, the operation a byte, and P4 three.
 pub fn pack_row(r: Row) -> Cell
-    requires { Fits r }
-    ensures { result ≡ cell_of r }
+    ensures { result ≡ cell_of (parts r) }
 {
     Cell {
         head: r.op as u64 + 256 * r.p4 + 4294967296 * (r.p1 - LEAST),
@@ -114,7 +107,7 @@ pub fn pack_row(r: Row) -> Cell
 
 // The row that a cell has.
 pub fn unpack_row(c: Cell) -> Row
-    ensures { result ≡ row_in c }
+    ensures { parts result ≡ row_in c }
 {
     Row {
         op: Operation::from((c.head % 256) as u8),
@@ -128,15 +121,15 @@ pub fn unpack_row(c: Cell) -> Row
 // Row i of those that begin at the cell `from`.
 pub fn row_at(area: &[u8], from: usize, i: usize) -> Row
     requires { Inside area.now (from + i) 1 }
-    ensures { result ≡ row_in (get_or (cells area.now) (from + i) blank) }
+    ensures { parts result ≡ row_in (get_or (cells area.now) (from + i) blank) }
 {
     unpack_row(area::cell_at(area, from + i))
 }
 
 // Makes r row i of those that begin at the cell `from`.
 pub fn put_row(area: &mut [u8], from: usize, i: usize, r: Row)
-    requires { Inside area.old (from + i) 1 × Fits r }
-    ensures { CellsNow area.old area.new (set (cells area.old) (from + i) (cell_of r)) }
+    requires { Inside area.old (from + i) 1 }
+    ensures { CellsNow area.old area.new (set (cells area.old) (from + i) (cell_of (parts r))) }
 {
     area::put_cell(area, from + i, pack_row(r));
 }

@@ -2,21 +2,40 @@
 -- which is the invariant of a loop. Assumes nothing.
 use Rattle.refusal.specs.declared.Refusal.{Refusal}
 use Rattle.std.specs.Prelude.{Ok, Err}
-use Rattle.intmap.specs.Store.{Stored}
+use Rattle.intmap.specs.Store.{Stored, stored_of, Stores}
 use mathlib.Core.Path.{◌≡◌, refl, sym, ap, subst, ◌∙◌}
 use mathlib.Core.List.{List}
-use Prim.Native.Nat.{ℕ, ◌+◌, ◌≤◌}
+use Prim.Native.Nat.{ℕ, ◌+◌, ◌≤◌, ◌<◌}
 use native.Mathlib.Omega.{arith}
+use lib.ListN.{length, get_or, set, length-set}
+use lib.Seq.{get_or-set_other}
+use Rattle.refusal.specs.Numbers.{number_of}
 use Rattle.model.specs.Walk.{Tried, done}
 use Rattle.model.specs.State.{MemoryState}
 use Rattle.model.specs.Access.{◌>>=◌}
 use Rattle.area.specs.declared.Cell.{Cell}
-use Rattle.intmap.specs.Map.{IsMap, Frame}
+use Rattle.area.specs.Cells.{blank}
+use Rattle.intmap.specs.Map.{Frame, runs_at, levels}
 use Rattle.intmap.specs.declared.IntMap.{IntMap}
+use Rattle.intmap.specs.Runs.{size}
 use Rattle.intmap.proofs.StoreLaws.{room_map, frame_same}
+use Rattle.intmap.proofs.RunLaws.{size-pos}
+use Rattle.encoding.proofs.HeldAfter.{Carried}
 use Rattle.state.specs.Leads.{Held, Current, HoldsMap, Tells, Leaves, operands, Leads}
 
 -- ---- frames
+
+-- nothing has changed
+pub unchanged : (cs : List Cell) (base n : ℕ) → Frame cs cs base n
+unchanged cs base n = record { long = refl; below = λ j h. refl; above = λ j h. refl }
+
+pub frame-set : (cs ds : List Cell) (p : ℕ) (c : Cell) → ds ≡ set cs p c → Frame cs ds p 1
+frame-set cs ds p c e =
+    record {
+      long = ap length e ∙ length-set cs p c;
+      below = λ j lt. ap (λ l. get_or l j blank) e ∙ get_or-set_other cs p j c blank (omega arith);
+      above = λ j le. ap (λ l. get_or l j blank) e ∙ get_or-set_other cs p j c blank (omega arith);
+    }
 
 pub frame-within : (cs ds : List Cell) (inner few base n : ℕ) → base ≤ inner → inner + few ≤ base + n → Frame cs ds inner few → Frame cs ds base n
 frame-within cs ds inner few base n low high f = record { long = f.long; below = λ j lt. f.below j (omega arith); above = λ j le. f.above j (omega arith) }
@@ -24,6 +43,17 @@ frame-within cs ds inner few base n low high f = record { long = f.long; below =
 pub frame_then : (cs ds es : List Cell) (base n : ℕ) → Frame cs ds base n → Frame ds es base n → Frame cs es base n
 frame_then cs ds es base n f g =
     record { long = g.long ∙ f.long; below = λ j lt. g.below j lt ∙ f.below j lt; above = λ j le. g.above j le ∙ f.above j le }
+
+-- ---- a store
+
+-- an answer in runs is the definition's
+pub tells_stored : (limit bound : ℕ) (ds : List Cell) (a : IntMap) (r : Stored) (t : Tried MemoryState) → Carried limit bound (stored_of ds r) t → Leaves limit ds a r → Tells limit bound ds r t
+tells_stored limit bound ds a (Err n) t c l = c.refuses (number_of n) refl
+tells_stored limit bound ds a (Ok b) t c l = c.next ds b.base b.len b.used (runs_at ds b) refl refl l.room.used
+
+pub leaves_stored : (cs ds : List Cell) (limit : ℕ) (a : IntMap) (j depth : ℕ) (run : List Cell) (r : Stored) → Stores cs ds limit a 0 j depth run r → Leaves limit ds a r
+leaves_stored cs ds limit a j depth run (Err n) st = tt
+leaves_stored cs ds limit a j depth run (Ok b) st = record { base = st.leaves.base; room = st.leaves.room }
 
 -- ---- what is held then
 
@@ -43,6 +73,10 @@ led_current {limit} {cs} {ds} {a} current b led =
 
 pub current_held : {limit : ℕ} {cs : List Cell} {a : IntMap} → Current limit cs a → Held cs a
 current_held {limit} current = record { map = room_map current.room; limit = limit; bound = current.bound; large = current.large; fits = current.fits; state = current.state; holds = current.holds }
+
+-- an entry of the map lies in the area
+pub value-within : {limit : ℕ} {cs : List Cell} {a : IntMap} {at : ℕ} → Current limit cs a → at + size cs levels at ≤ a.base + a.used → at < length cs
+value-within {cs = cs} {at = at} current below = omega (arith, below, size-pos cs levels at, current.room.most, current.room.room)
 
 -- ---- where a loop is
 
@@ -126,10 +160,6 @@ module _ {limit : ℕ} {cs ds : List Cell} {a b : IntMap} {whole rest : MemorySt
         frame = r.frame;
       }
 
--- the map that an access leaves
-pub led_map : {limit : ℕ} {cs ds : List Cell} {a : IntMap} {f : MemoryState → Tried MemoryState} (s : Stored) → Leads limit cs ds a s f → (b : IntMap) → s ≡ Ok b → IsMap ds b
-led_map {limit} {ds = ds} {a} s led b e = room_map (subst (Leaves limit ds a) e led.leaves).room
-
 -- ---- two accesses, one after the other
 
 module _ (limit : ℕ) (cs ds : List Cell) (a : IntMap) (f g : MemoryState → Tried MemoryState) (current : Current limit cs a) where
@@ -138,6 +168,3 @@ module _ (limit : ℕ) (cs ds : List Cell) (a : IntMap) (f g : MemoryState → T
 
   pub leads_then : (es : List Cell) (b : IntMap) (r : Stored) → Leads limit cs ds a (Ok b) f → Leads limit ds es b r g → Leads limit cs es a r (λ m. f m >>= g)
   leads_then es b r first second = reached_last (reached_next here ds f g (λ m. refl) (Ok b) first b refl) es r second
-
-  pub leads_stop : (n : Refusal) → Leads limit cs ds a (Err n) f → Leads limit cs ds a (Err n) (λ m. f m >>= g)
-  leads_stop n first = reached_stop here ds f g (λ m. refl) (Err n) first n refl

@@ -1,5 +1,6 @@
 pub mod StoreLeads
 pub mod ReadLaws
 pub mod LeadsLaws
+pub mod ArmLaws
 pub mod OwnLaws
 pub mod OverLaws

@@ -1,10 +1,9 @@
 -- A record put over another where that stands is what an insertion leaves, and a store. Assumes nothing.
-use Rattle.refusal.specs.declared.Refusal.{Refusal}
-use Rattle.std.specs.Prelude.{Ok, Err, Some, Option}
+use Rattle.std.specs.Prelude.{Ok, Some, Option}
 use mathlib.Core.Path.{◌≡◌, refl, sym, ap, subst, ◌∙◌}
-use mathlib.Core.Bool.{Bool, true, false, true≢false}
+use mathlib.Core.Bool.{Bool, true}
 use mathlib.Core.List.{List, ◌∷◌}
-use Prim.Native.Nat.{ℕ, suc, ◌+◌, ◌-◌, ◌≤◌}
+use Prim.Native.Nat.{ℕ, suc, ◌+◌, ◌-◌}
 use native.Mathlib.Omega.{arith}
 use lib.ListN.{get_or}
 use Rattle.model.specs.Walk.{Tried, refused, done}
@@ -17,7 +16,7 @@ use Rattle.intmap.specs.Find.{seek}
 use Rattle.intmap.specs.Get.{index_of, Judges, Index}
 use Rattle.intmap.specs.Map.{levels, IsMap}
 use Rattle.intmap.specs.Over.{Coverable, CopiesOver, Overlaid}
-use Rattle.intmap.specs.Pack.{tag_of, key_of, class_key}
+use Rattle.intmap.specs.Pack.{key_of, class_key}
 use Rattle.intmap.specs.Runs.{size, IsColumn}
 use Rattle.intmap.specs.Signed.{int_of}
 use Rattle.intmap.specs.declared.IntMap.{IntMap}
@@ -28,30 +27,14 @@ use Rattle.intmap.proofs.JudgedLaws.{store_tried}
 use Rattle.intmap.proofs.OverLaws.{overwritten_run}
 use Rattle.intmap.proofs.RunLaws.{size-pos}
 use Rattle.intmap.proofs.StoreLaws.{found_column}
-use Rattle.state.specs.Leads.{Current}
 use Rattle.state.specs.Own.{entry_slot}
-use Rattle.state.specs.Over.{IsHead, headed, OverEntry, OverRegister}
-use Rattle.state.proofs.OwnLaws.{case, entry_led}
-
-pub entry-not : {cs : List Cell} {a : IntMap} {at : ℕ} {c : Cell} {class k : ℕ} {s : Option ℕ} → s ≡ entry_slot cs a class k → (case s ≡ 2 → ⊥) → OverEntry cs cs a at c class k false
-entry-not is other = record { flat = λ e. absurd (true≢false (sym e)); yes = λ e. absurd (true≢false (sym e)); none = λ _ p e k. other (ap case (is ∙ e)); no = λ _. refl }
-
-pub register_not : {cs : List Cell} {a : IntMap} {at : ℕ} {c : Cell} {i : ℕ} → (tag_of c ≡ 2 → ⊥) → OverRegister cs cs a at c i false
-register_not plain = record { flat = λ e. absurd (true≢false (sym e)); yes = λ e. absurd (true≢false (sym e)); none = λ _ k p d e able. plain able.new; no = λ _. refl }
+use Rattle.state.specs.Over.{headed, OverEntry, OverRegister}
+use Rattle.state.proofs.OwnLaws.{entry_led}
 
 -- an index is judged one way
 abbrev judged : Tried ℕ → ℕ
 judged (refused n) = 0
 judged (done k) = suc k
-
-pub register_bad : {cs : List Cell} {a : IntMap} {at : ℕ} {c : Cell} {i : ℕ} {n : Refusal} {x : Index} → Judges i x → x ≡ Err n → OverRegister cs cs a at c i false
-register_bad {x = x} judges xe =
-    record {
-      flat = λ e. absurd (true≢false (sym e));
-      yes = λ e. absurd (true≢false (sym e));
-      none = λ _ k p d e able. (let same = ap judged (sym (ap index_of xe) ∙ judges.answer ∙ d) in omega (arith, same));
-      no = λ _. refl;
-    }
 
 -- the entry that was found
 module _ (cs : List Cell) (a : IntMap) (class k p : ℕ) (s : Option ℕ) (is : s ≡ entry_slot cs a class k) (e : s ≡ Some p) where
@@ -94,11 +77,3 @@ register_over {cs} {ds} {a} {at} {c} {i} {k} {x} judges xe over =
 -- a run with its own head
 pub headed_here : (cs : List Cell) (at : ℕ) (c : Cell) → c ≡ get_or cs at blank → headed cs at c ≡ span cs at (size cs levels at)
 headed_here cs at c ce = ap (λ y. y ∷ span cs (at + 1) (size cs levels at - 1)) ce ∙ opened cs at (size cs levels at) (size-pos cs levels at)
-
--- a head that may stand for the one of an entry of the map
-pub is-head : {limit : ℕ} {cs : List Cell} {a : IntMap} (at : ℕ) (c : Cell) → Current limit cs a → at + size cs levels at ≤ a.base + a.used → tag_of c ≡ tag_of (get_or cs at blank) → c.payload ≡ (get_or cs at blank).payload → IsHead cs at c
-is-head at c current below tag number = record { column = record { fits = omega (arith, below, current.room.most, current.room.room); small = current.room.small }; tag = tag; number = number }
-
--- where nothing was put over another
-pub still_current : {limit : ℕ} {cs es : List Cell} {a : IntMap} (at : ℕ) → es ≡ cs → Current limit cs a → at + size cs levels at ≤ a.base + a.used → Current limit es a × (at + size es levels at ≤ a.base + a.used)
-still_current {limit} {a = a} at same current below = subst (λ l. Current limit l a × (at + size l levels at ≤ a.base + a.used)) (sym same) (current, below)

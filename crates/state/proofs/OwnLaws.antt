@@ -1,7 +1,6 @@
 -- A cell with an entry's key, in cells that hold a state, is the entry: what is read there is what `get` reads, and a store over it is the store of
 -- its class and index. Assumes nothing.
-use Rattle.std.proofs.lemmas.Option.{none-some, same_Some}
-use Rattle.refusal.specs.declared.Refusal.{Refusal}
+use Rattle.std.proofs.lemmas.Option.{same_Some}
 use Rattle.std.specs.Prelude.{Ok, Err, Some, None, Option, Result}
 use mathlib.Core.Path.{◌≡◌, refl, sym, ap, ap₂, subst, ◌∙◌}
 use mathlib.Core.Logic.{◌⊎◌, inl, inr}
@@ -33,10 +32,15 @@ use Rattle.intmap.proofs.GetLaws.{get_absent, get_at}
 use Rattle.intmap.proofs.JudgedLaws.{store_tried}
 use Rattle.intmap.proofs.Overwritten.{alike, alike_room, overwritten}
 use Rattle.intmap.proofs.PackLaws.{keyed_tag, keyed_key}
-use Rattle.encoding.proofs.Places.{sizes-many, held_place}
+use Rattle.intmap.proofs.EntryLaws.{entries_few}
+use Rattle.encoding.proofs.Places.{held_place}
 use Rattle.state.specs.Leads.{HoldsMap, Leaves, Held, Leads}
-use Rattle.state.specs.Own.{found_slot, entry_slot, is_at, is_flat, HeldAmong, KeyAt, Guesses, FlatSize, Reaches, EntryBelow, Belongs, Locates, HasKey, Own, PutsPlain, OverwritesOwn, StoresCell, WritesNear, LeadsNear, GetsNear, EntryNear, Overwrites}
+use Rattle.state.specs.Own.{found_slot, entry_slot, is_at, is_flat, HeldAmong, KeyAt, Guesses, FlatSize, Reaches, EntryBelow, Belongs, Locates, HasKey, Own, PutsPlain, OverwritesOwn, StoresCell, WritesNear, LeadsNear, GetsNear, EntryNear, Overwrites, index_slot}
 use Rattle.state.proofs.StoreLeads.{wider}
+use Rattle.refusal.specs.Numbers.{number_of}
+use Rattle.model.specs.Access.{index}
+use Rattle.intmap.specs.Signed.{int_of}
+use Rattle.refusal.specs.declared.Refusal.{Refusal}
 
 -- what the tests of a cell tell
 module _ (cs : List Cell) (end key p : ℕ) where
@@ -63,21 +67,11 @@ module _ (cs : List Cell) (end key p : ℕ) where
 pub guess_at : {cs : List Cell} {base end key p : ℕ} → KeyAt cs base end key p → Guesses cs base end key (Some p)
 guess_at {cs} {base} {end} {key} {p} k = record { is = λ q e. subst (KeyAt cs base end key) (same_Some p q e) k }
 
-pub guess_none : {cs : List Cell} {base end key : ℕ} → Guesses cs base end key None
-guess_none = record { is = λ q e. absurd (none-some q e) }
-
 pub guessed : (cs : List Cell) (end key p base : ℕ) → base ≤ p → is_at cs end key p ≡ true → Guesses cs base end key (Some p)
 guessed cs end key p base low e = guess_at (key_told cs end key p base low e)
 
 pub has_key : (cs : List Cell) (a : IntMap) (key p : ℕ) → a.base ≤ p → is_at cs (a.base + a.used) key p ≡ true → HasKey cs a key p
 has_key cs a key p low e = record { low = low; inside = (told_key cs (a.base + a.used) key p e).0; is = (told_key cs (a.base + a.used) key p e).1 }
-
--- so is one whose cell was read
-pub guessed_here : {cs : List Cell} {base end key p : ℕ} → base ≤ p → p < end → (c : Cell) → c ≡ get_or cs p blank → (k : ℕ) → k ≡ key_of c → k ≡ key → Guesses cs base end key (Some p)
-guessed_here low lt c ce k ke is = guess_at (record { low = low; inside = lt; is = ap key_of (sym ce) ∙ sym ke ∙ is })
-
-pub held-among : {cs : List Cell} {a : IntMap} → Held cs a → HeldAmong cs a.base (a.base + a.used)
-held-among {a = a} held = record { map = a; held = held; first = refl; ordered = omega arith; last = omega arith }
 
 -- ---- entries in the order of their keys
 
@@ -86,15 +80,12 @@ flat_least : (cs : List Cell) (p n : ℕ) → FlatSize (get_or cs p blank) n →
 flat_least cs p n flat = go (ℕ_discrete (tag_of (get_or cs p blank)) 2)
   where
     go : Dec (tag_of (get_or cs p blank) ≡ 2) → n ≤ size cs levels p
-    go (yes t) = omega (arith, flat.most.0 t, size_record cs 9 p (get_or cs p blank) refl (omega arith) t, sizes-many cs 8 (get_or cs p blank).payload (p + 1))
+    go (yes t) = omega (arith, flat.most.0 t, size_record cs 9 p (get_or cs p blank) refl (omega arith) t, entries_few cs 8 (get_or cs p blank).payload (p + 1))
     go (no t) = omega (arith, flat.most.1 t, size-pos cs levels p)
 
 module _ {cs : List Cell} {base end : ℕ} (h : HeldAmong cs base end) where
   pub among_inside : (end ≤ length cs) × (length cs ≤ 1048576)
   among_inside = (omega (arith, h.last, h.held.map.inside), h.held.map.small)
-
-  pub among_to : (at : ℕ) → base ≤ at → at < end → HeldAmong cs base (at + 1)
-  among_to at from to = record { map = h.map; held = h.held; first = h.first; ordered = omega (arith, from); last = omega (arith, to, h.last) }
 
   abbrev sought : ℕ → Found
   sought p = seek cs levels (key_of (get_or cs p blank)) h.map.len h.map.base
@@ -150,24 +141,9 @@ module _ {cs : List Cell} {base end : ℕ} (h : HeldAmong cs base end) where
 pub record NoneFrom (cs : List Cell) (p at : ℕ) : Type 0 where
   pub none : (q : ℕ) → p ≤ q → q ≤ at → key_of (get_or cs q blank) < 65536
 
--- what the test of the cell at p tells, where none begins behind it
-module _ {cs : List Cell} {p at : ℕ} (c : Cell) (ce : c ≡ get_or cs p blank) (b : Bool) (be : b ≡ leb 65536 (key_of c)) (behind : (q : ℕ) → p < q → q ≤ at → key_of (get_or cs q blank) < 65536) where
-  pub none_there : b ≡ false → NoneFrom cs p at
-  none_there f = record { none = λ q ge le. go q ge le (ltb p q) refl }
-    where
-      go : (q : ℕ) → p ≤ q → q ≤ at → (t : Bool) → ltb p q ≡ t → key_of (get_or cs q blank) < 65536
-      go q ge le true e = behind q (ltb-true p q e) le
-      go q ge le false e = subst (λ z. key_of (get_or cs z blank) < 65536) (omega (arith, ge, ltb-false p q e)) (subst (λ y. key_of y < 65536) ce (leb-false 65536 (key_of c) (sym be ∙ f)))
-
-  pub below_there : {low : ℕ} → low ≤ p → p ≤ at → b ≡ true → EntryBelow cs low at p
-  below_there low high t = record { low = low; high = high; begins = λ _. subst (λ y. 65536 ≤ key_of y) ce (leb-true 65536 (key_of c) (sym be ∙ t)); last = behind }
-
 -- of a head that reaches to `at` and `low` the one behind
 pub below_at : {cs : List Cell} {low at p r : ℕ} → low ≤ r → r ≤ at → p ≤ r → (low < r → p ≡ r) → (65536 ≤ key_of (get_or cs p blank)) × ((q : ℕ) → p < q → q ≤ at → key_of (get_or cs q blank) < 65536) → EntryBelow cs low at r
 below_at {cs = cs} low high up same it = record { low = low; high = high; begins = λ lt. subst (λ q. 65536 ≤ key_of (get_or cs q blank)) (same lt) it.0; last = λ q gt to. it.1 q (omega (arith, gt, up)) to }
-
-pub below_last : {cs : List Cell} {low at p : ℕ} → low ≤ at → p ≤ low → NoneFrom cs p at → EntryBelow cs low at low
-below_last ordered le n = record { low = omega arith; high = ordered; begins = λ lt. absurd (omega (arith, lt)); last = λ q lt to. n.none q (omega (arith, le, lt)) to }
 
 -- a head reaches to `at`
 pub reached_to : {cs : List Cell} {base at p : ℕ} → HeldAmong cs base (at + 1) → base ≤ p → p ≤ at → (c : Cell) → c ≡ get_or cs p blank → Reaches c (at - p) → (65536 ≤ key_of (get_or cs p blank)) × ((q : ℕ) → p < q → q ≤ at → key_of (get_or cs q blank) < 65536)
@@ -240,12 +216,6 @@ guess_locates {cs} {base} {end} {key} {p} g e = record { is = λ q f. subst (Key
 pub located_here : {cs : List Cell} {base end key p : ℕ} → base ≤ p → is_at cs end key p ≡ true → Locates cs base end key (Ok p)
 located_here {cs} {base} {end} {key} {p} low e = guess_locates (guess_at (key_told cs end key p base low e)) refl
 
-pub located_new : {cs : List Cell} {base end key p : ℕ} → Belongs cs base end key p → is_at cs end key p ≡ false → Locates cs base end key (Err p)
-located_new {cs} {base} {end} {key} {p} b absent = record { is = λ q f. absurd (cc f); new = λ q f. subst (λ z. Belongs cs base end key z × (is_at cs end key z ≡ false)) (same_place f) (b, absent) }
-  where
-    same_place : {q : ℕ} → ◌≡◌ {A = Result ℕ ℕ} (Err p) (Err q) → p ≡ q
-    same_place f = cc
-
 pub located_key : {cs : List Cell} {a : IntMap} {key p : ℕ} {r : Result ℕ ℕ} → Locates cs a.base (a.base + a.used) key r → r ≡ Ok p → HasKey cs a key p
 located_key {p = p} l e = let k = l.is p e in record { low = k.low; inside = k.inside; is = k.is }
 
@@ -315,6 +285,15 @@ entry_led cs a class k p e = go (seek cs levels (class_key class k) a.len a.base
     go false h s = absurd (omega (arith, ap case s))
 
 -- by its index
+module _ (cs : List Cell) (a : IntMap) (class i : ℕ) (x : Index) (judged : Judges i x) where
+  pub judged_bad : (n : Refusal) → x ≡ Err n → refused (number_of n) ≡ index_slot cs a class (index (int_of i))
+  unfolding index_slot
+  judged_bad n e = ap (index_slot cs a class) (subst (λ y. index_of y ≡ index (int_of i)) e judged.answer)
+
+  pub judged_at : (k : ℕ) → x ≡ Ok k → (s : Option ℕ) → s ≡ entry_slot cs a class k → done s ≡ index_slot cs a class (index (int_of i))
+  unfolding index_slot
+  judged_at k e s is = ap done is ∙ ap (index_slot cs a class) (subst (λ y. index_of y ≡ index (int_of i)) e judged.answer)
+
 pub entry_gets : (cs : List Cell) (a : IntMap) (class i k : ℕ) (x : Index) → Judges i x → IsMap cs a → x ≡ Ok k → (r : Option ℕ) → r ≡ entry_slot cs a class k → Gets cs a class i (Ok r)
 unfolding entry_slot
 entry_gets cs a class i k x judges is xe r re = subst (λ o. Gets cs a class i (Ok o)) (sym re) (go (seek cs levels (class_key class k) a.len a.base) refl)
@@ -364,25 +343,9 @@ module _ {cs : List Cell} {a : IntMap} {class i p : ℕ} (own : Own cs a class i
         }
 
 -- at a place that was asked for
-abbrev Answers : Tried ℕ → Type 0
-Answers (refused n) = ⊥
-Answers (done k) = Unit {0}
-
 abbrev answer : ℕ → Tried ℕ → ℕ
 answer k (refused n) = k
 answer k (done j) = j
-
--- what the test of a cell that is to be written over tells
-module _ {cs : List Cell} {p key : ℕ} {c : Cell} (d : Cell) (de : d ≡ get_or cs p blank) (tag : ℕ) (te : tag ≡ tag_of d) where
-  pub puts_not : tag ≡ 2 → PutsPlain cs cs p key c false
-  puts_not is = record { yes = λ e. absurd (true≢false (sym e)); no = λ _. (ap tag_of (sym de) ∙ sym te ∙ is, refl) }
-
-  pub puts_it : {ds : List Cell} → (tag ≡ 2 → ⊥) → (x : Cell) → x ≡ with_key key c → ds ≡ set cs p x → PutsPlain cs ds p key c true
-  puts_it plain x xe e = record { yes = λ _. (λ is. plain (te ∙ ap tag_of de ∙ is), e ∙ ap (set cs p) xe); no = λ e. absurd (true≢false e) }
-
--- why a cell is not an index's own
-pub bad_own : {cs : List Cell} {a : IntMap} {class i : ℕ} {x : Index} → Judges i x → (n : Refusal) → x ≡ Err n → (p : ℕ) → Own cs a class i p → ⊥
-bad_own judges n e p own = subst Answers (sym own.judged ∙ sym judges.answer ∙ ap index_of e) tt
 
 pub overwrites_bad : {cs : List Cell} {a : IntMap} {p i : ℕ} (c : Cell) → (Own cs a 0 i p → ⊥) → Overwrites cs cs a p i c false
 overwrites_bad c none = record { own = λ own. absurd (none own); inside = λ e. absurd (true≢false (sym e)); yes = λ e. absurd (true≢false (sym e)); no = λ e. refl }
@@ -440,9 +403,6 @@ overwrites_at judges xe ke has plain o =
     let it = its_overwritten judges xe ke has plain o in
     record { own = it.1; inside = it.0; yes = put_stored judges xe ke has plain o; no = λ e. (o.no e).1 }
 
-pub near_not : {cs : List Cell} {base end i : ℕ} {c : Cell} → WritesNear cs cs base end i c false
-near_not = record { yes = λ e. absurd (true≢false (sym e)); no = λ _. refl }
-
 pub near_written : {cs ds : List Cell} {base end i k key p : ℕ} {x : Index} {c : Cell} {r : Bool} → Judges i x → x ≡ Ok k → key ≡ class_key 0 k → {g : Option ℕ} → Guesses cs base end key g → g ≡ Some p → (tag_of c ≡ 2 → ⊥) → PutsPlain cs ds p key c r → WritesNear cs ds base end i c r
 near_written {p = p} judges xe ke guess e plain o =
     let k = guess.is p e in
@@ -470,9 +430,6 @@ entry_near {cs} {class = class} {k} {key} ke g =
       is = λ p e a first last held. (let at = g.is p e in entry_hinted cs a class k key ke held p (record { low = omega (arith, first, at.low); inside = omega (arith, last, at.inside); is = at.is }));
     }
 
-pub gets_nowhere : {cs : List Cell} {base end i : ℕ} → GetsNear cs base end i None
-gets_nowhere = record { inside = λ p e. absurd (none-some p e); is = λ p e. absurd (none-some p e) }
-
 -- by the map
 pub map_stored : (limit : ℕ) (cs ds : List Cell) (a : IntMap) (class i : ℕ) (c : Cell) (r : Stored) → Stores cs ds limit a class i 0 (c ∷ []) r → StoresCell limit cs ds a class i c r
 map_stored limit cs ds a class i c r st = record { says = λ bound m h. st; leaves = left r st; frame = st.frame }
@@ -480,17 +437,6 @@ map_stored limit cs ds a class i c r st = record { says = λ bound m h. st; leav
     left : (r : Stored) → Stores cs ds limit a class i 0 (c ∷ []) r → Leaves limit ds a r
     left (Err n) st = tt
     left (Ok b) st = record { base = st.leaves.base; room = st.leaves.room }
-
--- where nothing was written over
-module _ {cs es : List Cell} (same : es ≡ cs) {limit : ℕ} {a : IntMap} where
-  pub still_room : HasRoom cs limit a → HasRoom es limit a
-  still_room room = subst (λ l. HasRoom l limit a) (sym same) room
-
-  pub stored_then : {ds : List Cell} {class i : ℕ} {c : Cell} {r : Stored} → StoresCell limit es ds a class i c r → StoresCell limit cs ds a class i c r
-  stored_then {ds} {class} {i} {c} {r} st = subst (λ l. StoresCell limit l ds a class i c r) same st
-
-pub still_held : {cs es : List Cell} → es ≡ cs → {a : IntMap} → Held cs a → Held es a
-still_held same {a} held = subst (λ l. Held l a) (sym same) held
 
 -- the cell c under a key, where that belongs
 pub keyed_new : {cs : List Cell} {a : IntMap} {key p : ℕ} → NewAt cs a key p → (c x : Cell) → x ≡ with_key key c → (tag_of c ≡ 2 → ⊥) → (tag_of x ≡ 2 → ⊥) × NewAt cs a (key_of x) p
@@ -505,11 +451,3 @@ key_as cs a key k w e f = f ∙ ap (λ n. seek cs levels n a.len a.base) e
 
 pub near_leads : {cs ds : List Cell} {base end i : ℕ} {c : Cell} {r : Bool} {f : ℕ → MemoryState → Tried MemoryState} → WritesNear cs ds base end i c r → ((a : IntMap) (limit : ℕ) → Stores cs ds limit a 0 i 0 (c ∷ []) (Ok a) → Leads limit cs ds a (Ok a) (f limit)) → LeadsNear cs ds base end f r
 near_leads w leads = record { yes = λ e a first last limit current. cell_leads (w.yes e a first last limit current.room) (leads a limit); no = w.no }
-
--- a search passes over few tries
-pub passed_few : {key : ℕ} (r : ℕ) → (key < 131072 → r ≡ 0) × (131072 ≤ key → r ≡ 7) → r ≤ 7
-passed_few {key} r told = go (ltb key 131072) refl
-  where
-    go : (b : Bool) → ltb key 131072 ≡ b → r ≤ 7
-    go true e = omega (arith, told.0 (ltb-true key 131072 e))
-    go false e = omega (arith, told.1 (ltb-false key 131072 e))

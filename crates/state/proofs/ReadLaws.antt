@@ -2,15 +2,13 @@
 use Rattle.refusal.specs.Numbers.{number_of}
 use Rattle.refusal.specs.declared.Refusal.{Refusal}
 use mathlib.Core.Path.{◌≡◌, sym, ap, ap₂, subst, ◌∙◌}
-use mathlib.Core.Bool.{Bool, true, false}
 use Rattle.std.specs.Prelude.{Option, None, Some, Ok, Err}
 use mathlib.Core.List.{List, [], ◌∷◌}
-use Prim.Native.Nat.{ℕ, zero, suc, ◌+◌, ◌-◌, ◌<◌, ◌≤◌}
+use Prim.Native.Nat.{ℕ, ◌+◌, ◌-◌, ◌<◌, ◌≤◌}
 use native.Mathlib.Omega.{arith}
 use lib.ListN.{length, get_or}
 use borrow.Author.Tests.{eq-eqb, ne_eqb}
-use Rattle.type_info.specs.declared.DataType.{DataType}
-use Rattle.type_info.specs.declared.DataType.TheVariants.{Null, Integer, Float, Text, Blob, Numeric, Bool as Boolean, Int4, Date, Time, Datetime}
+use Rattle.type_info.specs.declared.DataType.TheVariants.{Null}
 use Rattle.model.specs.Walk.{Tried, done}
 use Rattle.model.specs.State.{Single, Record, RegDataType, Column, Int, datatype_code}
 use Rattle.model.specs.Offer.{turns}
@@ -24,7 +22,7 @@ use Rattle.intmap.specs.Signed.{Small, int_of, word_of}
 use Rattle.intmap.specs.Map.{levels}
 use Rattle.intmap.specs.Get.{Gets, Slot}
 use Rattle.intmap.specs.declared.IntMap.{IntMap}
-use Rattle.intmap.proofs.EntryLaws.{length-span}
+use Rattle.intmap.proofs.EntryLaws.{length-span, opened}
 use Rattle.intmap.proofs.PackLaws.{head_tag, head_kind, head_nullable}
 use Rattle.intmap.proofs.RunLaws.{size-pos}
 use Rattle.intmap.proofs.SignedLaws.{int_word}
@@ -36,10 +34,11 @@ use Rattle.encoding.proofs.HeldRead.{told_register}
 use Rattle.state.specs.Reads.{register_in, TellsRegister, Reads}
 use Rattle.state.specs.declared.Register.{Register}
 use Rattle.state.specs.declared.Register.TheVariants as register
+use Rattle.encoding.specs.Decode.{datatype_in, nullable_in, datatypes, nullables}
 
 -- the three tags
 module _ (c : Cell) (at : ℕ) where
-  pub in_single : tag_of c ≡ 1 → register.Single (kind_of c) (nullable_of c) ≡ register_in c at
+  pub in_single : tag_of c ≡ 1 → register.Single (datatype_in c) (nullable_in c) ≡ register_in c at
   unfolding register_in
   in_single t = rw (eq-eqb (tag_of c) 1 t)
 
@@ -51,24 +50,6 @@ module _ (c : Cell) (at : ℕ) where
   unfolding register_in
   in_int s t = rw (ne_eqb (tag_of c) 1 s, ne_eqb (tag_of c) 2 t)
 
-code_below : (d : DataType) → datatype_code d < 11
-code_below Null = omega arith
-code_below Integer = omega arith
-code_below Float = omega arith
-code_below Text = omega arith
-code_below Blob = omega arith
-code_below Numeric = omega arith
-code_below Boolean = omega arith
-code_below Int4 = omega arith
-code_below Date = omega arith
-code_below Time = omega arith
-code_below Datetime = omega arith
-
-nullable_below : (n : Option Bool) → nullable_code n < 3
-nullable_below None = omega arith
-nullable_below (Some false) = omega arith
-nullable_below (Some true) = omega arith
-
 -- the cell c, with the rest behind it, is the run of v, which stands at `at`
 module _ (bound : ℕ) (cs : List Cell) (a : IntMap) (c : Cell) (rest : List Cell) (key at : ℕ) (t : Tried (Option RegDataType)) (most : bound ≤ 9223372036854775808) where
   pub value_told : (v : RegDataType) → c ∷ rest ≡ run_register key v → SmallRegister bound v → t ≡ done (Some v) → Stands cs at (run_register key v) → a.base ≤ at → at + length (run_register key v) ≤ a.base + a.used → TellsRegister bound cs a (Ok (Some (register_in c at))) t
@@ -76,14 +57,9 @@ module _ (bound : ℕ) (cs : List Cell) (a : IntMap) (c : Cell) (rest : List Cel
   value_told (Column (Single d n)) e s answer stands above below =
       let h = (first-is c (single (datatype_code d) (nullable_code n) key) rest [] e).0 in
       let tag : tag_of c ≡ 1 = ap (λ x. tag_of (cell x 0)) h ∙ head_tag 1 (datatype_code d) (nullable_code n) key (omega arith) in
-      let kind : kind_of c ≡ datatype_code d = ap (λ x. kind_of (cell x 0)) h ∙ head_kind 1 (datatype_code d) (nullable_code n) key (omega arith) (code_small d) in
-      let nullable : nullable_of c ≡ nullable_code n = ap (λ x. nullable_of (cell x 0)) h ∙ head_nullable 1 (datatype_code d) (nullable_code n) key (omega arith) (code_small d) (nullable_small n) in
-      subst (λ r. TellsRegister bound cs a (Ok (Some r)) t) (ap₂ register.Single (sym kind) (sym nullable) ∙ in_single c at tag)
-      (record {
-        answer = answer ∙ ap₂ (λ x y. done (Some (Column (Single x y)))) (sym (datatype_coded d)) (sym (nullable_coded n));
-        kind_small = code_below d;
-        nullable_small = nullable_below n;
-      })
+      let kind : datatype_in c ≡ d = ap (λ k. get_or datatypes k Null) (ap (λ x. kind_of (cell x 0)) h ∙ head_kind 1 (datatype_code d) (nullable_code n) key (omega arith) (code_small d)) ∙ datatype_coded d in
+      let nullable : nullable_in c ≡ n = ap (λ k. get_or nullables k None) (ap (λ x. nullable_of (cell x 0)) h ∙ head_nullable 1 (datatype_code d) (nullable_code n) key (omega arith) (code_small d) (nullable_small n)) ∙ nullable_coded n in
+      subst (λ r. TellsRegister bound cs a (Ok (Some r)) t) (ap₂ register.Single (sym kind) (sym nullable) ∙ in_single c at tag) answer
   value_told (Column (Record x)) e s answer stands above below =
       let h = (first-is c _ rest (run_columns x) e).0 in
       subst (λ r. TellsRegister bound cs a (Ok (Some r)) t) (in_record c at (omega (arith, h)))
@@ -110,11 +86,6 @@ module _ (cs : List Cell) (a : IntMap) (i : ℕ) (x : Slot) (g : Gets cs a 0 i x
     pub read_within : p < a.base + a.used
     read_within = omega (arith, there.place.1, size-pos cs levels p)
 
-    opened : (n : ℕ) → 0 < n → get_or cs p blank ∷ span cs (p + 1) (n - 1) ≡ span cs p n
-    unfolding span
-    opened zero h = absurd (omega arith)
-    opened (suc n) h = let z : suc n - 1 ≡ n = omega arith in rw z
-
     pub read_at : (c : Cell) (r : Register) → c ≡ get_or cs p blank → r ≡ register_in c p → Reads cs a i (Ok (Some r))
     read_at c r ce re =
         record {
@@ -123,6 +94,6 @@ module _ (cs : List Cell) (a : IntMap) (i : ℕ) (x : Slot) (g : Gets cs a 0 i x
               let long : size cs levels p ≡ length (run_register (class_key 0 (turns (int_of i))) v.value) = sym (length-span cs p (size cs levels p)) ∙ ap length v.is in
               subst (λ y. TellsRegister bound cs a (Ok (Some y)) (read_register (int_of i) m)) (sym re)
               (value_told bound cs a c (span cs (p + 1) (size cs levels p - 1)) (class_key 0 (turns (int_of i))) p (read_register (int_of i) m) (omega (arith, h.small.bounded)) v.value
-              (ap (λ y. y ∷ span cs (p + 1) (size cs levels p - 1)) ce ∙ opened (size cs levels p) (size-pos cs levels p) ∙ v.is) v.has.1 v.answer
+              (ap (λ y. y ∷ span cs (p + 1) (size cs levels p - 1)) ce ∙ opened cs p (size cs levels p) (size-pos cs levels p) ∙ v.is) v.has.1 v.answer
               (ap (span cs p) (sym long) ∙ v.is) there.place.0 (omega (arith, long, there.place.1))));
         }

@@ -1,12 +1,11 @@
 -- A store in the map leads to the definition's store of a register: any run, and the values of one cell. Assumes nothing.
 use Rattle.refusal.specs.Numbers.{number_of}
 use mathlib.Core.Path.{◌≡◌, refl, sym, ap, subst, ◌∙◌}
-use Rattle.std.specs.Prelude.{None, Ok, Err}
+use Rattle.std.specs.Prelude.{Ok, Err, Option}
 use mathlib.Core.List.{List, [], ◌∷◌}
-use Prim.Native.Nat.{ℕ, zero, suc, ◌+◌, ◌<◌, ◌≤◌}
+use Prim.Native.Nat.{ℕ, ◌+◌, ◌≤◌}
 use native.Mathlib.Omega.{arith}
 use Rattle.model.specs.Walk.{Tried}
-use lib.ListN.{get_or}
 use Rattle.type_info.specs.declared.DataType.{DataType}
 use Rattle.model.specs.State.{Single, RegDataType, Column, Int, MemoryState, map_to_columntype, datatype_code}
 use Rattle.model.specs.Cells.{column_depth, register_depth}
@@ -19,12 +18,12 @@ use Rattle.intmap.specs.Signed.{int_of}
 use Rattle.intmap.specs.Store.{store_runs, stored_of, Stores, Stored}
 use Rattle.intmap.specs.declared.IntMap.{IntMap}
 use Rattle.encoding.specs.Encode.{nullable_code, single, run_column, run_register}
-use Rattle.encoding.specs.Decode.{nullables}
 use Rattle.encoding.specs.Holds.{SmallRegister}
 use Rattle.intmap.proofs.SignedLaws.{word_int, small_int}
-use Rattle.rows.specs.Rows.{Operand}
+use Rattle.rows.specs.Parts.{Operand}
 use Rattle.encoding.proofs.HeldAfter.{held_register}
 use Rattle.state.specs.Leads.{Tells, operands, Leads}
+use mathlib.Core.Bool.{Bool}
 
 -- a frame of one room is one of two
 pub wider : (cs ds : List Cell) (base n : ℕ) → Frame cs ds base n → Frame cs ds base (n + n)
@@ -59,18 +58,10 @@ leads_as {limit} {ds} r e l =
 
 -- ---- values of one cell
 
-pub nullable_code_lem : (n : ℕ) → n < 3 → nullable_code (get_or nullables n None) ≡ n
-nullable_code_lem zero h = refl
-nullable_code_lem (suc zero) h = refl
-nullable_code_lem (suc (suc zero)) h = refl
-nullable_code_lem (suc (suc (suc n))) h = absurd (omega arith)
-
 module _ (limit : ℕ) (cs ds : List Cell) (a : IntMap) (i : ℕ) (r : Stored) where
-  pub single_leads : (d : DataType) (n : ℕ) (c : Cell) → n < 3 → c ≡ single (datatype_code d) n 0 → Stores cs ds limit a 0 i 0 (c ∷ []) r → Leads limit cs ds a r (store_register limit (int_of i) (Column (Single d (get_or nullables n None))))
+  pub single_leads : (d : DataType) (n : Option Bool) (c : Cell) → c ≡ single (datatype_code d) (nullable_code n) 0 → Stores cs ds limit a 0 i 0 (c ∷ []) r → Leads limit cs ds a r (store_register limit (int_of i) (Column (Single d n)))
   unfolding run_register run_column register_depth column_depth SortedColumn
-  single_leads d n c small e st =
-      store_leads limit cs ds a i 0 (Column (Single d (get_or nullables n None))) (c ∷ [])
-      (ap (λ x. x ∷ []) (e ∙ ap (λ k. single (datatype_code d) k 0) (sym (nullable_code_lem n small)))) tt (λ bound le. tt) r st
+  single_leads d n c e st = store_leads limit cs ds a i 0 (Column (Single d n)) (c ∷ []) (ap (λ x. x ∷ []) e) tt (λ bound le. tt) r st
 
   pub int_leads : (w : ℕ) → Operand w → Stores cs ds limit a 0 i 0 (cell 3 w ∷ []) r → Leads limit cs ds a r (store_register limit (int_of i) (Int (int_of w)))
   unfolding run_register register_depth SortedColumn

@@ -1,13 +1,14 @@
 -- Where an entry is or belongs, and what tells it at once: a cell of the map with its key, which in cells that hold a state is the entry; what
 -- follows a record of so many columns. And what a store over a register's or cursor's own cell gives. Assumes nothing.
-use Rattle.std.specs.Prelude.{◌≡◌, Bool, true, false, ◌&&◌, List, [], ◌∷◌, ℕ, ◌+◌, ◌-◌, ◌<◌, ◌≤◌, eqb, leb, ltb, get_or, set, Ok, Some, None, Option, Err, Result}
-use Rattle.model.specs.Walk.{Tried, done}
+use Rattle.std.specs.Prelude.{◌≡◌, Bool, true, false, ◌&&◌, List, [], ◌∷◌, ℕ, ◌+◌, ◌<◌, ◌≤◌, eqb, leb, ltb, get_or, set, Ok, Some, None, Option, Err, Result}
+use Rattle.refusal.specs.Numbers.{number_of}
+use Rattle.model.specs.Walk.{Tried, refused, done}
 use Rattle.model.specs.State.{MemoryState}
-use Rattle.model.specs.Access.{index}
+use Rattle.model.specs.Access.{index, ◌>>=◌}
 use Rattle.area.specs.Cells.{blank}
 use Rattle.area.specs.declared.Cell.{Cell}
 use Rattle.intmap.specs.Find.{seek}
-use Rattle.intmap.specs.Get.{Gets}
+use Rattle.intmap.specs.Get.{Gets, Slot}
 use Rattle.intmap.specs.Map.{levels, HasRoom, Frame}
 use Rattle.intmap.specs.Pack.{tag_of, key_of, with_key, class_key}
 use Rattle.intmap.specs.Pick.{pick}
@@ -24,6 +25,20 @@ found_slot w = pick w.present (Some w.at) None
 -- the entry of an index in a class
 unfoldable pub entry_slot : List Cell → IntMap → ℕ → ℕ → Option ℕ
 entry_slot cs a class k = found_slot (seek cs levels (class_key class k) a.len a.base)
+
+-- why an index is refused, or where its entry is
+abbrev pub place_of : Slot → Tried (Option ℕ)
+place_of (Err e) = refused (number_of e)
+place_of (Ok o) = done o
+
+-- the entry of an index that is judged
+unfoldable pub index_slot : List Cell → IntMap → ℕ → Tried ℕ → Tried (Option ℕ)
+index_slot cs a class t = t >>= λ k. done (entry_slot cs a class k)
+
+-- what is there, as the map says it, and where a search leads
+pub record FindsIndex (cs : List Cell) (a : IntMap) (class i : ℕ) (r : Slot) : Type 0 where
+  pub gets : Gets cs a class i r
+  pub place : place_of r ≡ index_slot cs a class (index (int_of i))
 
 -- whether p is before `end` and the cell there has the key
 unfoldable pub is_at : List Cell → ℕ → ℕ → ℕ → Bool

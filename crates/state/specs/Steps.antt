@@ -13,7 +13,7 @@ use Rattle.area.specs.declared.Cell.{Cell}
 use Rattle.intmap.specs.Map.{HasRoom, Frame}
 use Rattle.intmap.specs.Signed.{int_of}
 use Rattle.rows.specs.Judged.{Judged}
-use Rattle.rows.specs.declared.Row.{Row}
+use Rattle.rows.specs.declared.row.Row.{Row}
 use Rattle.state.specs.Leads.{HoldsMap, operands}
 use Rattle.state.specs.declared.MemoryState.{MemoryState}
 

@@ -5,22 +5,24 @@ ghost use Rattle.std.specs.Prelude.{◌≡◌, true, false, ◌+◌, ◌<◌, �
 ghost use Rattle.model.specs.State.{Column, Single, Int, datatype_code};
 ghost use Rattle.model.specs.Access.{store_register};
 ghost use Rattle.area.specs.Cells.{cell, cells, Inside};
-ghost use Rattle.intmap.specs.Get.{Gets};
 ghost use Rattle.intmap.specs.Find.{seek};
 ghost use Rattle.intmap.specs.Map.{levels, IsMap, HasRoom};
-ghost use Rattle.intmap.specs.Pack.{tag_of, class_number, class_key};
+ghost use Rattle.intmap.specs.Pack.{tag_of, with_nullable, class_number, class_key};
 ghost use Rattle.intmap.specs.Signed.{int_of};
-ghost use Rattle.encoding.specs.Encode.{single};
-ghost use Rattle.encoding.specs.Decode.{nullables};
-ghost use Rattle.rows.specs.Rows.{Operand};
+ghost use Rattle.encoding.specs.Encode.{nullable_code, single};
+ghost use Rattle.encoding.specs.Decode.{datatype_in, nullable_in};
+ghost use Rattle.rows.specs.Parts.{Operand};
 ghost use Rattle.state.specs.Leads.{Held, Current, Leads};
-ghost use Rattle.state.specs.Own.{entry_slot, is_at, is_flat, HeldAmong, Guesses, FlatSize, Reaches, EntryBelow, Belongs, Locates, PutsPlain, OverwritesOwn, StoresCell, WritesNear, LeadsNear, GetsNear, EntryNear, FlatBefore, Overwrites};
+ghost use Rattle.state.specs.Own.{entry_slot, is_at, is_flat, HeldAmong, Guesses, FindsIndex, FlatSize, Reaches, EntryBelow, Belongs, Locates, PutsPlain, OverwritesOwn, StoresCell, WritesNear, LeadsNear, GetsNear, EntryNear, FlatBefore, Overwrites};
 ghost use Rattle.state.specs.Over.{IsHead, OverEntry, OverRegister};
 ghost use Rattle.state.specs.Reads.{register_in, Reads};
+
+mod registers;
 
 use area::Cell;
 use intmap::{Class, Found, IntMap};
 use refusal::Refusal;
+pub use registers::Registers;
 use type_info::DataType;
 
 // A state: the map of its registers, cursors and tables, and the next row, where 2^63 stands for row 0. The map first: the machine reads it
@@ -38,20 +40,48 @@ pub struct Ways {
     pub stays: Option<MemoryState>,
 }
 
-// The codes of `nullable`.
-pub const UNKNOWN: u64 = 0;
+// The code of `nullable` in a head: of a column whether it may be null, of a table whether it is empty. Either may be unknown.
+pub fn nullable_code(nullable: Option<bool>) -> u64
+    ensures { result ≡ nullable_code nullable }
+{
+    match nullable {
+        None => 0,
+        Some(false) => 1,
+        Some(true) => 2,
+    }
+}
 
-pub const NEVER: u64 = 1;
+// What a head says of it.
+pub fn nullable_in(head: Cell) -> Option<bool>
+    ensures { result ≡ nullable_in head }
+{
+    match intmap::nullable_of(head) {
+        1 => Some(false),
+        2 => Some(true),
+        _ => None,
+    }
+}
 
-pub const NULLABLE: u64 = 2;
+// The cell with another nullable.
+pub fn with_nullable(c: Cell, nullable: Option<bool>) -> Cell
+    ensures { result ≡ with_nullable (nullable_code nullable) c }
+{
+    intmap::with_nullable(c, nullable_code(nullable))
+}
+
+// The kind that a head says.
+fn datatype_in(head: Cell) -> DataType
+    ensures { result ≡ datatype_in head }
+{
+    DataType::try_from(intmap::kind_of(head)).unwrap_or(DataType::Null)
+}
 
 // A plain column's cell, under key 0.
-pub fn single(d: DataType, nullable: u64) -> Cell
-    requires { nullable < 3 }
-    ensures { result ≡ single (datatype_code d) nullable 0 }
+pub fn single(d: DataType, nullable: Option<bool>) -> Cell
+    ensures { result ≡ single (datatype_code d) (nullable_code nullable) 0 }
 {
     Cell {
-        head: intmap::pack(intmap::SINGLE, d.code(), nullable, 0),
+        head: intmap::pack(intmap::SINGLE, d.code(), nullable_code(nullable), 0),
         payload: 0,
     }
 }
@@ -414,7 +444,7 @@ pub fn place_of(map: IntMap, area: &[u8], class: Class, k: u64) -> Found
 // Where the entry of index i in a class is.
 pub fn get(map: IntMap, area: &[u8], class: Class, i: u64) -> Result<Option<usize>, Refusal>
     requires { Held (cells area.now) map }
-    ensures { Gets (cells area.now) map (class_number class) i result }
+    ensures { FindsIndex (cells area.now) map (class_number class) i result }
 {
     let k = intmap::judge_index(i)?;
     Ok(entry_at(map, area, class, k))
@@ -555,10 +585,10 @@ pub fn single_near(
     end: usize,
     i: u64,
     d: DataType,
-    nullable: u64,
+    nullable: Option<bool>,
 ) -> bool
-    requires { HeldAmong (cells area.old) base end × (nullable < 3) }
-    ensures { LeadsNear (cells area.old) (cells area.new) base end (λ limit. store_register limit (int_of i) (Column (Single d (get_or nullables nullable None)))) result }
+    requires { HeldAmong (cells area.old) base end }
+    ensures { LeadsNear (cells area.old) (cells area.new) base end (λ limit. store_register limit (int_of i) (Column (Single d nullable))) result }
 {
     let c = single(d, nullable);
     write_near(area, base, end, i, c.head, c.payload)
@@ -596,11 +626,11 @@ pub fn store_single(
     area: &mut [u8],
     i: u64,
     d: DataType,
-    nullable: u64,
+    nullable: Option<bool>,
     limit: usize,
 ) -> Result<IntMap, Refusal>
-    requires { Current limit (cells area.old) map × (nullable < 3) }
-    ensures { Leads limit (cells area.old) (cells area.new) map result (store_register limit (int_of i) (Column (Single d (get_or nullables nullable None)))) }
+    requires { Current limit (cells area.old) map }
+    ensures { Leads limit (cells area.old) (cells area.new) map result (store_register limit (int_of i) (Column (Single d nullable))) }
 {
     store_register(map, area, i, single(d, nullable), limit)
 }
@@ -621,10 +651,10 @@ pub fn store_int(
     store_register(map, area, i, Cell { head, payload }, limit)
 }
 
-// What a register holds. A plain column is told by its codes, a record by the place of its run, a known number by its word.
+// What a register holds. A plain column is told by its kind and nullable, a record by the place of its run, a known number by its word.
 #[derive(Clone, Copy)]
 pub enum Register {
-    Single(u64, u64),
+    Single(DataType, Option<bool>),
     Record(usize),
     Int(u64),
 }
@@ -635,7 +665,7 @@ pub fn register_in(c: Cell, at: usize) -> Register
 {
     let tag = intmap::tag_of(c);
     if tag == intmap::SINGLE {
-        return Register::Single(intmap::kind_of(c), intmap::nullable_of(c));
+        return Register::Single(datatype_in(c), nullable_in(c));
     }
     if tag == intmap::RECORD {
         return Register::Record(at);

@@ -5,21 +5,22 @@ use mathlib.Core.Path.{◌≡◌, refl, sym, ap, ap₂, subst, ◌∙◌}
 use mathlib.Core.Bool.{Bool, true, false}
 use Rattle.std.specs.Prelude.{Option, None, Some, Ok, Err}
 use mathlib.Core.List.{List, [], ◌∷◌}
-use Prim.Native.Nat.{ℕ, zero, suc, ◌+◌, ◌-◌, ◌/◌, ◌%◌, ◌<◌, ◌≤◌}
+use Prim.Native.Nat.{ℕ, zero, suc, ◌+◌, ◌-◌, ◌/◌, ◌%◌, ◌≤◌}
 use native.Mathlib.Omega.{arith}
-use lib.ListN.{length, get_or}
-use borrow.Author.Tests.{le-leb}
+use lib.ListN.{get_or}
 use Rattle.model.specs.Walk.{Tried, refused, done}
 use Rattle.model.specs.Row.{Row as Listed}
 use Rattle.model.specs.IntMap.{get}
 use Rattle.model.specs.State.{Single, Record, Columns, RegDataType, Column, Int, Normal, TableDataType, MemoryState, datatype_code, is_zero}
 use Rattle.model.specs.Cells.{column_depth, columns_depth, register_depth}
-use Rattle.model.specs.Access.{◌>>=◌, read_register, read_cursor, store_table, judge_depth, depth_if}
+use Rattle.model.specs.Access.{◌>>=◌, read_register, read_cursor, store_table}
 use Rattle.model.specs.Cursor.{update_cursor_table, set_empty}
 use Rattle.model.specs.CursorArms.{insert_null_if, store_into, insert_record, insert_arm, cursor_arm}
 use Rattle.model.specs.Good.{SortedColumn, GoodRegister}
 use Rattle.model.specs.Meaning.{Meaning}
 use Rattle.model.specs.Operation.{op_insert}
+use Rattle.model.proofs.StoreInPlace.{depth_passes}
+use Rattle.model.proofs.Tried.{done-same}
 use Rattle.area.specs.Cells.{blank}
 use Rattle.area.specs.declared.Cell.{Cell}
 use Rattle.intmap.specs.Change.{on_head, rekey}
@@ -41,38 +42,27 @@ use Rattle.encoding.proofs.HeldRead.{told_register}
 use Rattle.encoding.proofs.Injective.{first-is}
 use Rattle.encoding.proofs.Packing.{code_small}
 use Rattle.rows.specs.Judged.{Judged}
-use Rattle.rows.specs.declared.Row.{Row}
+use Rattle.rows.specs.declared.row.Row.{Row}
 use Rattle.state.specs.Leads.{Current, HoldsMap, Tells, Leaves, Leads}
 use Rattle.state.specs.Arms.{Standard, CursorArm}
-use Rattle.state.specs.Over.{IsHead, headed, OverEntry}
-use Rattle.state.proofs.OverLaws.{is-head}
+use Rattle.state.specs.Over.{headed, OverEntry}
 use Rattle.state.proofs.StoreLeads.{wider}
+use Rattle.state.proofs.LeadsLaws.{unchanged, tells_stored}
 use Rattle.cursor_arms.specs.Behind.{RunBehind}
 use Rattle.cursor_arms.specs.Cursors.{Reading, ReadsCursor}
 use Rattle.cursor_arms.specs.StandsFor.{FindsTable, TellsTable, CursorTableChanged}
 use Rattle.cursor_arms.specs.declared.CursorDataType.{CursorDataType}
 use Rattle.cursor_arms.specs.declared.CursorDataType.TheVariants as cursor
-use Rattle.cursor_arms.proofs.DupLaws.{frame_same}
 use Rattle.cursor_arms.proofs.CursorLaws.{told_some}
-use Rattle.cursor_arms.proofs.StandsLaws.{done-same}
 use Rattle.table_arms.specs.Inserted.{fill_table, StoresTable, InsertsRecord, InsertsFrom}
 
 -- ---- the record as a table
-
-depth_passes : {A : Type 0} (d : ℕ) (v : A) → d ≤ 8 → judge_depth d v ≡ done v
-unfolding judge_depth
-depth_passes d v h = ap (λ t. depth_if t v) (le-leb d 8 h)
 
 as_table : (key : ℕ) (x : Columns) → on_head (with_nullable 1) (run_register key (Column (Record x))) ≡ run_table key (record { cols = x; is_empty = Some false })
 unfolding run_register run_column run_table
 as_table key x = ap (λ c. c ∷ run_columns x) (head_with_nullable 2 0 0 key (omega arith) (omega arith) (omega arith) (count x) 1)
 
--- an answer in runs is the definition's
-tells : (limit bound : ℕ) (ds : List Cell) (a : IntMap) (x : Stored) (t : Tried MemoryState) → Carried limit bound (stored_of ds x) t → Leaves limit ds a x → Tells limit bound ds x t
-tells limit bound ds a (Err e) t c l = c.refuses (number_of e) refl
-tells limit bound ds a (Ok b) t c l = c.next ds b.base b.len b.used (runs_at ds b) refl refl l.room.used
-
-module _ (limit : ℕ) (cs es ds : List Cell) (a : IntMap) (row at n key : ℕ) (within : row ≤ 65535) (ke : key ≡ class_key 2 row) (behind : RunBehind limit cs es a at 1 n) (x : Stored) (st : Inserts es ds limit a (rekey key (span es (a.base + limit) n)) x) where
+module _ (limit : ℕ) (cs es ds : List Cell) (a : IntMap) (row at n key : ℕ) (within : row ≤ 65535) (ke : key ≡ class_key 2 row) (behind : RunBehind limit cs es a at (Some false) n) (x : Stored) (st : Inserts es ds limit a (rekey key (span es (a.base + limit) n)) x) where
   left : (x : Stored) → Inserts es ds limit a (rekey key (span es (a.base + limit) n)) x → Leaves limit ds a x
   left (Err e) st = tt
   left (Ok b) st = record { base = st.leaves.base; room = st.leaves.room }
@@ -89,7 +79,7 @@ module _ (limit : ℕ) (cs es ds : List Cell) (a : IntMap) (row at n key : ℕ) 
             st.answer
             ∙ ap₂ (λ k l. judge_runs limit (put (rekey k l) (runs_at es a))) ke run
             ∙ ap (λ u. u >>= λ v. judge_runs limit (put (rekey (class_key 2 row) v) (runs_at es a))) (sym (depth_passes (columns_depth y) (run_table r.key t) r.depth)) in
-            tells limit bound ds a x (store_table limit row t m) (subst (λ u. Carried limit bound u (store_table limit row t m)) (sym same) c) (left x st));
+            tells_stored limit bound ds a x (store_table limit row t m) (subst (λ u. Carried limit bound u (store_table limit row t m)) (sym same) c) (left x st));
         leaves = left x st;
         frame =
             record {
@@ -98,11 +88,6 @@ module _ (limit : ℕ) (cs es ds : List Cell) (a : IntMap) (row at n key : ℕ) 
               above = λ j le. st.frame.above j (omega arith) ∙ behind.frame.above j (omega arith);
             };
       }
-
--- the record's head as the table's
-pub table-head : {limit : ℕ} {cs : List Cell} {a : IntMap} (at : ℕ) (b c : Cell) → Current limit cs a → at + size cs levels at ≤ a.base + a.used → b ≡ get_or cs at blank → c ≡ with_nullable 1 b → IsHead cs at c
-table-head at b c current below be ce =
-    is-head at c current below (omega (arith, ap (λ (y : Cell). y.head) ce, ap (λ (y : Cell). y.head) be)) (ap (λ (y : Cell). y.payload) ce ∙ ap (λ (y : Cell). y.payload) be)
 
 -- the record put over the table where that stands
 module _ (limit : ℕ) (cs ds : List Cell) (a : IntMap) (row at : ℕ) (within : row ≤ 65535) (room : HasRoom cs limit a) (b c : Cell) (be : b ≡ get_or cs at blank) (ce : c ≡ with_nullable 1 b) (r : Bool) (over : OverEntry cs ds a at c 2 row r) (e : r ≡ true) where
@@ -128,10 +113,6 @@ module _ (limit : ℕ) (cs ds : List Cell) (a : IntMap) (row at : ℕ) (within :
         frame = wider cs ds a.base limit inserted.frame;
       }
 
--- or it was not, and stored from behind the map
-pub stores_then : {limit : ℕ} {cs es ds : List Cell} {a : IntMap} {row at : ℕ} {r : Stored} → es ≡ cs → StoresTable limit es ds a row at r → StoresTable limit cs ds a row at r
-stores_then {limit} {ds = ds} {a} {row} {at} {r} same st = subst (λ l. StoresTable limit l ds a row at r) same st
-
 -- ---- by cursor P1
 
 module _ (limit : ℕ) (cs : List Cell) (a : IntMap) (x : Row) (p : Reading) (reads : ReadsCursor cs a x.p1 p) (current : Current limit cs a) where
@@ -145,7 +126,7 @@ module _ (limit : ℕ) (cs : List Cell) (a : IntMap) (x : Row) (p : Reading) (re
         record {
           says = λ bound m h y r. ap (λ t. t >>= λ c. insert_record limit y c m) ((as_read (Err n) e).says limit bound m h);
           leaves = tt;
-          frame = frame_same cs _ _;
+          frame = unchanged cs _ _;
         }
 
     record_kept : ((bound : ℕ) (m : MemoryState) → HoldsMap limit bound cs a m → (y : Columns) → (read_cursor (int_of x.p1) m >>= λ c. insert_record limit y c m) ≡ done m) → InsertsRecord limit cs cs a x at (Ok a)
@@ -153,7 +134,7 @@ module _ (limit : ℕ) (cs : List Cell) (a : IntMap) (x : Row) (p : Reading) (re
         record {
           says = λ bound m h y r. record { state = m; answer = same bound m h y; holds = h };
           leaves = record { base = refl; room = current.room };
-          frame = frame_same cs _ _;
+          frame = unchanged cs _ _;
         }
 
     pub record_absent : p ≡ (Ok None) → InsertsRecord limit cs cs a x at (Ok a)
@@ -200,7 +181,7 @@ module _ (limit : ℕ) (cs : List Cell) (a : IntMap) (i : ℕ) (p : Reading) (re
       record {
         says = λ bound m le h. ap (λ t. t >>= λ c. done (update_cursor_table (set_empty (Some false)) c m)) ((told (Err n) e).says limit bound m h);
         leaves = tt;
-        frame = frame_same cs _ _;
+        frame = unchanged cs _ _;
       }
 
   pub null_absent : p ≡ Ok None → Leads limit cs cs a (Ok a) (fill_table (int_of i))
@@ -210,7 +191,7 @@ module _ (limit : ℕ) (cs : List Cell) (a : IntMap) (i : ℕ) (p : Reading) (re
         says = λ bound m le h.
             record { state = m; answer = ap (λ t. t >>= λ c. done (update_cursor_table (set_empty (Some false)) c m)) ((told (Ok None) e).says limit bound m h); holds = h };
         leaves = record { base = refl; room = current.room };
-        frame = frame_same cs _ _;
+        frame = unchanged cs _ _;
       }
 
   pub null_changed : (c : CursorDataType) → p ≡ Ok (Some c) → (ds : List Cell) → CursorTableChanged (set_empty (Some false)) cs ds a c → Leads limit cs ds a (Ok a) (fill_table (int_of i))
@@ -257,9 +238,6 @@ not-zero : (n : ℕ) → (n ≡ 0 → ⊥) → is_zero n ≡ false
 not-zero zero h = absurd (h refl)
 not-zero (suc n) h = refl
 
-pub value-within : (limit : ℕ) (cs : List Cell) (a : IntMap) (at : ℕ) → Current limit cs a → at + size cs levels at ≤ a.base + a.used → at < length cs
-value-within limit cs a at current below = omega (arith, below, size-pos cs levels at, current.room.room, current.room.most)
-
 module _ (limit : ℕ) (cs : List Cell) (a : IntMap) (x : Row) (at : ℕ) (current : Current limit cs a) (below : at + size cs levels at ≤ a.base + a.used) (c : Cell) (ce : c ≡ get_or cs at blank) where
   with_head : (run : List Cell) → span cs at (size cs levels at) ≡ run → c ∷ span cs (at + 1) (size cs levels at - 1) ≡ run
   with_head run e = ap (λ y. y ∷ span cs (at + 1) (size cs levels at - 1)) ce ∙ opened cs at (size cs levels at) (size-pos cs levels at) ∙ e
@@ -296,7 +274,7 @@ module _ (limit : ℕ) (cs : List Cell) (a : IntMap) (x : Row) (at : ℕ) (curre
       record {
         says = λ l j bound m le h key v good run. record { state = m; answer = same l m key v run; holds = h };
         leaves = record { base = refl; room = current.room };
-        frame = frame_same cs _ _;
+        frame = unchanged cs _ _;
       }
 
   pub from_kind : tag_of c ≡ 1 → (k : ℕ) → k ≡ kind_of c → (k ≡ 0 → ⊥) → InsertsFrom limit cs cs a x at (Ok a)
@@ -307,9 +285,6 @@ module _ (limit : ℕ) (cs : List Cell) (a : IntMap) (x : Row) (at : ℕ) (curre
   from_number s t = kept (λ l m key v run. is_number c _ key v (with_head _ run) s t limit l m)
 
 -- ---- the arm
-
-pub got_inside : (cs : List Cell) (a : IntMap) (i : ℕ) (s : Slot) → Gets cs a 0 i s → (p : ℕ) → s ≡ Ok (Some p) → (a.base ≤ p) × (p + size cs levels p ≤ a.base + a.used)
-got_inside cs a i s gets p e = (subst (Gets cs a 0 i) e gets).place
 
 module _ (limit : ℕ) (cs : List Cell) (a : IntMap) (x : Row) (current : Current limit cs a) (s : Slot) (gets : Gets cs a 0 x.p2 s) where
   as_got : (q : Slot) → s ≡ q → Gets cs a 0 x.p2 q
@@ -323,38 +298,29 @@ module _ (limit : ℕ) (cs : List Cell) (a : IntMap) (x : Row) (current : Curren
   pub insert_bad : (n : Refusal) → s ≡ Err n → (row : ℕ) → CursorArm limit cs cs a row x op_insert (Err n)
   insert_bad n e row =
       record {
-        leads = λ meaning l st j.
-            record {
-              says = λ bound m le h. sym (insert_is row meaning l st j m (refused (number_of n)) ((told_register h (int_of x.p2)).refuses (number_of n) (sym (as_got (Err n) e).answer)));
-              leaves = tt;
-              frame = frame_same cs _ _;
-            };
+        says = λ meaning l st j bound m le h. sym (insert_is row meaning l st j m (refused (number_of n)) ((told_register h (int_of x.p2)).refuses (number_of n) (sym (as_got (Err n) e).answer)));
+        leaves = tt;
+        frame = unchanged cs _ _;
       }
 
   pub insert_absent : s ≡ (Ok None) → (row : ℕ) → CursorArm limit cs cs a row x op_insert (Ok a)
   unfolding insert_arm
   insert_absent e row =
       record {
-        leads = λ meaning l st j.
-            record {
-              says = λ bound m le h.
-                  record { state = m; answer = sym (insert_is row meaning l st j m (done None) ((told_register h (int_of x.p2)).absent (sym (as_got (Ok None) e).answer))); holds = h };
-              leaves = record { base = refl; room = current.room };
-              frame = frame_same cs _ _;
-            };
+        says = λ meaning l st j bound m le h.
+            record { state = m; answer = sym (insert_is row meaning l st j m (done None) ((told_register h (int_of x.p2)).absent (sym (as_got (Ok None) e).answer))); holds = h };
+        leaves = record { base = refl; room = current.room };
+        frame = unchanged cs _ _;
       }
 
   module _ (p : ℕ) (e : s ≡ Ok (Some p)) where
     pub insert_there : (ds : List Cell) (r : Stored) → InsertsFrom limit cs ds a x p r → (row : ℕ) → CursorArm limit cs ds a row x op_insert r
     insert_there ds r arm row =
         record {
-          leads = λ meaning l st j.
-              record {
-                says = λ bound m le h.
-                    (let v = (told_register h (int_of x.p2)).present (span cs p (size cs levels p)) (sym (as_got (Ok (Some p)) e).answer) in
-                    subst (Tells limit bound ds r) (insert_is row meaning l st j m (done (Some v.value)) v.answer)
-                    (arm.says l j bound m le h _ v.value v.has.0 v.is));
-                leaves = arm.leaves;
-                frame = arm.frame;
-              };
+          says = λ meaning l st j bound m le h.
+              (let v = (told_register h (int_of x.p2)).present (span cs p (size cs levels p)) (sym (as_got (Ok (Some p)) e).answer) in
+              subst (Tells limit bound ds r) (insert_is row meaning l st j m (done (Some v.value)) v.answer)
+              (arm.says l j bound m le h _ v.value v.has.0 v.is));
+          leaves = arm.leaves;
+          frame = arm.frame;
         }

@@ -3,12 +3,11 @@ use Rattle.refusal.specs.Numbers.{number_of}
 use Rattle.refusal.specs.declared.Refusal.{Refusal}
 use Rattle.intmap.specs.Get.{Slot}
 use mathlib.Core.Path.{◌≡◌, refl, sym, ap, ap₂, subst, ◌∙◌}
-use mathlib.Core.Bool.{Bool, true, false}
+use mathlib.Core.Bool.{Bool, true, false, not, true≢false}
 use Rattle.std.specs.Prelude.{Option, Ok, Err, Some, None}
 use mathlib.Core.List.{List}
 use Prim.Native.Nat.{ℕ, zero, suc, ◌+◌, ◌-◌, ◌<◌, ◌≤◌}
 use native.Mathlib.Omega.{arith}
-use native.Mathlib.Decide.{ℕ_discrete}
 use lib.Dec.{eqb}
 use lib.IntN.{ℤ}
 use lib.ListN.{length, get_or, set, length-set}
@@ -23,6 +22,7 @@ use Rattle.model.specs.Cursor.{null_table, null_record, null_columns}
 use Rattle.model.specs.Meaning.{Meaning}
 use Rattle.model.specs.Operation.{op_null_row}
 use Rattle.model.specs.CursorArms.{cursor_arm}
+use Rattle.model.proofs.Tried.{done-same}
 use Rattle.area.specs.Cells.{cell, blank}
 use Rattle.area.specs.declared.Cell.{Cell}
 use Rattle.intmap.specs.Map.{levels, IsMap, HasRoom, Frame}
@@ -33,25 +33,28 @@ use Rattle.intmap.specs.Signed.{int_of}
 use Rattle.intmap.specs.declared.IntMap.{IntMap}
 use Rattle.intmap.proofs.RunLaws.{size-pos, sizes_step}
 use Rattle.intmap.proofs.SameCells.{size_same, sizes_same}
+use Rattle.intmap.proofs.EntryLaws.{entries_few}
 use Rattle.encoding.specs.Heads.{single_nullable, on_heads, null_heads}
 use Rattle.encoding.specs.Holds.{HeldNext}
-use Rattle.encoding.proofs.Accesses.{apart}
 use Rattle.encoding.proofs.BySearch.{search_kept, search_null, search_plain, search_table_kept, search_table_null}
-use Rattle.encoding.proofs.Places.{sizes-many}
 use Rattle.encoding.proofs.Heads.{heads_length, heads_below, heads_above}
 use Rattle.rows.specs.Judged.{Judged}
-use Rattle.rows.specs.declared.Row.{Row}
+use Rattle.rows.specs.declared.row.Row.{Row}
 use Rattle.state.specs.Leads.{Current, HoldsMap}
 use Rattle.state.specs.Arms.{CursorArm}
 use Rattle.cursor_arms.specs.Cursors.{TellsCursor, Reading, TellsReading}
-use Rattle.state.specs.Own.{entry_slot}
-use Rattle.cursor_arms.specs.StandsFor.{place_of, register_slot, head_slot, columns_slot, FindsReading, FindsCursor}
+use Rattle.state.specs.Own.{entry_slot, place_of, index_slot}
+use Rattle.cursor_arms.specs.StandsFor.{head_slot, columns_slot, FindsReading, FindsCursor}
+use Rattle.state.proofs.LeadsLaws.{unchanged}
 use Rattle.cursor_arms.specs.declared.CursorDataType.{CursorDataType}
 use Rattle.cursor_arms.specs.declared.CursorDataType.TheVariants as cursor
-use Rattle.cursor_arms.proofs.DupLaws.{frame_same}
-use Rattle.cursor_arms.proofs.StandsLaws.{done-same, led_at, led_nowhere, table_tells, table_tag, head_there, HeadLed, cursor_led}
+use Rattle.cursor_arms.proofs.StandsLaws.{led_at, led_nowhere, table_tells, table_tag, head_there, HeadLed, cursor_led}
 use Rattle.cursor_arms.proofs.TableLaws.{sizes_alike, size_alike}
 use Rattle.table_arms.specs.Nulled.{AreNullable, Nulled}
+use Rattle.std.specs.Option.{option_eq}
+use Rattle.std.proofs.Math.Bool.{beq}
+use Rattle.encoding.specs.Decode.{nullable_in, nullables}
+use native.Mathlib.Decide.{ℕ_discrete}
 
 -- ---- a head
 
@@ -134,7 +137,7 @@ module _ (now after : List Cell) (left p : ℕ) (lt : 0 < left) (w : after ≡ s
   null_long = ap length w ∙ length-set now p (single_nullable 2 (get_or now p blank))
 
   pub null_one : 1 ≡ size now 8 p
-  null_one = omega (arith, flat, sizes_step (size now 8) left p lt, size-pos now 8 p, sizes-many now 8 (left - 1) (p + size now 8 p))
+  null_one = omega (arith, flat, sizes_step (size now 8) left p lt, size-pos now 8 p, entries_few now 8 (left - 1) (p + size now 8 p))
 
   pub null_flat : sizes (size after 8) (left - 1) (p + 1) ≡ left - 1
   null_flat =
@@ -149,6 +152,16 @@ one_more cs p k all last j lt = go (ℕ_discrete j k)
     go : Dec (j ≡ k) → nullable_of (get_or cs (p + j) blank) ≡ 2
     go (yes e) = subst (λ i. nullable_of (get_or cs (p + i) blank) ≡ 2) (sym e) last
     go (no ne) = all j (omega (arith, lt, ne))
+
+some_true : (n : ℕ) → not (option_eq beq (get_or nullables n None) (Some true)) ≡ false → n ≡ 2
+some_true zero e = absurd (true≢false e)
+some_true (suc zero) e = absurd (true≢false e)
+some_true (suc (suc zero)) e = refl
+some_true (suc (suc (suc n))) e = absurd (true≢false e)
+
+-- the test of a cell
+pub nullable_there : (cs : List Cell) (p : ℕ) (c : Cell) (o : Option Bool) (b : Bool) → c ≡ get_or cs p blank → o ≡ nullable_in c → b ≡ not (option_eq beq o (Some true)) → b ≡ false → nullable_of (get_or cs p blank) ≡ 2
+nullable_there cs p c o b ce oe be e = some_true _ (sym (ap (λ v. not (option_eq beq v (Some true))) (oe ∙ ap (λ x. nullable_in x) ce)) ∙ sym be ∙ e)
 
 pub two_more : (cs : List Cell) (p k : ℕ) → AreNullable cs p k → nullable_of (get_or cs (p + k) blank) ≡ 2 → nullable_of (get_or cs (p + k + 1) blank) ≡ 2 → AreNullable cs p (k + 2)
 two_more cs p k all one two =
@@ -246,19 +259,19 @@ module _ (limit bound : ℕ) (cs ds : List Cell) (a : IntMap) (is : IsMap cs a) 
           let led = led_at cs a 0 k p e in
           search_plain h i k at led.present (λ q. eqb-false (tag_of (get_or cs p blank)) 2 t (ap (λ y. tag_of (get_or cs y blank)) (sym led.at) ∙ q))
 
-  register_null : (i : ℤ) (r : Slot) → place_of r ≡ (register_slot cs a (index i) >>= λ o. done (head_slot cs o)) → AfterNull limit bound cs ds a m r (update_register i null_record m)
-  unfolding register_slot update_register
+  register_null : (i : ℤ) (r : Slot) → place_of r ≡ (index_slot cs a 0 (index i) >>= λ o. done (head_slot cs o)) → AfterNull limit bound cs ds a m r (update_register i null_record m)
+  unfolding index_slot update_register
   register_null i r is = go (index i) refl r is
     where
-      go : (t : Tried ℕ) → index i ≡ t → (r : Slot) → place_of r ≡ (register_slot cs a t >>= λ o. done (head_slot cs o)) → AfterNull limit bound cs ds a m r (update_register i null_record m)
+      go : (t : Tried ℕ) → index i ≡ t → (r : Slot) → place_of r ≡ (index_slot cs a 0 t >>= λ o. done (head_slot cs o)) → AfterNull limit bound cs ds a m r (update_register i null_record m)
       go (refused n) e (Err k) q = ap (λ u. u >>= λ k. done (with_registers (update k null_record m.r) m)) e ∙ sym (ap (λ t. t >>= λ _. done m) q)
-      go (refused n) e (Ok o) q = absurd (apart n o (sym q))
-      go (done k) e (Err n) q = absurd (apart (number_of n) (head_slot cs (entry_slot cs a 0 k)) q)
+      go (refused n) e (Ok o) q = cc
+      go (done k) e (Err n) q = cc
       go (done k) e (Ok o) q = subst (λ s. AfterNull limit bound cs ds a m (Ok s) (update_register i null_record m)) (sym (done-same q)) (record_null i k e (entry_slot cs a 0 k) refl)
 
   by_cursor : (c : CursorDataType) (t : Tried (Option Cursor)) → TellsCursor bound c t → (r : Slot) → place_of r ≡ columns_slot cs a c → AfterNull limit bound cs ds a m r (t >>= λ o. null_columns o m)
   unfolding null_columns
-  by_cursor (cursor.Normal row) t told (Err n) is = absurd (apart (number_of n) (head_slot cs (entry_slot cs a 2 row)) is)
+  by_cursor (cursor.Normal row) t told (Err n) is = cc
   by_cursor (cursor.Normal row) t told (Ok s) is =
       subst (AfterNull limit bound cs ds a m (Ok s)) (sym (ap (λ u. u >>= λ o. null_columns o m) told.answer))
       (subst (λ s. AfterNull limit bound cs ds a m (Ok s) (done (update_table row null_table m))) (sym (done-same is)) (table_null row (entry_slot cs a 2 row) refl))
@@ -273,9 +286,6 @@ module _ (limit bound : ℕ) (cs ds : List Cell) (a : IntMap) (is : IsMap cs a) 
 -- ---- the arm
 
 module _ (cs : List Cell) (a : IntMap) (is : IsMap cs a) (i : ℕ) (r : Slot) (found : FindsCursor cs a i r) (p : ℕ) (e : r ≡ Ok (Some p)) where
-  pub head_within : p < length cs
-  head_within = omega (arith, (cursor_led cs a is p i r found e).below, is.inside)
-
   pub columns_within : (b : Cell) → b ≡ get_or cs p blank → AreColumns cs 8 b.payload (p + 1)
   columns_within b be =
       subst (λ (y : Cell). AreColumns cs 8 y.payload (p + 1)) (sym be)
@@ -290,20 +300,14 @@ module _ (cs : List Cell) (a : IntMap) (is : IsMap cs a) (x : Row) (r : Slot) (f
 
   pub null_bad : (n : Refusal) → r ≡ Err n → (limit row : ℕ) → Current limit cs a → CursorArm limit cs cs a row x op_null_row (Err n)
   null_bad n e limit row current =
-      record {
-        leads = λ meaning l st j.
-            record { says = λ bound m le h. nulls cs (Err n) e limit bound m h meaning row l j; leaves = tt; frame = frame_same cs _ _ };
-      }
+      record { says = λ meaning l st j bound m le h. nulls cs (Err n) e limit bound m h meaning row l j; leaves = tt; frame = unchanged cs _ _ }
 
   pub null_absent : r ≡ (Ok None) → (limit row : ℕ) → Current limit cs a → CursorArm limit cs cs a row x op_null_row (Ok a)
   null_absent e limit row current =
       record {
-        leads = λ meaning l st j.
-            record {
-              says = λ bound m le h. record { state = m; answer = nulls cs (Ok None) e limit bound m h meaning row l j; holds = h };
-              leaves = record { base = refl; room = current.room };
-              frame = frame_same cs _ _;
-            };
+        says = λ meaning l st j bound m le h. record { state = m; answer = nulls cs (Ok None) e limit bound m h meaning row l j; holds = h };
+        leaves = record { base = refl; room = current.room };
+        frame = unchanged cs _ _;
       }
 
   module _ (p : ℕ) (e : r ≡ Ok (Some p)) where
@@ -312,10 +316,7 @@ module _ (cs : List Cell) (a : IntMap) (is : IsMap cs a) (x : Row) (r : Slot) (f
         let all : ds ≡ null_heads cs p = nulled.cells ∙ ap (λ (y : Cell). on_heads (single_nullable 2) 8 cs y.payload (p + 1)) be in
         let led = cursor_led cs a is p x.p1 r found e in
         record {
-          leads = λ meaning l st j.
-              record {
-                says = λ bound m le h. nulls ds (Ok (Some p)) e limit bound m h meaning row l j all;
-                leaves = record { base = refl; room = null_leaves cs ds a is p led all limit current.room };
-                frame = null_frame cs ds a is p led all limit current.room.most;
-              };
+          says = λ meaning l st j bound m le h. nulls ds (Ok (Some p)) e limit bound m h meaning row l j all;
+          leaves = record { base = refl; room = null_leaves cs ds a is p led all limit current.room };
+          frame = null_frame cs ds a is p led all limit current.room.most;
         }

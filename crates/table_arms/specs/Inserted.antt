@@ -17,7 +17,7 @@ use Rattle.intmap.specs.Signed.{int_of}
 use Rattle.intmap.specs.declared.IntMap.{IntMap}
 use Rattle.encoding.specs.Encode.{run_register}
 use Rattle.rows.specs.Judged.{Judged}
-use Rattle.rows.specs.declared.Row.{Row}
+use Rattle.rows.specs.declared.row.Row.{Row}
 use Rattle.state.specs.Leads.{HoldsMap, Tells, Leaves, operands}
 
 -- a plain Null inserted: cursor i's table, if it has one, is not empty

@@ -8,7 +8,6 @@ ghost use Rattle.intmap.specs.Map.{levels};
 ghost use Rattle.intmap.specs.Runs.{size, sizes, AreColumns};
 ghost use Rattle.intmap.specs.Signed.{int_of};
 ghost use Rattle.encoding.specs.Heads.{single_nullable};
-ghost use Rattle.rows.specs.Judged.{IsRow};
 ghost use Rattle.state.specs.Leads.{Current, SomeCurrent, Leads};
 ghost use Rattle.state.specs.Arms.{CursorArm};
 ghost use Rattle.table_arms.specs.Nulled.{NulledCell, AreNullable, Nulled};
@@ -28,7 +27,7 @@ fn as_nullable(c: Cell) -> Cell
     ensures { result ≡ single_nullable 2 c }
 {
     if intmap::tag_of(c) == intmap::SINGLE {
-        return intmap::with_nullable(c, state::NULLABLE);
+        return state::with_nullable(c, Some(true));
     }
     c
 }
@@ -56,7 +55,7 @@ fn null_cell(area: &mut [u8], p: usize)
     ensures { NulledCell area.old area.new p }
 {
     let c = area::cell_at(area, p);
-    if intmap::nullable_of(c) == state::NULLABLE {
+    if state::nullable_in(c) == Some(true) {
         return;
     }
     area::put_cell(area, p, as_nullable(c));
@@ -72,10 +71,10 @@ fn nullable_cells(area: &[u8], from: usize, n: u64) -> u64
     // No iterator: one over pairs of cells would need the bytes as cells, and they are none.
     while k + 1 < n {
         let p = from + k as usize;
-        if intmap::nullable_of(area::cell_at(area, p)) != state::NULLABLE {
+        if state::nullable_in(area::cell_at(area, p)) != Some(true) {
             return k;
         }
-        if intmap::nullable_of(area::cell_at(area, p + 1)) != state::NULLABLE {
+        if state::nullable_in(area::cell_at(area, p + 1)) != Some(true) {
             return k + 1;
         }
         k += 2;
@@ -96,7 +95,7 @@ fn null_cells(area: &mut [u8], from: usize, n: u64)
 
 // NullRow: every plain column of cursor P1 may be null.
 pub fn null_row(map: IntMap, area: &mut [u8], x: Row) -> Result<IntMap, Refusal>
-    requires { SomeCurrent (cells area.old) map × IsRow x }
+    requires { SomeCurrent (cells area.old) map }
     ensures { (limit row : ℕ) → Current limit (cells area.old) map → CursorArm limit (cells area.old) (cells area.new) map row x op_null_row result }
 {
     let Some(at) = cursor_arms::columns_of(map, area, x.p1)? else {
@@ -123,8 +122,7 @@ fn store_behind(
     requires { Current limit (cells area.old) map × (map.base ≤ at) × (at + size (cells area.old) levels at ≤ map.base + map.used) × (row ≤ 65535) }
     ensures { StoresTable limit (cells area.old) (cells area.new) map row at result }
 {
-    let filled = cursor_arms::nullable_code(Some(false));
-    let n = cursor_arms::run_behind(map, area, at, filled, limit);
+    let n = cursor_arms::run_behind(map, area, at, Some(false), limit);
     let key = intmap::class_key(intmap::Class::Tables, row);
     map.insert_run(area, key, map.base + limit, n, limit)
 }
@@ -140,8 +138,7 @@ fn store_table(
     requires { Current limit (cells area.old) map × (map.base ≤ at) × (at + size (cells area.old) levels at ≤ map.base + map.used) × (row ≤ 65535) }
     ensures { StoresTable limit (cells area.old) (cells area.new) map row at result }
 {
-    let filled = cursor_arms::nullable_code(Some(false));
-    let c = intmap::with_nullable(area::cell_at(area, at), filled);
+    let c = state::with_nullable(area::cell_at(area, at), Some(false));
     if state::over_entry(map, area, at, c, intmap::Class::Tables, row) {
         return Ok(map);
     }
@@ -209,7 +206,7 @@ fn insert_from(
 
 // Insert, IdxInsert, SorterInsert: what register P2 holds goes into the table of cursor P1.
 pub fn insert(map: IntMap, area: &mut [u8], x: Row, limit: usize) -> Result<IntMap, Refusal>
-    requires { Current limit (cells area.old) map × IsRow x }
+    requires { Current limit (cells area.old) map }
     ensures { (row : ℕ) → CursorArm limit (cells area.old) (cells area.new) map row x op_insert result }
 {
     let Some(at) = state::get(map, area, intmap::Class::Registers, x.p2)? else {

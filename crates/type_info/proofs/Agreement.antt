@@ -4,7 +4,6 @@ use mathlib.Core.Bool.{Bool, true, false, ◌||◌}
 use mathlib.Core.List.{List, [], ◌∷◌, ◌++◌}
 use Prim.Native.Nat.{ℕ}
 use Prim.Native.String.{String}
-use native.Mathlib.Omega.{arith}
 use lib.ListN.{drop}
 use Rattle.type_info.specs.All.{All, all_nil, all_cons}
 use Rattle.type_info.specs.Ascii.{ascii, lower_byte, lowercase, equals, starts_with, contains}
@@ -66,7 +65,7 @@ skips (w ∷ ws) more s e = go (equals (lowercase s) (ascii w.text)) refl e (ski
         (b || is_one_of ws s) ≡ false →
         (is_one_of ws s ≡ false → first_arm (own ws ++ more) (lowercase s) ≡ first_arm more (lowercase s)) →
         first_arm (own (w ∷ ws) ++ more) (lowercase s) ≡ first_arm more (lowercase s)
-    go true h f rest = let z : ◌≡◌ {A = ℕ} 0 1 = cc in absurd (omega arith)
+    go true h f rest = cc
     go false h f rest = sym (arm_fails (exactly w.text w.kind) (own ws ++ more) (lowercase s) h) ∙ rest f
 
 outside : (s : List ℕ) → is_one_of words s ≡ false → kind_of s ≡ kind_of_affinity (affinity_of s)

@@ -22,7 +22,7 @@ goes_on (Some rs) = true
 
 is_some : (o : Option (List Range)) → goes_on o ≡ true → o ≡ Some (or_none o)
 unfolding goes_on
-is_some None e = let z : ◌≡◌ {A = ℕ} 0 1 = cc in absurd (omega arith)
+is_some None e = cc
 is_some (Some rs) e = refl
 
 expects : (q : ℕ) → q < 8 → expectation q ≡ Some (expected q)

@@ -108,11 +108,11 @@ began ((r ∷ ranges) ∷ more) b s rs e q = go (in_range r b) refl e (λ f. beg
 read : (rs : List Range) (s : List ℕ) → reads rs s ≡ true → Read rs s
 unfolding reads after_byte
 read [] [] e = record { start = []; rest = []; fits = empty; octets = empty; joined = refl }
-read (r ∷ rs) [] e = let z : ◌≡◌ {A = ℕ} 0 1 = cc in absurd (omega arith)
+read (r ∷ rs) [] e = cc
 read [] (b ∷ s) e = go (begun utf8_char b) refl e (λ rs. read rs s)
   where
     go : (o : Option (List Range)) → begun utf8_char b ≡ o → elim o as (λ _. Bool) [ None ↦ false | Some more ↦ reads more s ] ≡ true → ((rs : List Range) → reads rs s ≡ true → Read rs s) → Read [] (b ∷ s)
-    go None eb h back = let z : ◌≡◌ {A = ℕ} 0 1 = cc in absurd (omega arith)
+    go None eb h back = cc
     go (Some rs) eb h back =
         let x = back rs h in
         record {
@@ -129,7 +129,7 @@ read (r ∷ rs) (b ∷ s) e = go (in_range r b) refl e (read rs s)
         let x = back h in
         let i = range_in r b ex in
         record { start = b ∷ x.start; rest = x.rest; fits = byte i.0 i.1 x.fits; octets = x.octets; joined = ap (λ l. b ∷ l) x.joined }
-    go false ex h back = let z : ◌≡◌ {A = ℕ} 0 1 = cc in absurd (omega arith)
+    go false ex h back = cc
 
 pub sound : (s : List ℕ) → is_utf8 s ≡ true → Utf8Octets s
 unfolding is_utf8

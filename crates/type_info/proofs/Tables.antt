@@ -34,7 +34,7 @@ ranges_pass f (r ∷ rs) = passes f r.first (suc r.last - r.first) && ranges_pas
 
 pub ranges_at : (f : ℕ → Bool) (rs : List Range) → ranges_pass f rs ≡ true → (b : ℕ) → in_any rs b ≡ true → f b ≡ true
 unfolding ranges_pass in_any
-ranges_at f [] e b h = let z : ◌≡◌ {A = ℕ} 0 1 = cc in absurd (omega arith)
+ranges_at f [] e b h = cc
 ranges_at f (r ∷ rs) e b h = go (in_range r b) refl ((and-eq-true_iff (passes f r.first (suc r.last - r.first)) (ranges_pass f rs)).0 e) h (ranges_at f rs)
   where
     go :
@@ -63,8 +63,8 @@ same_expected (Some qs) (Some rs) = same_ranges qs rs
 ranges_same : (qs rs : List Range) → same_ranges qs rs ≡ true → qs ≡ rs
 unfolding same_ranges
 ranges_same [] [] e = refl
-ranges_same [] (r ∷ rs) e = let z : ◌≡◌ {A = ℕ} 0 1 = cc in absurd (omega arith)
-ranges_same (q ∷ qs) [] e = let z : ◌≡◌ {A = ℕ} 0 1 = cc in absurd (omega arith)
+ranges_same [] (r ∷ rs) e = cc
+ranges_same (q ∷ qs) [] e = cc
 ranges_same (q ∷ qs) (r ∷ rs) e =
     let h = (and-eq-true_iff (eqb q.first r.first) (eqb q.last r.last && same_ranges qs rs)).0 e in
     let k = (and-eq-true_iff (eqb q.last r.last) (same_ranges qs rs)).0 h.1 in
@@ -73,8 +73,8 @@ ranges_same (q ∷ qs) (r ∷ rs) e =
 expected-same : (x y : Option (List Range)) → same_expected x y ≡ true → x ≡ y
 unfolding same_expected
 expected-same None None e = refl
-expected-same None (Some rs) e = let z : ◌≡◌ {A = ℕ} 0 1 = cc in absurd (omega arith)
-expected-same (Some qs) None e = let z : ◌≡◌ {A = ℕ} 0 1 = cc in absurd (omega arith)
+expected-same None (Some rs) e = cc
+expected-same (Some qs) None e = cc
 expected-same (Some qs) (Some rs) e = ap Some (ranges_same qs rs e)
 
 -- each entry of a table of classes is the class of its byte

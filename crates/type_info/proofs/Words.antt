@@ -116,7 +116,7 @@ unfolding equals
 equals_same [] = refl
 equals_same (b ∷ t) = rw (eq-eqb b b refl) (equals_same t)
 
-same_equals : (t w : List ℕ) → equals t w ≡ true → t ≡ w
+pub same_equals : (t w : List ℕ) → equals t w ≡ true → t ≡ w
 unfolding equals
 same_equals [] [] e = refl
 same_equals [] (b ∷ w) e = absurd (false≢true e)

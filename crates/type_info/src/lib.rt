@@ -186,8 +186,8 @@ impl Affinity {
 impl fmt::Display for Affinity {
     ghost output = { λ affinity. Some (affinity_name affinity) };
 
-    fn fmt<W: fmt::Write>(&self, f: &mut fmt::Formatter<W>) -> fmt::Result {
-        f.write_str(self.name())
+    fn fmt<W: fmt::Write>(&self, out: &mut fmt::Formatter<W>) -> fmt::Result {
+        out.write_str(self.name())
     }
 }
 

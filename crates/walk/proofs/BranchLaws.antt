@@ -1,7 +1,7 @@
 -- A branch pushed, as the definition offers it. Assumes nothing.
 use mathlib.Core.Path.{◌≡◌, refl, sym, ap, subst, ◌∙◌}
 use mathlib.Core.Logic.{◌⊎◌, inl, inr}
-use Rattle.std.specs.Prelude.{Some, Result, Ok, Err, slice_get}
+use Rattle.std.specs.Prelude.{Result, Ok, Err}
 use mathlib.Core.List.{List, [], ◌∷◌}
 use Prim.Native.Nat.{ℕ, ◌+◌, ◌-◌, ◌/◌, ◌<◌}
 use native.Mathlib.Omega.{arith}
@@ -14,19 +14,18 @@ use Rattle.model.specs.Cells.{cells as cells_of}
 use Rattle.model.specs.Equality.{eq_state}
 use Rattle.model.specs.Results.{ResultRow}
 use Rattle.model.specs.Explain.{units}
-use Rattle.model.specs.Offer.{row_at}
-use Rattle.model.proofs.Rows.{row_at-within}
-use lib.IntN.{pos}
+use Rattle.std.proofs.lemmas.Option.{slice_get_within}
 use Rattle.refusal.specs.declared.Refusal.{Refusal}
 use Rattle.area.specs.Cells.{blank, cells}
 use Rattle.area.specs.declared.Cell.{Cell}
 use Rattle.rows.specs.Rows.{row_in}
-use Rattle.rows.specs.Judged.{Judged, HaveRows}
+use Rattle.rows.specs.Judged.{JudgedParts, HaveRows}
 use Rattle.state.specs.declared.MemoryState.{MemoryState}
 use Rattle.branches.specs.Entries.{Kept, states, lineages, Remembers}
 use Rattle.branches.specs.Lists.{Below, units_for, Dropped, Added as Kept-now, Pushes}
 use Rattle.branches.specs.declared.BranchList.{BranchList}
 use Rattle.branches.specs.declared.Layout.{Layout}
+use Rattle.merge.specs.declared.columns.Columns.{Columns}
 use Rattle.walk.specs.Walks.{rows_from, counts_from, layout_of, Given, bound_of, HoldsList}
 use Rattle.walk.specs.Loop.{Offers, AddsBranch}
 use Rattle.walk.specs.declared.Program.{Program}
@@ -34,7 +33,7 @@ use Rattle.walk.specs.declared.Walk.{Walk}
 
 -- the walk with other branches
 abbrev pub with_branches : Walk → BranchList → Walk
-with_branches w b = record { gas = w.gas; counts = w.counts; width = w.width; branches = b }
+with_branches w b = record { gas = w.gas; counts = w.counts; branches = b }
 
 -- the units that a state takes
 units_for_lem : (rows : List Listed) (n : ℕ) (m : Defined) → length rows ≡ n → units_for n m ≡ units rows m
@@ -59,16 +58,12 @@ module _ (units_of : Defined → ℕ) (past : List ℕ) (m : Defined) (more : Li
   unfolding offer
   offer_kept e = rw (e, offer)
 
-row_within : (rows : List Listed) (i : ℕ) (x : Listed) → slice_get rows i ≡ Some x → i < length rows
-unfolding row_at
-row_within rows i x e = row_at-within rows (pos i) x e
-
 -- rows that stand in the same cells
 pub rows_kept : (cs ds : List Cell) (from : ℕ) (rows : List Listed) → ((i : ℕ) → i < length rows → get_or ds (from + i) blank ≡ get_or cs (from + i) blank) → HaveRows cs from rows → HaveRows ds from rows
-rows_kept cs ds from rows same have i x e = subst (λ c. Judged x (row_in c)) (sym (same i (row_within rows i x e))) (have i x e)
+rows_kept cs ds from rows same have i x e = subst (λ c. JudgedParts x (row_in c)) (sym (same i (slice_get_within rows i x e))) (have i x e)
 
 -- the list with other branches, where the cells below them are as they were
-module _ {p : Program} {g : Given} {blocks xs cols : List ℕ} {w : Walk} {ls : List (Lineage Defined)} {remembered : List Defined} {space : ℕ} {counted : List ResultRow} (h : HoldsList p g blocks xs cols w ls remembered space counted) where
+module _ {p : Program} {g : Given} {blocks xs : List ℕ} {cols : Columns 2000} {w : Walk} {ls : List (Lineage Defined)} {remembered : List Defined} {space : ℕ} {counted : List ResultRow} (h : HoldsList p g blocks xs cols w ls remembered space counted) where
   pub list_with :
       (ys : List ℕ) (b : BranchList) (all wait : List Kept) →
       Below (cells xs) (cells ys) w.branches.first →
@@ -82,7 +77,6 @@ module _ {p : Program} {g : Given} {blocks xs cols : List ℕ} {w : Walk} {ls : 
         rows = rows_kept (cells xs) (cells ys) (rows_from p) g.rows (λ i lt. below.same (rows_from p + i) (omega (arith, h.size, h.first))) h.rows;
         records = h.records;
         columns = h.columns;
-        wide = h.wide;
         all = all;
         wait = wait;
         remembers = remembers;
@@ -118,7 +112,7 @@ module _ (p : Program) (xs ys : List ℕ) (w : Walk) (c : BranchList) (s : Memor
         says = λ g blocks cols ls remembered space counted past m h held past-counted. (
           told g blocks cols ls remembered space counted past m h
               (pushes.says (bound_of w) h.all h.wait m past h.remembers held past-counted),
-          record { gas = refl; charged = refl; loopstops = refl; gasstops = refl; repeats = refl; width = refl },
+          record { gas = refl; charged = refl; loopstops = refl; gasstops = refl; repeats = refl },
         );
         below = pushes.below;
         bytes = pushes.bytes;
@@ -128,7 +122,7 @@ module _ (p : Program) (xs ys : List ℕ) (w : Walk) (c : BranchList) (s : Memor
       long = pushes.below.long
 
       told :
-          (g : Given) (blocks cols : List ℕ) (ls : List (Lineage Defined)) (remembered : List Defined) (space : ℕ) (counted : List ResultRow) (past : List ℕ) (m : Defined) →
+          (g : Given) (blocks : List ℕ) (cols : Columns 2000) (ls : List (Lineage Defined)) (remembered : List Defined) (space : ℕ) (counted : List ResultRow) (past : List ℕ) (m : Defined) →
           (h : HoldsList p g blocks xs cols w ls remembered space counted) →
           ((judge eq_state (units_for p.size) m (states h.all) (length (cells xs) - w.branches.top) ≡ dropped) × Dropped p.limit (bound_of w) p.size ys w.branches c h.all h.wait)
           ⊎ ((judge eq_state (units_for p.size) m (states h.all) (length (cells xs) - w.branches.top) ≡ kept) × Kept-now p.limit (bound_of w) p.size ys w.branches c h.all h.wait m past) →

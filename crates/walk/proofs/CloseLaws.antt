@@ -9,6 +9,7 @@ use Rattle.model.specs.Walk.{Lineage, Notes, note_taken, gas_stop, Front as Fron
 use Rattle.model.specs.State.{MemoryState as Defined}
 use Rattle.model.specs.Results.{ResultRow}
 use Rattle.model.specs.Explain.{row_of}
+use Rattle.merge.specs.declared.columns.Columns.{Columns}
 use Rattle.walk.specs.Walks.{Given, HoldsWalk, Few, HoldsEnd}
 use Rattle.counters.specs.Counted.{one_gasstop}
 use Rattle.counters.specs.declared.Counters.{Counters}
@@ -63,10 +64,10 @@ none-notes g ls n m e = subst (λ f. (notes_at f).gasstops ≡ n.gasstops) e (up
 abbrev pub stop_gas : Walk → Walk
 stop_gas w = with_counts w (one_gasstop w.counts)
 
-pub stopped : {p : Program} {g : Given} {blocks xs cols : List ℕ} {w : Walk} {ls : List (Lineage Defined)} {n : Notes Defined ResultRow} → HoldsWalk p g blocks xs cols w ls n → HoldsWalk p g blocks xs cols (stop_gas w) ls (gas_stop n)
+pub stopped : {p : Program} {g : Given} {blocks xs : List ℕ} {cols : Columns 2000} {w : Walk} {ls : List (Lineage Defined)} {n : Notes Defined ResultRow} → HoldsWalk p g blocks xs cols w ls n → HoldsWalk p g blocks xs cols (stop_gas w) ls (gas_stop n)
 stopped {w = w} h =
     record {
-      list = list_as h.list (stop_gas w) refl refl (omega arith) (omega (arith, h.counts.gas_few));
+      list = list_as h.list (stop_gas w) refl (omega arith) (omega (arith, h.counts.gas_few));
       counts = record {
         charged = h.counts.charged;
         loopstops = h.counts.loopstops;
@@ -80,14 +81,14 @@ stopped {w = w} h =
     }
 
 -- what is still to be closed gives what the whole gives
-pub record ClosedSo (p : Program) (g : Given) (blocks xs cols : List ℕ) (v : Walk) (ls : List (Lineage Defined)) (n : Notes Defined ResultRow) : Type 0 where
+pub record ClosedSo (p : Program) (g : Given) (blocks xs : List ℕ) (cols : Columns 2000) (v : Walk) (ls : List (Lineage Defined)) (n : Notes Defined ResultRow) : Type 0 where
   pub waiting : List (Lineage Defined)
   pub notes : Notes Defined ResultRow
   pub same : close_all (row_of g.rows) ls n ≡ close_all (row_of g.rows) waiting notes
   pub holds : HoldsWalk p g blocks xs cols v waiting notes
 
 pub record Closing (p : Program) (xs : List ℕ) (w v : Walk) : Type 0 where
-  pub says : (g : Given) (blocks cols : List ℕ) (ls : List (Lineage Defined)) (n : Notes Defined ResultRow) → HoldsWalk p g blocks xs cols w ls n → ClosedSo p g blocks xs cols v ls n
+  pub says : (g : Given) (blocks : List ℕ) (cols : Columns 2000) (ls : List (Lineage Defined)) (n : Notes Defined ResultRow) → HoldsWalk p g blocks xs cols w ls n → ClosedSo p g blocks xs cols v ls n
   pub few : v.counts.gasstops + v.branches.last ≤ w.counts.gasstops + w.branches.last
 
 module _ {p : Program} {xs : List ℕ} {w v : Walk} (c : Closing p xs w v) where
@@ -108,14 +109,13 @@ module _ {p : Program} {xs : List ℕ} {w v : Walk} (c : Closing p xs w v) where
             (record { walk = t.holds; few = few_then t.holds (t.holds.counts.gasstops ∙ none-notes g a.waiting a.notes t.notes t.is ∙ sym a.holds.counts.gasstops) });
       }
     where
-      few_then : {g : Given} {blocks cols : List ℕ} {ls : List (Lineage Defined)} {n : Notes Defined ResultRow} → HoldsWalk p g blocks xs cols u ls n → u.counts.gasstops ≡ v.counts.gasstops → Few u
+      few_then : {g : Given} {blocks : List ℕ} {cols : Columns 2000} {ls : List (Lineage Defined)} {n : Notes Defined ResultRow} → HoldsWalk p g blocks xs cols u ls n → u.counts.gasstops ≡ v.counts.gasstops → Few u
       few_then h same =
           record {
             charged = omega (arith, h.counts.gas_few);
             loopstops = omega (arith, h.counts.gas_few, h.counts.loopstops_few);
             gasstops = omega (arith, same, c.few, lt);
             repeats = omega (arith, h.counts.gas_few, h.counts.repeats_few);
-            width = h.list.wide;
           }
 
   -- the one at `at` does

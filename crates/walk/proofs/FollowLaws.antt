@@ -28,6 +28,7 @@ use Rattle.branches.specs.Changes.{Pushable}
 use Rattle.branches.proofs.RememberLaws.{Bytes, counted-kept}
 use Rattle.branches.proofs.BlockLaws.{blocks_low}
 use Rattle.branches.specs.declared.Layout.{Layout}
+use Rattle.merge.specs.declared.columns.Columns.{Columns}
 use Rattle.walk.specs.Walks.{counts_from, first_from, layout_of, Given, bound_of, HoldsList, HoldsWalk, the_offer, the_following}
 use Rattle.walk.specs.Loop.{Walking, Holding, Turning, Offering, MayOffer, Offers, SameCounts, TellsOffers, AddsBranch, AddsWay, AddsThree, GoesOn, note_repeated, FollowsWays, FollowsThree}
 use Rattle.walk.specs.declared.Program.{Program}
@@ -88,7 +89,7 @@ module _ (p : Program) (xs ys : List ℕ) (first : ℕ) (below : Below (cells xs
   way_below bound (Some s) ms lies h = record { state = h.state; is = h.is; held = held_below bound s h.state (omega (arith, lies.0, lies.1.most)) h.held }
 
 -- what the area holds after a row's branches, with one repeat more where it counts as one
-module _ {p : Program} {g : Given} {blocks xs cols : List ℕ} {w : Walk} {ls : List (Lineage Defined)} {n : Notes Defined ResultRow} (h : HoldsWalk p g blocks xs cols w ls n) where
+module _ {p : Program} {g : Given} {blocks xs : List ℕ} {cols : Columns 2000} {w : Walk} {ls : List (Lineage Defined)} {n : Notes Defined ResultRow} (h : HoldsWalk p g blocks xs cols w ls n) where
   few_numbers : (v : Walk) → v.counts.charged ≡ w.counts.charged → bound_of v ≤ largest
   few_numbers v e = omega (arith, h.counts.gas_few, e)
 
@@ -104,7 +105,7 @@ module _ {p : Program} {g : Given} {blocks xs cols : List ℕ} {w : Walk} {ls : 
   noted ys v u b waiting known left branches stays same lt e list =
       subst (λ x. HoldsWalk p g blocks ys cols x waiting (note_ways (record { branches = branches; stays = stays; result = None; repeat = b }) known left n)) (sym e)
       (record {
-        list = list_as list (note_repeated v b) refl refl (omega arith) (few_numbers v same.charged);
+        list = list_as list (note_repeated v b) refl (omega arith) (few_numbers v same.charged);
         counts = record {
           charged = same.charged ∙ h.counts.charged;
           loopstops = same.loopstops ∙ h.counts.loopstops;
@@ -118,7 +119,7 @@ module _ {p : Program} {g : Given} {blocks xs cols : List ℕ} {w : Walk} {ls : 
       })
 
 pub same_counts : (w : Walk) → SameCounts w w
-same_counts w = record { gas = refl; charged = refl; loopstops = refl; gasstops = refl; repeats = refl; width = refl }
+same_counts w = record { gas = refl; charged = refl; loopstops = refl; gasstops = refl; repeats = refl }
 
 -- at most one branch
 pub way_none : (p : Program) (xs : List ℕ) (w : Walk) → AddsWay p xs xs w w None (Ok tt)
@@ -137,12 +138,12 @@ no_more None = refl
 no_more (Some m) = refl
 
 -- what waits in front of the remembered states
-in_front : {p : Program} {g : Given} {blocks xs cols : List ℕ} {w : Walk} {ls : List (Lineage Defined)} {remembered : List Defined} {space : ℕ} {counted : List ResultRow} → HoldsList p g blocks xs cols w ls remembered space counted → first_from p ≤ w.branches.first
+in_front : {p : Program} {g : Given} {blocks xs : List ℕ} {cols : Columns 2000} {w : Walk} {ls : List (Lineage Defined)} {remembered : List Defined} {space : ℕ} {counted : List ResultRow} → HoldsList p g blocks xs cols w ls remembered space counted → first_from p ≤ w.branches.first
 in_front h = omega (arith, h.first)
 
 -- the current counts are as they were
 pub counted_below :
-    {p : Program} {g : Given} {blocks xs cols : List ℕ} {w : Walk} {ls : List (Lineage Defined)} {remembered : List Defined} {space : ℕ} {counted : List ResultRow} → HoldsList p g blocks xs cols w ls remembered space counted →
+    {p : Program} {g : Given} {blocks xs : List ℕ} {cols : Columns 2000} {w : Walk} {ls : List (Lineage Defined)} {remembered : List Defined} {space : ℕ} {counted : List ResultRow} → HoldsList p g blocks xs cols w ls remembered space counted →
     (ys past : List ℕ) → Bytes xs → Bytes ys → length ys ≡ length xs → Below (cells xs) (cells ys) w.branches.first → Counted xs p.size (counts_from p) past → Counted ys p.size (counts_from p) past
 counted_below {p} {xs = xs} {w = w} h ys past small less long below counted =
     let top = blocks_low (cells xs) p.size w.branches.first w.branches.top h.all h.remembers.blocks in
@@ -296,7 +297,7 @@ module _ (p : Program) (xs ys : List ℕ) (w u : Walk) (s₁ s₂ s₃ : MemoryS
   -- the second has no space, or the third is next
   module _ (small : Bytes xs) (less : Bytes ys) (first : AddsBranch p xs ys w u s₁ (Ok tt)) where
     -- what the first leaves, for the second and third
-    module _ {g : Given} {blocks cols : List ℕ} {ls : List (Lineage Defined)} {remembered : List Defined} {space : ℕ} {counted : List ResultRow} (past : List ℕ) (m : Defined) (h : HoldsList p g blocks xs cols w ls remembered space counted) (a : HoldsState p.limit (bound_of w) (cells xs) s₁ m) (now : Counted xs p.size (counts_from p) past) where
+    module _ {g : Given} {blocks : List ℕ} {cols : Columns 2000} {ls : List (Lineage Defined)} {remembered : List Defined} {space : ℕ} {counted : List ResultRow} (past : List ℕ) (m : Defined) (h : HoldsList p g blocks xs cols w ls remembered space counted) (a : HoldsState p.limit (bound_of w) (cells xs) s₁ m) (now : Counted xs p.size (counts_from p) past) where
       abbrev left-first : Offers p g blocks ys cols u past (m ∷ []) ls remembered space counted × SameCounts w u
       left-first = first.says g blocks cols ls remembered space counted past m h a now
 
@@ -326,7 +327,7 @@ module _ (p : Program) (xs ys : List ℕ) (w u : Walk) (s₁ s₂ s₃ : MemoryS
       -- the third
       module _ (low : Bytes zs) (second : AddsBranch p ys zs u v s₂ (Ok tt)) (ts : List ℕ) (x : Walk) (r : Result (Unit {0}) Refusal) (third : AddsBranch p zs ts v x s₃ r) (same_second : v.branches.first ≡ w.branches.first) (fits₃ : s₃.map.base + s₃.map.used ≤ w.branches.first) where
         told_three :
-            (g : Given) (blocks cols : List ℕ) (ls waiting waiting₂ : List (Lineage Defined)) (remembered known known₂ : List Defined) (space left left₂ : ℕ) (counted : List ResultRow) (past : List ℕ) (m₁ m₂ m₃ : Defined) (z : Result (Unit {0}) Refusal) →
+            (g : Given) (blocks : List ℕ) (cols : Columns 2000) (ls waiting waiting₂ : List (Lineage Defined)) (remembered known known₂ : List Defined) (space left left₂ : ℕ) (counted : List ResultRow) (past : List ℕ) (m₁ m₂ m₃ : Defined) (z : Result (Unit {0}) Refusal) →
             ((more : List Defined) → the_offer p g past (m₁ ∷ more) ls remembered space ≡ the_offer p g past more waiting known left) →
             ((more : List Defined) → the_offer p g past (m₂ ∷ more) waiting known left ≡ the_offer p g past more waiting₂ known₂ left₂) →
             SameCounts w u → SameCounts u v →
@@ -335,7 +336,7 @@ module _ (p : Program) (xs ys : List ℕ) (w u : Walk) (s₁ s₂ s₃ : MemoryS
         told_three g blocks cols ls waiting waiting₂ remembered known known₂ space left left₂ counted past m₁ m₂ m₃ (Err e) one two a b t = (t.0, λ more. one (m₂ ∷ m₃ ∷ more) ∙ two (m₃ ∷ more) ∙ t.1 more)
         told_three g blocks cols ls waiting waiting₂ remembered known known₂ space left left₂ counted past m₁ m₂ m₃ (Ok y) one two a b t = (
           record { waiting = t.0.waiting; known = t.0.known; left = t.0.left; same = λ more. one (m₂ ∷ m₃ ∷ more) ∙ two (m₃ ∷ more) ∙ t.0.same more; holds = t.0.holds },
-          record { gas = t.1.gas ∙ b.gas ∙ a.gas; charged = t.1.charged ∙ b.charged ∙ a.charged; loopstops = t.1.loopstops ∙ b.loopstops ∙ a.loopstops; gasstops = t.1.gasstops ∙ b.gasstops ∙ a.gasstops; repeats = t.1.repeats ∙ b.repeats ∙ a.repeats; width = t.1.width ∙ b.width ∙ a.width },
+          record { gas = t.1.gas ∙ b.gas ∙ a.gas; charged = t.1.charged ∙ b.charged ∙ a.charged; loopstops = t.1.loopstops ∙ b.loopstops ∙ a.loopstops; gasstops = t.1.gasstops ∙ b.gasstops ∙ a.gasstops; repeats = t.1.repeats ∙ b.repeats ∙ a.repeats },
         )
 
         pub three_all : AddsThree p xs ts w x s₁ s₂ s₃ r

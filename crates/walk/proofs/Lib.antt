@@ -1,4 +1,3 @@
-pub mod Passed
 pub mod BranchLaws
 pub mod ListLaws
 pub mod TakeLaws

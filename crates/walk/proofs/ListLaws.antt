@@ -1,4 +1,4 @@
--- What keeps a walk that the area holds: another struct with the same branches, width and charge, and cells that are as they were. Where a state
+-- What keeps a walk that the area holds: another struct with the same branches and charge, and cells that are as they were. Where a state
 -- stands. Assumes nothing.
 use mathlib.Core.Path.{◌≡◌, refl, sym, ap, subst, ◌∙◌}
 use mathlib.Core.Bool.{Bool, true, false, ◌&&◌, and-eq-true_iff, false≢true}
@@ -10,6 +10,7 @@ use native.Mathlib.Decide.{dec_lt}
 use lib.Dec.{leb, ltb}
 use lib.ListN.{length, get_or}
 use borrow.Author.Tests.{leb-true, ltb-true, le-leb, lt-leb, lt-ltb}
+use Rattle.std.proofs.lemmas.Option.{slice_get_past}
 use Rattle.model.specs.Row.{Row as Listed}
 use Rattle.model.specs.State.{MemoryState as Defined}
 use Rattle.model.specs.Offer.{turns, row_at}
@@ -17,31 +18,30 @@ use Rattle.model.specs.Explain.{number_at, row_of}
 use Rattle.intmap.specs.Signed.{offset, int_of}
 use Rattle.intmap.proofs.SignedLaws.{row_below, row_above, int_turns}
 use Rattle.model.specs.Walk.{Lineage}
-use Rattle.model.specs.Results.{ResultRow, columns_of}
+use Rattle.model.specs.Results.{ResultRow}
 use Rattle.area.specs.Cells.{blank, cells}
 use Rattle.area.proofs.CellLaws.{cells-kept}
 use Rattle.encoding.specs.Holds.{largest}
 use Rattle.branches.specs.Entries.{Remembers}
 use Rattle.branches.proofs.RememberLaws.{Bytes, remembers_kept, remembers_more}
-use Rattle.merge.specs.Columns.{HasColumns}
 use Rattle.counters.specs.declared.Counters.{Counters}
+use Rattle.merge.specs.declared.columns.Columns.{Columns}
 use Rattle.walk.specs.Walks.{rows_from, counts_from, first_from, in_listing, Given, bound_of, HoldsList}
 use Rattle.walk.specs.declared.Walk.{Walk}
 use Rattle.walk.proofs.BranchLaws.{rows_kept}
 use Rattle.walk.specs.declared.Program.{Program}
 
 -- a walk whose cells are as they were but for the current lineage's
-module _ {p : Program} {g : Given} {blocks xs cols : List ℕ} {w : Walk} {ls : List (Lineage Defined)} {remembered : List Defined} {space : ℕ} {counted : List ResultRow} (h : HoldsList p g blocks xs cols w ls remembered space counted) where
+module _ {p : Program} {g : Given} {blocks xs : List ℕ} {cols : Columns 2000} {w : Walk} {ls : List (Lineage Defined)} {remembered : List Defined} {space : ℕ} {counted : List ResultRow} (h : HoldsList p g blocks xs cols w ls remembered space counted) where
   -- other counts, and more charged
-  pub list_as : (v : Walk) → v.branches ≡ w.branches → v.width ≡ w.width → w.counts.charged ≤ v.counts.charged → bound_of v ≤ largest → HoldsList p g blocks xs cols v ls remembered space counted
-  list_as v b width le top =
+  pub list_as : (v : Walk) → v.branches ≡ w.branches → w.counts.charged ≤ v.counts.charged → bound_of v ≤ largest → HoldsList p g blocks xs cols v ls remembered space counted
+  list_as v b le top =
       record {
         size = h.size;
         few = h.few;
         rows = h.rows;
         records = h.records;
-        columns = subst (λ k. HasColumns cols k (columns_of counted)) (sym width) h.columns;
-        wide = omega (arith, width, h.wide);
+        columns = h.columns;
         all = h.all;
         wait = h.wait;
         remembers = subst (λ l. Remembers p.limit (bound_of v) p.size xs l h.all h.wait) (sym b) (remembers_more p.limit (bound_of w) (bound_of v) p.size xs w.branches h.all h.wait (omega arith) top h.remembers);
@@ -64,7 +64,6 @@ module _ {p : Program} {g : Given} {blocks xs cols : List ℕ} {w : Walk} {ls : 
         rows = rows_kept (cells xs) (cells ys) (rows_from p) g.rows (λ i lt. rows (rows_from p + i) (omega arith) (omega (arith, h.size))) h.rows;
         records = h.records;
         columns = h.columns;
-        wide = h.wide;
         all = h.all;
         wait = h.wait;
         remembers = remembers_kept p.limit (bound_of w) p.size xs ys w.branches h.all h.wait small less long (λ j le. above j (omega (arith, h.first))) h.remembers;
@@ -84,11 +83,6 @@ element_within [] k h = absurd (omega (arith, h))
 element_within (x ∷ xs) zero h = record { element = x; is = refl }
 element_within (x ∷ xs) (suc k) h = let e : Element xs k = element_within xs k (omega (arith, h)) in record { element = e.element; is = e.is }
 
-element_behind : {A : Type 0} (xs : List A) (k : ℕ) → length xs ≤ k → slice_get xs k ≡ None
-element_behind [] k h = refl
-element_behind (x ∷ xs) zero h = absurd (omega (arith, h))
-element_behind (x ∷ xs) (suc k) h = element_behind xs k (omega (arith, h))
-
 -- where a state stands, by its word
 module _ (rows : List Listed) (m : Defined) (w : ℕ) (is : int_of w ≡ m.program_i) where
   number : (o : Option Listed) → row_at rows (int_of w) ≡ o → row_of rows m ≡ number_at m o
@@ -104,7 +98,7 @@ module _ (rows : List Listed) (m : Defined) (w : ℕ) (is : int_of w ≡ m.progr
   stands_below h = number None (row_below w rows h)
 
   pub stands_behind : offset ≤ w → length rows ≤ w - offset → row_of rows m ≡ None
-  stands_behind h le = number None (row_above w rows h ∙ element_behind rows (w - offset) le)
+  stands_behind h le = number None (row_above w rows h ∙ slice_get_past rows (w - offset) le)
 
 -- by the test
 pub record Within (p : Program) (w : ℕ) : Type 0 where
@@ -144,4 +138,4 @@ row-tested p row w b c e f h = ap (λ k. in_listing k p) (sym e) ∙ sym f ∙ h
 
 -- other counts
 abbrev pub with_counts : Walk → Counters → Walk
-with_counts w c = record { gas = w.gas; counts = c; width = w.width; branches = w.branches }
+with_counts w c = record { gas = w.gas; counts = c; branches = w.branches }

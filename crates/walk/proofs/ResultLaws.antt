@@ -3,10 +3,9 @@ use mathlib.Core.Path.{◌≡◌, refl, ap, ◌∙◌}
 use mathlib.Core.Bool.{false}
 use Rattle.std.specs.Prelude.{Option, None, Some, Ok, Err}
 use mathlib.Core.List.{List, [], ◌∷◌}
-use Prim.Native.Nat.{ℕ, ◌+◌, ◌≤◌}
+use Prim.Native.Nat.{ℕ, ◌+◌}
 use native.Mathlib.Omega.{arith}
 use lib.IntN.{pos}
-use lib.ListN.{length}
 use Rattle.model.specs.Walk.{done, Lineage, Notes, note_ways, goes, take_up}
 use Rattle.model.specs.State.{ColumnType, MemoryState as Defined}
 use Rattle.model.specs.Access.{next, read_columns}
@@ -18,41 +17,35 @@ use Rattle.refusal.specs.declared.Refusal.{Refusal}
 use Rattle.area.specs.Cells.{cells}
 use Rattle.state.specs.Steps.{HoldsState}
 use Rattle.state.specs.declared.MemoryState.{MemoryState}
+use Rattle.state.specs.declared.registers.Registers.{Registers}
 use Rattle.merge.specs.Columns.{HasColumns, Merges}
+use Rattle.merge.specs.declared.columns.Columns.{Columns}
 use Rattle.walk.specs.Walks.{Given, bound_of, HoldsList, Counts}
-use Rattle.walk.specs.Loop.{Walking, Holding, Turning, Offering, SameCounts, AddsBranch, TakesUp, Resulting, FollowsResult}
+use Rattle.walk.specs.Loop.{Walking, Holding, Turning, SameCounts, AddsBranch, TakesUp, Resulting, FollowsResult}
 use Rattle.walk.specs.declared.Program.{Program}
 use Rattle.walk.specs.declared.Walk.{Walk}
 use Rattle.walk.proofs.UpLaws.{nowhere}
 use Rattle.walk.proofs.FollowLaws.{offers_none, follow_stops, follow_offered}
 
--- the walk with another width
-abbrev pub with_width : Walk → ℕ → Walk
-with_width w k = record { gas = w.gas; counts = w.counts; width = k; branches = w.branches }
-
 -- the columns with one row more
-has_more : (dols : List ℕ) (k row : ℕ) (columns : List ResultColumn) (counted : List ResultRow) → HasColumns dols k (merge columns (columns_of counted)) → HasColumns dols k (columns_of (record { row = row; columns = columns } ∷ counted))
+has_more : (dols : Columns 2000) (row : ℕ) (columns : List ResultColumn) (counted : List ResultRow) → HasColumns dols.bytes dols.width (merge columns (columns_of counted)) → HasColumns dols.bytes dols.width (columns_of (record { row = row; columns = columns } ∷ counted))
 unfolding columns_of
-has_more dols k row columns counted h = h
+has_more dols row columns counted h = h
 
-module _ (p : Program) (xs cols dols : List ℕ) (w : Walk) (s : MemoryState) (first n k : ℕ) (merges : Merges (cells xs) s.map first n cols dols w.width k) (narrow : n ≤ 2000) where
-  abbrev v : Walk
-  v = with_width w k
-
+module _ (p : Program) (xs : List ℕ) (cols dols : Columns 2000) (w : Walk) (s : MemoryState) (from : Registers) (merges : Merges (cells xs) s.map from cols dols) where
   -- the list then, of a state that the branch holds
   list_merged :
       {g : Given} {blocks : List ℕ} {ls : List (Lineage Defined)} {remembered : List Defined} {space : ℕ} {counted : List ResultRow} →
       HoldsList p g blocks xs cols w ls remembered space counted →
-      (m : Defined) (row : ℕ) (columns : List ColumnType) → HoldsState p.limit (bound_of w) (cells xs) s m → read_columns n (pos first) m ≡ done columns →
-      HoldsList p g blocks xs dols v ls remembered space (record { row = row; columns = result_columns columns } ∷ counted)
+      (m : Defined) (row : ℕ) (columns : List ColumnType) → HoldsState p.limit (bound_of w) (cells xs) s m → read_columns from.count (pos from.first) m ≡ done columns →
+      HoldsList p g blocks xs dols w ls remembered space (record { row = row; columns = result_columns columns } ∷ counted)
   list_merged {g} {blocks} {ls} {remembered} {space} {counted} h m row columns held read =
       record {
         size = h.size;
         few = h.few;
         rows = h.rows;
         records = h.records;
-        columns = has_more dols k row (result_columns columns) counted (merges.says p.limit (bound_of w) m columns (columns_of counted) held.map read h.columns);
-        wide = omega (arith, merges.widest, h.wide, narrow);
+        columns = has_more dols row (result_columns columns) counted (merges.says p.limit (bound_of w) m columns (columns_of counted) held.map read h.columns);
         all = h.all;
         wait = h.wait;
         remembers = h.remembers;
@@ -63,7 +56,7 @@ module _ (p : Program) (xs cols dols : List ℕ) (w : Walk) (s : MemoryState) (f
       }
 
   -- of some walk, with the columns that there are
-  list_here : (t : Turning p xs w) (r : Resulting p xs cols w s first n) → HoldsList p t.walking.given t.walking.blocks xs cols w t.walking.waiting t.walking.notes.remembered t.walking.notes.space r.results
+  list_here : (t : Turning p xs w) (r : Resulting p xs cols w s from) → HoldsList p t.walking.given t.walking.blocks xs cols w t.walking.waiting t.walking.notes.remembered t.walking.notes.space r.results
   list_here t r =
       let h = t.walking.holds.list in
       record {
@@ -72,7 +65,6 @@ module _ (p : Program) (xs cols dols : List ℕ) (w : Walk) (s : MemoryState) (f
         rows = h.rows;
         records = h.records;
         columns = r.has;
-        wide = h.wide;
         all = h.all;
         wait = h.wait;
         remembers = h.remembers;
@@ -83,7 +75,7 @@ module _ (p : Program) (xs cols dols : List ℕ) (w : Walk) (s : MemoryState) (f
       }
 
   -- what is asked of its branch
-  pub result_holding : Turning p xs w → Resulting p xs cols w s first n → Holding p xs v
+  pub result_holding : Turning p xs w → Resulting p xs cols w s from → Holding p xs w
   result_holding t r =
       record {
         given = t.walking.given;
@@ -98,11 +90,8 @@ module _ (p : Program) (xs cols dols : List ℕ) (w : Walk) (s : MemoryState) (f
         counted = t.counted;
       }
 
-  pub result_offering : Offering p xs w s → Offering p xs v s
-  result_offering o = record { below = o.below; state = o.state; holds = o.holds }
-
   -- the counts are the same
-  counts_as : {notes : Notes Defined ResultRow} {u : Walk} → Counts w notes → SameCounts v u → (rr : ResultRow) (known : List Defined) (left : ℕ) (branches : List Defined) → Counts u (note_ways (record { branches = branches; stays = None; result = Some rr; repeat = false }) known left notes)
+  counts_as : {notes : Notes Defined ResultRow} {u : Walk} → Counts w notes → SameCounts w u → (rr : ResultRow) (known : List Defined) (left : ℕ) (branches : List Defined) → Counts u (note_ways (record { branches = branches; stays = None; result = Some rr; repeat = false }) known left notes)
   counts_as {notes} {u} c same rr known left branches =
       record {
         charged = same.charged ∙ c.charged;
@@ -114,7 +103,7 @@ module _ (p : Program) (xs cols dols : List ℕ) (w : Walk) (s : MemoryState) (f
         repeats_few = omega (arith, same.charged, same.repeats, c.repeats_few);
       }
 
-  all_as : {u : Walk} {units : ℕ} → SameCounts v u → w.counts.charged + w.gas ≡ units → u.counts.charged + u.gas ≡ units
+  all_as : {u : Walk} {units : ℕ} → SameCounts w u → w.counts.charged + w.gas ≡ units → u.counts.charged + u.gas ≡ units
   all_as same a = omega (arith, same.charged, same.gas, a)
 
   -- the same notes with other result rows
@@ -144,27 +133,23 @@ module _ (p : Program) (xs cols dols : List ℕ) (w : Walk) (s : MemoryState) (f
         repeats_few = c.repeats_few;
       }
 
-  state_as : (m : Defined) → HoldsState p.limit (bound_of w) (cells xs) s m → HoldsState p.limit (bound_of v) (cells xs) s m
-  state_as m held = held
-
-  module _ (ys : List ℕ) (u : Walk) (wide : length dols ≡ length cols) where
-    pub result_refused : (r : Refusal) → AddsBranch p xs ys v u s (Err r) → FollowsResult p xs ys cols dols w u s first n (Err r)
+  module _ (ys : List ℕ) (u : Walk) where
+    pub result_refused : (r : Refusal) → AddsBranch p xs ys w u s (Err r) → FollowsResult p xs ys cols dols w u s from (Err r)
     result_refused r adds =
         record {
           says = λ g blocks ls notes past m o h counted offers.
               let t = adds.says g blocks dols ls notes.remembered notes.space _ past (next m)
-              (list_merged h.list (next m) (turns m.program_i) offers.columns offers.held offers.read) (state_as (next m) offers.held) counted in
+              (list_merged h.list (next m) (turns m.program_i) offers.columns offers.held offers.read) offers.held counted in
               record { notes = notes; is = follow_stops p g past ls notes o _ offers.answer r (ap number_of t.0) (t.1 []) };
           bytes = adds.bytes;
-          columns = wide;
         }
 
-    module _ (adds : AddsBranch p xs ys v u s (Ok tt)) where
-      pub result_walking : Turning p xs w → Resulting p xs cols w s first n → Walking p ys u
+    module _ (adds : AddsBranch p xs ys w u s (Ok tt)) where
+      pub result_walking : Turning p xs w → Resulting p xs cols w s from → Walking p ys u
       result_walking t r =
           let h = t.walking.holds in
           let d = adds.says t.walking.given t.walking.blocks dols t.walking.waiting t.walking.notes.remembered t.walking.notes.space _ t.past r.offering.state
-          (list_merged (list_here t r) r.offering.state 0 r.row r.offering.holds r.read) (state_as r.offering.state r.offering.holds) t.counted in
+          (list_merged (list_here t r) r.offering.state 0 r.row r.offering.holds r.read) r.offering.holds t.counted in
           record {
             given = t.walking.given;
             blocks = t.walking.blocks;
@@ -174,12 +159,12 @@ module _ (p : Program) (xs cols dols : List ℕ) (w : Walk) (s : MemoryState) (f
             holds = record { list = d.0.holds; counts = counts_as (counting_counts r.results h.counts) d.1 _ d.0.known d.0.left []; all = all_as d.1 h.all };
           }
 
-      pub result_goes : (zs : List ℕ) (z : Walk) (r : Option MemoryState) → TakesUp p ys zs u z r → FollowsResult p xs zs cols dols w z s first n (Ok r)
+      pub result_goes : (zs : List ℕ) (z : Walk) (r : Option MemoryState) → TakesUp p ys zs u z r → FollowsResult p xs zs cols dols w z s from (Ok r)
       result_goes zs z r takes =
           record {
             says = λ g blocks ls notes past m o h counted offers.
                 let d = adds.says g blocks dols ls notes.remembered notes.space _ past (next m)
-                (list_merged h.list (next m) (turns m.program_i) offers.columns offers.held offers.read) (state_as (next m) offers.held) counted in
+                (list_merged h.list (next m) (turns m.program_i) offers.columns offers.held offers.read) offers.held counted in
                 let of = d.0 in
                 let rr : ResultRow = record { row = turns m.program_i; columns = result_columns offers.columns } in
                 let after : Notes Defined ResultRow = note_ways (record { branches = next m ∷ []; stays = None; result = Some rr; repeat = false }) of.known of.left notes in
@@ -190,5 +175,4 @@ module _ (p : Program) (xs cols dols : List ℕ) (w : Walk) (s : MemoryState) (f
                   holds = takes.says g blocks dols of.waiting after (record { list = of.holds; counts = counts_as h.counts d.1 rr of.known of.left (next m ∷ []); all = all_as d.1 h.all });
                 };
             bytes = takes.bytes ∙ adds.bytes;
-            columns = wide;
           }

@@ -21,6 +21,7 @@ use Rattle.area.specs.Cells.{cells}
 use Rattle.branches.specs.Entries.{Kept, Waiting}
 use Rattle.branches.proofs.BlockLaws.{blocks_span}
 use Rattle.state.specs.declared.MemoryState.{MemoryState}
+use Rattle.merge.specs.declared.columns.Columns.{Columns}
 use Rattle.walk.specs.Walks.{Given, HoldsWalk, HoldsRow, the_following, the_turn, the_run, HoldsNone, Few, Moved}
 use Rattle.explain.specs.Handles.{meaning_of}
 use Rattle.walk.specs.Loop.{Walking, Standing, Turns, ClosesCurrent, Running, Runs}
@@ -91,25 +92,24 @@ module _ (p : Program) (g : Given) where
 
 -- ---- where the loop is, after so many turns
 
-pub record Rests (p : Program) (g : Given) (blocks xs cols : List ℕ) (v : Walk) (m : MemoryState) (turns budget gas : ℕ) (f : Fronted Defined ResultRow) : Type 0 where
+pub record Rests (p : Program) (g : Given) (blocks xs : List ℕ) (cols : Columns 2000) (v : Walk) (m : MemoryState) (turns budget gas : ℕ) (f : Fronted Defined ResultRow) : Type 0 where
   pub front : Fronted Defined ResultRow
   pub holds : HoldsRow p g blocks xs cols v m front
   pub same : the_run p g budget gas f ≡ the_run p g (budget - turns) v.gas front
   pub spent : v.gas + turns ≡ gas
   pub stops : (notes_at front).gasstops ≡ 0
 
-pub record RunsTo (p : Program) (blocks xs ys cols dols : List ℕ) (w : Walk) (s : MemoryState) (budget : ℕ) (v : Walk) (m : MemoryState) (turns : ℕ) : Type 0 where
+pub record RunsTo (p : Program) (blocks xs ys : List ℕ) (cols dols : Columns 2000) (w : Walk) (s : MemoryState) (budget : ℕ) (v : Walk) (m : MemoryState) (turns : ℕ) : Type 0 where
   pub says : (g : Given) (f : Fronted Defined ResultRow) → HoldsRow p g blocks xs cols w s f → (notes_at f).gasstops ≡ 0 → Rests p g blocks ys dols v m turns budget w.gas f
   pub bytes : length ys ≡ length xs
-  pub columns : length dols ≡ length cols
 
-module _ {p : Program} {blocks xs ys cols dols : List ℕ} {w v : Walk} {s m : MemoryState} {budget turns : ℕ} (r : RunsTo p blocks xs ys cols dols w s budget v m turns) where
+module _ {p : Program} {blocks xs ys : List ℕ} {cols dols : Columns 2000} {w v : Walk} {s m : MemoryState} {budget turns : ℕ} (r : RunsTo p blocks xs ys cols dols w s budget v m turns) where
   module _ (a : Running p blocks xs cols w s) where
     now : Rests p a.given blocks ys dols v m turns budget w.gas a.front
     now = r.says a.given a.front a.holds a.unclosed
 
     pub runs_standing : turns < min budget w.gas → Standing p blocks ys dols v m
-    runs_standing lt = record { given = a.given; front = now.front; holds = now.holds; width = r.columns ∙ a.width; gas = omega (arith, now.spent) }
+    runs_standing lt = record { given = a.given; front = now.front; holds = now.holds; gas = omega (arith, now.spent) }
 
     none_stopped : v.counts.gasstops ≡ 0
     none_stopped = now.holds.walk.counts.gasstops ∙ ap (λ f. (notes_at f).gasstops) (sym now.holds.is) ∙ now.stops
@@ -141,7 +141,6 @@ module _ {p : Program} {blocks xs ys cols dols : List ℕ} {w v : Walk} {s m : M
               holds = t.holds;
             };
         bytes = r.bytes;
-        columns = r.columns;
       }
 
   -- no unit is left
@@ -156,11 +155,10 @@ module _ {p : Program} {blocks xs ys cols dols : List ℕ} {w v : Walk} {s m : M
               end = closes.says g blocks dols t.holds.waiting t.holds.notes t.holds.walk;
             };
         bytes = r.bytes;
-        columns = r.columns;
       }
 
   -- a turn
-  module _ (lt : turns < min budget w.gas) (zs eols : List ℕ) (u : Walk) where
+  module _ (lt : turns < min budget w.gas) (zs : List ℕ) (eols : Columns 2000) (u : Walk) where
     pub runs_refused : (k : Refusal) → Turns p blocks ys zs dols eols v u m (Err k) → Runs p blocks xs zs cols eols w u s budget (Err k)
     runs_refused k turn =
         record {
@@ -169,7 +167,6 @@ module _ {p : Program} {blocks xs ys cols dols : List ℕ} {w v : Walk} {s m : M
               let c = turn.says g b.front b.holds in
               record { notes = c.notes; is = b.same ∙ run_over p g (budget - turns) v.gas b.front (refused_with (number_of k) c.notes) (omega (arith, lt)) (omega (arith, lt, b.spent)) c.is };
           bytes = turn.bytes ∙ r.bytes;
-          columns = turn.columns ∙ r.columns;
         }
 
     pub runs_ended : (o : Option MemoryState) → Turns p blocks ys zs dols eols v u m (Ok o) → o ≡ None → Runs p blocks xs zs cols eols w u s budget (Ok None)
@@ -186,7 +183,6 @@ module _ {p : Program} {blocks xs ys cols dols : List ℕ} {w v : Walk} {s m : M
                 end = record { walk = n.walk; few = few_then n (notes_then g b c n) };
               };
           bytes = turn.bytes ∙ r.bytes;
-          columns = turn.columns ∙ r.columns;
         }
       where
         few_then : {g : Given} {d : Fronted Defined ResultRow} (n : HoldsNone p g blocks zs eols u d) → n.notes.gasstops ≡ 0 → Few u
@@ -196,7 +192,6 @@ module _ {p : Program} {blocks xs ys cols dols : List ℕ} {w v : Walk} {s m : M
               loopstops = omega (arith, n.walk.counts.gas_few, n.walk.counts.loopstops_few);
               gasstops = omega (arith, n.walk.counts.gasstops, z);
               repeats = omega (arith, n.walk.counts.gas_few, n.walk.counts.repeats_few);
-              width = n.walk.list.wide;
             }
 
         notes_then : (g : Given) {f : Fronted Defined ResultRow} (b : Rests p g blocks ys dols v m turns budget w.gas f) (c : Moved p g blocks zs eols u None (the_turn p g b.front)) (n : HoldsNone p g blocks zs eols u c.front) → n.notes.gasstops ≡ 0
@@ -221,7 +216,6 @@ module _ {p : Program} {blocks xs ys cols dols : List ℕ} {w v : Walk} {s m : M
                 stops = noted.gasstops ∙ ap (λ x. (notes_at x).gasstops) (sym b.holds.is) ∙ b.stops;
               };
           bytes = turn.bytes ∙ r.bytes;
-          columns = turn.columns ∙ r.columns;
         }
       where
         less_gas : (g : Given) {f d : Fronted Defined ResultRow} (b : HoldsRow p g blocks ys dols v m f) (c : HoldsRow p g blocks zs eols u n d) → c.notes.charged ≡ b.notes.charged + 1 → u.gas + 1 ≡ v.gas

@@ -17,6 +17,7 @@ use Rattle.branches.specs.Header.{row_at}
 use Rattle.branches.specs.Entries.{Kept, lineages, Waiting, IsKept}
 use Rattle.branches.specs.Lists.{Taken}
 use Rattle.branches.specs.declared.BranchList.{BranchList}
+use Rattle.merge.specs.declared.columns.Columns.{Columns}
 use Rattle.walk.specs.Walks.{in_listing, Given, bound_of, HoldsWalk}
 use Rattle.walk.specs.Loop.{Walking, Takes}
 use Rattle.branches.specs.Changes.{Latest, PopsAny}
@@ -27,14 +28,14 @@ use Rattle.walk.proofs.BranchLaws.{with_branches}
 use Rattle.walk.proofs.ListLaws.{in_listing_lem, outside, stands}
 
 -- of this walk, with what is left of the branches, the front is still the one of the whole
-pub record Reached (p : Program) (g : Given) (blocks xs cols : List ℕ) (v : Walk) (ls : List (Lineage Defined)) (n : Notes Defined ResultRow) : Type 0 where
+pub record Reached (p : Program) (g : Given) (blocks xs : List ℕ) (cols : Columns 2000) (v : Walk) (ls : List (Lineage Defined)) (n : Notes Defined ResultRow) : Type 0 where
   pub waiting : List (Lineage Defined)
   pub notes : Notes Defined ResultRow
   pub same : take_up (row_of g.rows) ls n ≡ take_up (row_of g.rows) waiting notes
   pub holds : HoldsWalk p g blocks xs cols v waiting notes
 
 pub record Reaching (p : Program) (xs : List ℕ) (w v : Walk) : Type 0 where
-  pub says : (g : Given) (blocks cols : List ℕ) (ls : List (Lineage Defined)) (n : Notes Defined ResultRow) → HoldsWalk p g blocks xs cols w ls n → Reached p g blocks xs cols v ls n
+  pub says : (g : Given) (blocks : List ℕ) (cols : Columns 2000) (ls : List (Lineage Defined)) (n : Notes Defined ResultRow) → HoldsWalk p g blocks xs cols w ls n → Reached p g blocks xs cols v ls n
   pub few : v.branches.last ≤ w.branches.last
 
 -- a turn of the definition
@@ -52,7 +53,7 @@ module _ (g : Given) where
   taken_up_lem l ls n row e = rw (e, take_up)
 
 -- a lineage that was taken is noted, and the area holds the walk without it
-module _ {p : Program} {g : Given} {blocks xs cols : List ℕ} {w : Walk} {ls : List (Lineage Defined)} {n : Notes Defined ResultRow} (h : HoldsWalk p g blocks xs cols w ls n) (c : BranchList) (at : ℕ) (t : Taken p.limit (bound_of w) p.size xs h.list.all h.list.wait w.branches c at) where
+module _ {p : Program} {g : Given} {blocks xs : List ℕ} {cols : Columns 2000} {w : Walk} {ls : List (Lineage Defined)} {n : Notes Defined ResultRow} (h : HoldsWalk p g blocks xs cols w ls n) (c : BranchList) (at : ℕ) (t : Taken p.limit (bound_of w) p.size xs h.list.all h.list.wait w.branches c at) where
   abbrev lineage_of : Lineage Defined
   lineage_of = record { mem = t.taken.mem; past = t.taken.past }
 
@@ -68,7 +69,6 @@ module _ {p : Program} {g : Given} {blocks xs cols : List ℕ} {w : Walk} {ls : 
           rows = h.list.rows;
           records = h.list.records;
           columns = h.list.columns;
-          wide = h.list.wide;
           all = h.list.all;
           wait = t.rest;
           remembers = t.remembers;
@@ -134,7 +134,7 @@ module _ {p : Program} {xs : List ℕ} {w v : Walk} (r : Reaching p xs w v) wher
 
   module _ (c : BranchList) (at : ℕ) (pops : PopsAny xs v.branches c (Some at)) where
     -- what was taken, of a walk that is held
-    one : {g : Given} {blocks cols : List ℕ} {ls : List (Lineage Defined)} {n : Notes Defined ResultRow} (h : HoldsWalk p g blocks xs cols v ls n) → Taken p.limit (bound_of v) p.size xs h.list.all h.list.wait v.branches c at
+    one : {g : Given} {blocks : List ℕ} {cols : Columns 2000} {ls : List (Lineage Defined)} {n : Notes Defined ResultRow} (h : HoldsWalk p g blocks xs cols v ls n) → Taken p.limit (bound_of v) p.size xs h.list.all h.list.wait v.branches c at
     one h = (pops.pops p.limit p.size).says (bound_of v) h.list.all h.list.wait h.list.remembers
 
     -- it stands on no row

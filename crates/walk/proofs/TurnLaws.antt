@@ -29,9 +29,10 @@ use Rattle.intmap.proofs.SignedLaws.{row_above}
 use Rattle.intmap.proofs.SameCells.{size_same, sizes_same}
 use Rattle.intmap.proofs.StoreLaws.{room_map}
 use Rattle.encoding.proofs.Held.{held_elsewhere}
-use Rattle.rows.specs.Rows.{row_in}
-use Rattle.rows.specs.Judged.{Judged, SomeRows}
-use Rattle.rows.specs.declared.Row.{Row}
+use Rattle.rows.specs.Parts.{Parts}
+use Rattle.rows.specs.Rows.{parts, row_in}
+use Rattle.rows.specs.Judged.{JudgedParts, SomeRows}
+use Rattle.rows.specs.declared.row.Row.{Row}
 use Rattle.state.specs.Steps.{HoldsState, TellsWay, Lies, LiesAt, StaysAt, Way}
 use Rattle.state.specs.declared.MemoryState.{MemoryState}
 use Rattle.jump_arms.specs.Arms.{Ready}
@@ -39,6 +40,7 @@ use Rattle.branches.specs.Entries.{Counted}
 use Rattle.branches.specs.Lists.{Offers as Below-them}
 use Rattle.branches.proofs.RememberLaws.{Bytes, counted-kept}
 use Rattle.branches.proofs.BlockLaws.{blocks_low}
+use Rattle.merge.specs.declared.columns.Columns.{Columns}
 use Rattle.walk.specs.Walks.{rows_from, counts_from, first_from, Given, bound_of, HoldsList, Counts, HoldsWalk, HoldsRow, TellsTurn, the_following, the_turn}
 use Rattle.root_block.specs.Blocks.{IsBlocks}
 use Rattle.in_place.specs.InPlace.{ReadyAt, HandlesNear}
@@ -89,11 +91,11 @@ recount a b c d h =
       repeats_few = h.repeats_few;
     }
 
-module _ {p : Program} {g : Given} {blocks xs cols : List ℕ} {w : Walk} {ls : List (Lineage Defined)} {n : Notes Defined ResultRow} (h : HoldsWalk p g blocks xs cols w ls n) (gas : 0 < w.gas) where
+module _ {p : Program} {g : Given} {blocks xs : List ℕ} {cols : Columns 2000} {w : Walk} {ls : List (Lineage Defined)} {n : Notes Defined ResultRow} (h : HoldsWalk p g blocks xs cols w ls n) (gas : 0 < w.gas) where
   charged_walk : HoldsWalk p g blocks xs cols (charge_one w) ls (charge n)
   charged_walk =
       record {
-        list = list_as h.list (charge_one w) refl refl (omega arith) (omega (arith, h.counts.gas_few));
+        list = list_as h.list (charge_one w) refl (omega arith) (omega (arith, h.counts.gas_few));
         counts = record {
           charged = ap (λ k. k + 1) h.counts.charged;
           loopstops = h.counts.loopstops;
@@ -109,7 +111,7 @@ module _ {p : Program} {g : Given} {blocks xs cols : List ℕ} {w : Walk} {ls : 
   closed_walk : HoldsWalk p g blocks xs cols (stop_loop (charge_one w)) ls (loop_stop (charge n))
   closed_walk =
       record {
-        list = list_as h.list (stop_loop (charge_one w)) refl refl (omega arith) (omega (arith, h.counts.gas_few));
+        list = list_as h.list (stop_loop (charge_one w)) refl (omega arith) (omega (arith, h.counts.gas_few));
         counts = record {
           charged = ap (λ k. k + 1) h.counts.charged;
           loopstops = omega (arith, h.counts.loopstops);
@@ -147,10 +149,10 @@ counted-raised xs ys n from row past raised within counted i lt = go (eqb row i)
 -- ---- the area before and after
 
 -- where the current counts and the rows lie
-fits_inside : {p : Program} {g : Given} {blocks xs cols : List ℕ} {w : Walk} {ls : List (Lineage Defined)} {remembered : List Defined} {space : ℕ} {counted : List ResultRow} → HoldsList p g blocks xs cols w ls remembered space counted → first_from p ≤ length (cells xs)
+fits_inside : {p : Program} {g : Given} {blocks xs : List ℕ} {cols : Columns 2000} {w : Walk} {ls : List (Lineage Defined)} {remembered : List Defined} {space : ℕ} {counted : List ResultRow} → HoldsList p g blocks xs cols w ls remembered space counted → first_from p ≤ length (cells xs)
 fits_inside {p} {xs = xs} {w = w} h = omega (arith, h.first, h.remembers.inside, blocks_low (cells xs) p.size w.branches.first w.branches.top h.all h.remembers.blocks)
 
-module _ {p : Program} {g : Given} {blocks xs cols : List ℕ} {w : Walk} {s : MemoryState} {f : Fronted Defined ResultRow} (r : HoldsRow p g blocks xs cols w s f) where
+module _ {p : Program} {g : Given} {blocks xs : List ℕ} {cols : Columns 2000} {w : Walk} {s : MemoryState} {f : Fronted Defined ResultRow} (r : HoldsRow p g blocks xs cols w s f) where
   abbrev k : ℕ
   k = s.row - offset
 
@@ -208,14 +210,14 @@ module _ {p : Program} {g : Given} {blocks xs cols : List ℕ} {w : Walk} {s : M
     listed : Element g.rows r.row
     listed = element_within g.rows r.row (omega (arith, r.within, r.walk.list.size))
 
-    judged : (x : Row) → x ≡ row_in (get_or (cells ys) (rows_from p + k) blank) → Judged listed.element x
-    judged x e = subst (Judged listed.element) (ap (λ i. row_in (get_or (cells ys) (rows_from p + i) blank)) (sym row_is) ∙ sym e) (raised_list.rows r.row listed.element listed.is)
+    judged : (x : Parts) → x ≡ row_in (get_or (cells ys) (rows_from p + k) blank) → JudgedParts listed.element x
+    judged x e = subst (JudgedParts listed.element) (ap (λ i. row_in (get_or (cells ys) (rows_from p + i) blank)) (sym row_is) ∙ sym e) (raised_list.rows r.row listed.element listed.is)
 
     its_row : row_at g.rows r.lineage.mem.program_i ≡ Some listed.element
     its_row = ap (row_at g.rows) (sym r.current.state.row) ∙ row_above s.row g.rows (omega (arith, r.at)) ∙ ap (slice_get g.rows) row_is ∙ listed.is
 
-    pub is_ready : (x : Row) → x ≡ row_in (get_or (cells ys) (rows_from p + k) blank) → Ready p.limit (cells ys) s x
-    is_ready x e =
+    pub is_ready : Ready p.limit (cells ys) s
+    is_ready =
         record {
           current = record {
             room = raised_room;
@@ -226,7 +228,6 @@ module _ {p : Program} {g : Given} {blocks xs cols : List ℕ} {w : Walk} {s : M
             state = r.lineage.mem;
             holds = raised_state.map;
           };
-          row = record { listed = listed.element; judged = judged x e };
           above = omega (arith, r.at);
           below = omega (arith, r.at, r.within, r.walk.list.few);
         }
@@ -236,9 +237,9 @@ module _ {p : Program} {g : Given} {blocks xs cols : List ℕ} {w : Walk} {s : M
         record { inside = omega (arith, fits_inside raised_list); rows = g.rows; have = raised_list.rows; size = r.walk.list.size }
 
     -- where it was not handled in place, nothing has changed, and it can be handled
-    pub may_handle : (cs : List Cell) → cs ≡ cells ys → Ready p.limit cs s (row_on cs (rows_from p) s.row) × SomeRows cs (rows_from p) p.size × (s.row < offset + p.size) × (p.limit ≤ 65535) × IsBlocks blocks
+    pub may_handle : (cs : List Cell) → cs ≡ cells ys → Ready p.limit cs s × SomeRows cs (rows_from p) p.size × (s.row < offset + p.size) × (p.limit ≤ 65535) × IsBlocks blocks
     may_handle cs same = (
-      subst (λ l. Ready p.limit l s (row_on l (rows_from p) s.row)) (sym same) (is_ready (row_on (cells ys) (rows_from p) s.row) refl),
+      subst (λ l. Ready p.limit l s) (sym same) is_ready,
       subst (λ l. SomeRows l (rows_from p) p.size) (sym same) some_rows,
       omega (arith, r.at, r.within),
       raised_list.remembers.limited,
@@ -246,7 +247,7 @@ module _ {p : Program} {g : Given} {blocks xs cols : List ℕ} {w : Walk} {s : M
     )
 
     -- ---- and it is handled
-    module _ (zs : List ℕ) (low : Bytes zs) (long : length zs ≡ length ys) (x : Row) (e : x ≡ row_in (get_or (cells ys) (rows_from p + k) blank)) (q : Handled) (again : Bool) (is-again : again ≡ ltb 0 (count_at xs (counts_from p) k)) (gas : 0 < w.gas) (handles : Handles p.limit (rows_from p) p.size (cells ys) (cells zs) blocks s x again q) where
+    module _ (zs : List ℕ) (low : Bytes zs) (long : length zs ≡ length ys) (x : Parts) (e : x ≡ row_in (get_or (cells ys) (rows_from p + k) blank)) (q : Handled) (again : Bool) (is-again : again ≡ ltb 0 (count_at xs (counts_from p) k)) (gas : 0 < w.gas) (handles : Handles p.limit (rows_from p) p.size (cells ys) (cells zs) blocks s x again q) where
       untouched : (j : ℕ) → rows_from p ≤ j → get_or (cells zs) j blank ≡ get_or (cells ys) j blank
       untouched j le = handles.frame.above j (omega (arith, r.current.base))
 
@@ -272,7 +273,7 @@ module _ {p : Program} {g : Given} {blocks xs cols : List ℕ} {w : Walk} {s : M
       handled_walk : HoldsWalk p g blocks zs cols (charge_one w) r.waiting notes_then
       handled_walk =
           record {
-            list = list_as handled_list (charge_one w) refl refl (omega arith) (omega (arith, r.walk.counts.gas_few));
+            list = list_as handled_list (charge_one w) refl (omega arith) (omega (arith, r.walk.counts.gas_few));
             counts = recount refl refl refl refl (charged_walk r.walk gas).counts;
             all = (charged_walk r.walk gas).all;
           }
@@ -293,21 +294,19 @@ module _ {p : Program} {g : Given} {blocks xs cols : List ℕ} {w : Walk} {s : M
       may_offer None ms t lies = tt
       may_offer (Some b) ms t lies = record { below = below_them b lies; state = t.state; holds = t.held }
 
-      may : length cols ≡ 2000 → (i : Handling) → TellsHandling p.limit (bound_of (charge_one w)) (cells zs) r.lineage.mem (Ok i) offer_here → LeavesHandling p.limit (cells zs) s (Ok i) → MayFollow p zs cols (charge_one w) i
-      may wide (handling.Ways c b) t lies = may_offer c.branch t.the_branch t.branches lies.0
-      may wide (handling.Three a b c d) t lies = (
+      may : (i : Handling) → TellsHandling p.limit (bound_of (charge_one w)) (cells zs) r.lineage.mem (Ok i) offer_here → LeavesHandling p.limit (cells zs) s (Ok i) → MayFollow p zs cols (charge_one w) i
+      may (handling.Ways c b) t lies = may_offer c.branch t.the_branch t.branches lies.0
+      may (handling.Three a b c d) t lies = (
         record { below = below_them a lies.0; state = t.first; holds = t.first_held },
         record { below = below_them b lies.1; state = t.second; holds = t.second_held },
         record { below = below_them c lies.2; state = t.third; holds = t.third_held },
       )
-      may wide (handling.Result b first n) t lies =
+      may (handling.Result b from) t lies =
           record {
             offering = record { below = below_them b lies.0; state = next r.lineage.mem; holds = t.held };
             row = t.columns;
             read = t.read;
-            range = lies.1;
-            narrow = lies.2;
-            width = wide;
+            narrow = lies.1;
             results = r.notes.counted;
             has = r.walk.list.columns;
           }
@@ -318,13 +317,13 @@ module _ {p : Program} {g : Given} {blocks xs cols : List ℕ} {w : Walk} {s : M
       told_ok : {h : Handling} → q ≡ Ok h → TellsHandling p.limit (bound_of (charge_one w)) (cells zs) r.lineage.mem (Ok h) offer_here
       told_ok e = subst (λ i. TellsHandling p.limit (bound_of (charge_one w)) (cells zs) r.lineage.mem i offer_here) e told
 
-      pub may_follow : length cols ≡ 2000 → (h : Handling) → q ≡ Ok h → MayFollow p zs cols (charge_one w) h
-      may_follow wide h e = may wide h (told_ok e) (leaves e)
+      pub may_follow : (h : Handling) → q ≡ Ok h → MayFollow p zs cols (charge_one w) h
+      may_follow h e = may h (told_ok e) (leaves e)
 
       stays : (i : Handling) → LeavesHandling p.limit (cells zs) s (Ok i) → StaysHere p zs i
       stays (handling.Ways c b) lies = subst (λ z. StaysAt p.limit (cells zs) z c.stays) r.current.base lies.1
       stays (handling.Three a b c d) lies = subst (λ z. StaysAt p.limit (cells zs) z (Some d)) r.current.base lies.3
-      stays (handling.Result b first n) lies = tt
+      stays (handling.Result b from) lies = tt
 
       -- what the definition's turn gives
       turn_is : count r.row r.lineage.past < 3 → the_turn p g f ≡ the_following p g (r.row ∷ r.lineage.past) r.waiting notes_then offer_here
@@ -335,12 +334,12 @@ module _ {p : Program} {g : Given} {blocks xs cols : List ℕ} {w : Walk} {s : M
               arm_at p g (handled_before r.row r.lineage.past) r.lineage.mem listed.element its_row ∙
               ap (λ b. arm (meaning_of p.limit g.records) g.rows b r.lineage.mem listed.element (operation_of listed.element.op)) (sym (is-again ∙ ap (ltb 0) handled_is))
 
-      pub turn_told : (h : Handling) → q ≡ Ok h → (ts dols : List ℕ) (u : Walk) (t : Result (Option MemoryState) Refusal) → count r.row r.lineage.past < 3 → Follows p zs ts cols dols (charge_one w) u h t → TellsTurn p g blocks ts dols u t (the_turn p g f)
+      pub turn_told : (h : Handling) → q ≡ Ok h → (ts : List ℕ) (dols : Columns 2000) (u : Walk) (t : Result (Option MemoryState) Refusal) → count r.row r.lineage.past < 3 → Follows p zs ts cols dols (charge_one w) u h t → TellsTurn p g blocks ts dols u t (the_turn p g f)
       turn_told h f-ok ts dols u t few follows =
           subst (TellsTurn p g blocks ts dols u t) (sym (turn_is few))
           (follows.says g blocks r.waiting notes_then (r.row ∷ r.lineage.past) r.lineage.mem offer_here handled_walk handled_counts (told_ok f-ok) (stays h (leaves f-ok)))
 
-      pub turn_refused : (dols : List ℕ) (u : Walk) (k : Refusal) → count r.row r.lineage.past < 3 → q ≡ Err k → TellsTurn p g blocks zs dols u (Err k) (the_turn p g f)
+      pub turn_refused : (dols : Columns 2000) (u : Walk) (k : Refusal) → count r.row r.lineage.past < 3 → q ≡ Err k → TellsTurn p g blocks zs dols u (Err k) (the_turn p g f)
       turn_refused dols u k few e =
           record {
             notes = notes_then;
@@ -349,7 +348,7 @@ module _ {p : Program} {g : Given} {blocks xs cols : List ℕ} {w : Walk} {s : M
 
 -- ---- the turn
 
-module _ {p : Program} {blocks xs cols : List ℕ} {w : Walk} {s : MemoryState} (st : Standing p blocks xs cols w s) where
+module _ {p : Program} {blocks xs : List ℕ} {cols : Columns 2000} {w : Walk} {s : MemoryState} (st : Standing p blocks xs cols w s) where
   pub may_count : Inside xs (home (counts_from p) (s.row - offset)) 1
   may_count = count_inside st.holds
 
@@ -373,22 +372,20 @@ module _ {p : Program} {blocks xs cols : List ℕ} {w : Walk} {s : MemoryState} 
                     (subst (λ x. HoldsWalk p g blocks xs cols x h.waiting (loop_stop (charge h.notes))) (sym (stopped k f)) (closed_walk h.walk st.gas));
               };
           bytes = takes.bytes;
-          columns = refl;
         }
 
-    module _ (ys zs : List ℕ) (small : Bytes xs) (less : Bytes ys) (low : Bytes zs) (raised : Raised xs ys (counts_from p) (s.row - offset)) (long : length zs ≡ length ys) (x : Row) (read : x ≡ row_in (get_or (cells ys) (rows_from p + (s.row - offset)) blank)) (q : Handled) (handled : ℕ) (is : handled ≡ count_at xs (counts_from p) (s.row - offset)) (handles : Handles p.limit (rows_from p) p.size (cells ys) (cells zs) blocks s x (ltb 0 handled) q) where
+    module _ (ys zs : List ℕ) (small : Bytes xs) (less : Bytes ys) (low : Bytes zs) (raised : Raised xs ys (counts_from p) (s.row - offset)) (long : length zs ≡ length ys) (x : Parts) (read : x ≡ row_in (get_or (cells ys) (rows_from p + (s.row - offset)) blank)) (q : Handled) (handled : ℕ) (is : handled ≡ count_at xs (counts_from p) (s.row - offset)) (handles : Handles p.limit (rows_from p) p.size (cells ys) (cells zs) blocks s x (ltb 0 handled) q) where
       pub handled_turning : Turning p zs v
       handled_turning = subst (Turning p zs) (sym e) (is_turning st.holds ys small less raised zs low long x read q (ltb 0 handled) (ap (ltb 0) is) st.gas handles)
 
       pub handled_may : (h : Handling) → q ≡ Ok h → MayFollow p zs cols v h
-      handled_may h f-ok = subst (λ y. MayFollow p zs cols y h) (sym e) (may_follow st.holds ys small less raised zs low long x read q (ltb 0 handled) (ap (ltb 0) is) st.gas handles st.width h f-ok)
+      handled_may h f-ok = subst (λ y. MayFollow p zs cols y h) (sym e) (may_follow st.holds ys small less raised zs low long x read q (ltb 0 handled) (ap (ltb 0) is) st.gas handles h f-ok)
 
-      pub turns_handled : (h : Handling) → q ≡ Ok h → (ts dols : List ℕ) (u : Walk) (t : Result (Option MemoryState) Refusal) → handled < 3 → Follows p zs ts cols dols v u h t → Turns p blocks xs ts cols dols w u s t
+      pub turns_handled : (h : Handling) → q ≡ Ok h → (ts : List ℕ) (dols : Columns 2000) (u : Walk) (t : Result (Option MemoryState) Refusal) → handled < 3 → Follows p zs ts cols dols v u h t → Turns p blocks xs ts cols dols w u s t
       turns_handled h f-ok ts dols u t few follows =
           record {
             says = λ g fd r. turn_told r ys small less raised zs low long x read q (ltb 0 handled) (ap (ltb 0) is) st.gas handles h f-ok ts dols u t (omega (arith, few, is, handled_is r)) (subst (λ y. Follows p zs ts cols dols y u h t) e follows);
             bytes = follows.bytes ∙ long ∙ raised.bytes;
-            columns = follows.columns;
           }
 
       pub turns_refused : (k : Refusal) → handled < 3 → q ≡ Err k → Turns p blocks xs zs cols cols w v s (Err k)
@@ -396,14 +393,13 @@ module _ {p : Program} {blocks xs cols : List ℕ} {w : Walk} {s : MemoryState} 
           record {
             says = λ g fd r. turn_refused r ys small less raised zs low long x read q (ltb 0 handled) (ap (ltb 0) is) st.gas handles cols v k (omega (arith, few, is, handled_is r)) f;
             bytes = long ∙ raised.bytes;
-            columns = refl;
           }
 
 -- ---- a row that is handled in place
 
 -- what is asked for
-pub ready_near : {limit : ℕ} {cs : List Cell} {s : MemoryState} {x : Row} → Ready limit cs s x → ReadyAt cs s.row s.map.base (s.map.base + s.map.used) x.op x.p1 x.p2 x.p3
-ready_near {limit} {s = s} {x} ready =
+pub ready_near : {limit : ℕ} {cs : List Cell} {s : MemoryState} (x : Row) → Ready limit cs s → ReadyAt cs s.row s.map.base (s.map.base + s.map.used) x.op x.p1 x.p2 x.p3
+ready_near {limit} {s = s} x ready =
     record {
       limit = limit;
       state = s;
@@ -414,16 +410,16 @@ ready_near {limit} {s = s} {x} ready =
       stands = record { on = refl; from = refl; to = refl };
     }
 
-module _ {p : Program} {blocks xs cols : List ℕ} {w : Walk} {s : MemoryState} (st : Standing p blocks xs cols w s) (v : Walk) (e : v ≡ charge_one w) (ys zs : List ℕ) (small : Bytes xs) (less : Bytes ys) (low : Bytes zs) (raised : Raised xs ys (counts_from p) (s.row - offset)) (long : length zs ≡ length ys) (x : Row) (read : x ≡ row_in (get_or (cells ys) (rows_from p + (s.row - offset)) blank)) (handled : ℕ) (is : handled ≡ count_at xs (counts_from p) (s.row - offset)) where
+module _ {p : Program} {blocks xs : List ℕ} {cols : Columns 2000} {w : Walk} {s : MemoryState} (st : Standing p blocks xs cols w s) (v : Walk) (e : v ≡ charge_one w) (ys zs : List ℕ) (small : Bytes xs) (less : Bytes ys) (low : Bytes zs) (raised : Raised xs ys (counts_from p) (s.row - offset)) (long : length zs ≡ length ys) (x : Row) (read : parts x ≡ row_in (get_or (cells ys) (rows_from p + (s.row - offset)) blank)) (handled : ℕ) (is : handled ≡ count_at xs (counts_from p) (s.row - offset)) where
   pub turns_in_place : {next : ℕ} {near : Option ℕ} → near ≡ Some next → HandlesNear (cells ys) (cells zs) s.row s.map.base (s.map.base + s.map.used) x.op x.p1 x.p2 x.p3 p.size near → handled < 3 → Turns p blocks xs zs cols cols w v s (Ok (Some (record { map = s.map; row = next })))
   turns_in_place {next} ne near few =
       let n : MemoryState = record { map = s.map; row = next } in
       let h : Handling = handling.Ways (record { branch = None; stays = Some n }) false in
-      let handles : Handles p.limit (rows_from p) p.size (cells ys) (cells zs) blocks s x (ltb 0 handled) (Ok h) =
-      near.yes next ne p.limit s x (is_ready st.holds ys small less raised x read) refl (record { first = refl; second = refl; third = refl }) (record { on = refl; from = refl; to = refl }) (rows_from p) p.size blocks (ltb 0 handled) (is_blocks st.holds) in
-      turns_handled st v e ys zs small less low raised long x read (Ok h) handled is handles h refl zs cols v (Ok (Some n)) few
+      let handles : Handles p.limit (rows_from p) p.size (cells ys) (cells zs) blocks s (parts x) (ltb 0 handled) (Ok h) =
+      near.yes next ne p.limit s x (is_ready st.holds ys small less raised) refl (record { first = refl; second = refl; third = refl }) (record { on = refl; from = refl; to = refl }) (rows_from p) p.size blocks (ltb 0 handled) in
+      turns_handled st v e ys zs small less low raised long (parts x) read (Ok h) handled is handles h refl zs cols v (Ok (Some n)) few
       (all_ways p zs cols v v (record { branch = None; stays = Some n }) false zs (Ok (Some n))
-      (ways_goes low low (handled_turning st v e ys zs small less low raised long x read (Ok h) handled is handles).less (way_none p zs v) refl
+      (ways_goes low low (handled_turning st v e ys zs small less low raised long (parts x) read (Ok h) handled is handles).less (way_none p zs v) refl
       (goes_row p zs v (Some n) n refl (listing_in p next (record { above = (near.within next ne).0; below = omega (arith, (near.within next ne).0, (near.within next ne).1) })))))
 
 -- where it was not, nothing has changed, and the row that was read then is this one

@@ -1,6 +1,6 @@
 -- What the functions of the walk's loop say. Each speaks of every walk of the definition that the area and the struct hold; what is asked is
 -- that they hold one. A walk w before a call is v after it, and the bytes xs of the area are ys. Assumes nothing.
-use Rattle.std.specs.Prelude.{◌≡◌, Bool, List, [], ◌∷◌, ◌++◌, ℕ, ◌+◌, ◌-◌, ◌<◌, ◌≤◌, pos, length, Option, None, Some, Result, Ok, Err}
+use Rattle.std.specs.Prelude.{◌≡◌, Bool, List, [], ◌∷◌, ◌++◌, ℕ, ◌-◌, ◌<◌, ◌≤◌, pos, length, Option, None, Some, Result, Ok, Err}
 use Rattle.model.specs.Walk.{done, Lineage, Notes, ◌∈◌, Front as Fronted, none_left, on_row, notes_at, full, onward, gas_stop, note_repeat, take_up, go_on, close_all}
 use Rattle.model.specs.State.{ColumnType, MemoryState as Defined}
 use Rattle.model.specs.Access.{read_columns}
@@ -13,12 +13,14 @@ use Rattle.area.specs.Cells.{cells}
 use Rattle.intmap.specs.Signed.{offset}
 use Rattle.state.specs.Steps.{HoldsState, TellsWay, StaysAt, branch_of, Way}
 use Rattle.state.specs.declared.MemoryState.{MemoryState}
+use Rattle.state.specs.declared.registers.Registers.{Registers}
 use Rattle.merge.specs.Columns.{HasColumns}
 use Rattle.branches.specs.Header.{row_at}
 use Rattle.branches.specs.Entries.{Kept, Counted}
 use Rattle.branches.specs.Lists.{Below, Offers as Below-them}
 use Rattle.counters.specs.Counted.{one_charged}
 use Rattle.explain.specs.Handles.{OffersWays, OffersThree, OffersResult, TellsHandling}
+use Rattle.merge.specs.declared.columns.Columns.{Columns}
 use Rattle.walk.specs.Walks.{counts_from, Given, bound_of, HoldsList, HoldsWalk, HoldsRow, HoldsFront, HoldsEnd, TellsTurn, TellsRun, the_offer, the_following, the_turn, the_run}
 use Rattle.explain.specs.declared.Handling.{Handling}
 use Rattle.explain.specs.declared.Handling.TheVariants as handling
@@ -30,7 +32,7 @@ use Rattle.walk.specs.declared.Walk.{Walk}
 pub record Walking (p : Program) (xs : List ℕ) (w : Walk) : Type 0 where
   pub given : Given
   pub blocks : List ℕ
-  pub cols : List ℕ
+  pub cols : Columns 2000
   pub waiting : List (Lineage Defined)
   pub notes : Notes Defined ResultRow
   pub holds : HoldsWalk p given blocks xs cols w waiting notes
@@ -39,7 +41,7 @@ pub record Walking (p : Program) (xs : List ℕ) (w : Walk) : Type 0 where
 pub record Holding (p : Program) (xs : List ℕ) (w : Walk) : Type 0 where
   pub given : Given
   pub blocks : List ℕ
-  pub cols : List ℕ
+  pub cols : Columns 2000
   pub waiting : List (Lineage Defined)
   pub known : List Defined
   pub space : ℕ
@@ -68,13 +70,13 @@ MayOffer p xs w (Some s) = Offering p xs w s
 -- ---- taking up
 
 -- nothing that waits stands on a row
-pub record Nothing (p : Program) (g : Given) (blocks xs cols : List ℕ) (w : Walk) (f : Fronted Defined ResultRow) : Type 0 where
+pub record Nothing (p : Program) (g : Given) (blocks xs : List ℕ) (cols : Columns 2000) (w : Walk) (f : Fronted Defined ResultRow) : Type 0 where
   pub notes : Notes Defined ResultRow
   pub is : f ≡ none_left notes
   pub holds : HoldsWalk p g blocks xs cols w [] notes
 
 -- the state at `at` does
-pub record OneAt (p : Program) (g : Given) (blocks xs cols : List ℕ) (w : Walk) (at : ℕ) (f : Fronted Defined ResultRow) : Type 0 where
+pub record OneAt (p : Program) (g : Given) (blocks xs : List ℕ) (cols : Columns 2000) (w : Walk) (at : ℕ) (f : Fronted Defined ResultRow) : Type 0 where
   pub waiting : List (Lineage Defined)
   pub notes : Notes Defined ResultRow
   pub holds : HoldsWalk p g blocks xs cols w waiting notes
@@ -85,7 +87,7 @@ pub record OneAt (p : Program) (g : Given) (blocks xs cols : List ℕ) (w : Walk
   pub within : row_at (cells xs) at - offset < p.size
   pub is : f ≡ on_row (row_at (cells xs) at - offset) (record { mem = one.mem; past = one.past }) waiting notes
 
-abbrev pub TellsTaken : Program → Given → List ℕ → List ℕ → List ℕ → Walk → Option ℕ → Fronted Defined ResultRow → Type 0
+abbrev pub TellsTaken : Program → Given → List ℕ → List ℕ → Columns 2000 → Walk → Option ℕ → Fronted Defined ResultRow → Type 0
 TellsTaken p g blocks xs cols w None f = Nothing p g blocks xs cols w f
 TellsTaken p g blocks xs cols w (Some at) f = OneAt p g blocks xs cols w at f
 
@@ -96,18 +98,18 @@ Shorter w v (Some at) = v.branches.last < w.branches.last
 
 -- it is taken from those that wait
 pub record Takes (p : Program) (xs : List ℕ) (w v : Walk) (r : Option ℕ) : Type 0 where
-  pub says : (g : Given) (blocks cols : List ℕ) (ls : List (Lineage Defined)) (n : Notes Defined ResultRow) → HoldsWalk p g blocks xs cols w ls n → TellsTaken p g blocks xs cols v r (take_up (row_of g.rows) ls n)
+  pub says : (g : Given) (blocks : List ℕ) (cols : Columns 2000) (ls : List (Lineage Defined)) (n : Notes Defined ResultRow) → HoldsWalk p g blocks xs cols w ls n → TellsTaken p g blocks xs cols v r (take_up (row_of g.rows) ls n)
   pub less : Shorter w v r
 
 -- and is current
 pub record TakesUp (p : Program) (xs ys : List ℕ) (w v : Walk) (r : Option MemoryState) : Type 0 where
-  pub says : (g : Given) (blocks cols : List ℕ) (ls : List (Lineage Defined)) (n : Notes Defined ResultRow) → HoldsWalk p g blocks xs cols w ls n → HoldsFront p g blocks ys cols v r (take_up (row_of g.rows) ls n)
+  pub says : (g : Given) (blocks : List ℕ) (cols : Columns 2000) (ls : List (Lineage Defined)) (n : Notes Defined ResultRow) → HoldsWalk p g blocks xs cols w ls n → HoldsFront p g blocks ys cols v r (take_up (row_of g.rows) ls n)
   pub bytes : length ys ≡ length xs
 
 -- the state that goes on is current, if it stands on a row
 pub record GoesOn (p : Program) (xs ys : List ℕ) (w v : Walk) (stays : Way) (r : Option MemoryState) : Type 0 where
   pub says :
-      (g : Given) (blocks cols : List ℕ) (ls : List (Lineage Defined)) (n : Notes Defined ResultRow) (past : List ℕ) (ms : Option Defined) →
+      (g : Given) (blocks : List ℕ) (cols : Columns 2000) (ls : List (Lineage Defined)) (n : Notes Defined ResultRow) (past : List ℕ) (ms : Option Defined) →
       HoldsWalk p g blocks xs cols w ls n →
       TellsWay p.limit (bound_of w) (cells xs) stays ms →
       StaysAt p.limit (cells xs) 0 stays →
@@ -118,29 +120,28 @@ pub record GoesOn (p : Program) (xs ys : List ℕ) (w v : Walk) (stays : Way) (r
 -- ---- a branch offered
 
 -- what is in the area then, and what is left to offer gives what all did
-pub record Offers (p : Program) (g : Given) (blocks ys cols : List ℕ) (w : Walk) (past : List ℕ) (ms : List Defined) (ls : List (Lineage Defined)) (remembered : List Defined) (space : ℕ) (counted : List ResultRow) : Type 0 where
+pub record Offers (p : Program) (g : Given) (blocks ys : List ℕ) (cols : Columns 2000) (w : Walk) (past : List ℕ) (ms : List Defined) (ls : List (Lineage Defined)) (remembered : List Defined) (space : ℕ) (counted : List ResultRow) : Type 0 where
   pub waiting : List (Lineage Defined)
   pub known : List Defined
   pub left : ℕ
   pub same : (more : List Defined) → the_offer p g past (ms ++ more) ls remembered space ≡ the_offer p g past more waiting known left
   pub holds : HoldsList p g blocks ys cols w waiting known left counted
 
--- the counts are the same, and so is the width
+-- the counts are the same
 pub record SameCounts (w v : Walk) : Type 0 where
   pub gas : v.gas ≡ w.gas
   pub charged : v.counts.charged ≡ w.counts.charged
   pub loopstops : v.counts.loopstops ≡ w.counts.loopstops
   pub gasstops : v.counts.gasstops ≡ w.counts.gasstops
   pub repeats : v.counts.repeats ≡ w.counts.repeats
-  pub width : v.width ≡ w.width
 
-abbrev pub TellsOffers : Program → Given → List ℕ → List ℕ → List ℕ → Walk → Walk → Result (Unit {0}) Refusal → List ℕ → List Defined → List (Lineage Defined) → List Defined → ℕ → List ResultRow → Type 0
+abbrev pub TellsOffers : Program → Given → List ℕ → List ℕ → Columns 2000 → Walk → Walk → Result (Unit {0}) Refusal → List ℕ → List Defined → List (Lineage Defined) → List Defined → ℕ → List ResultRow → Type 0
 TellsOffers p g blocks ys cols w v (Err e) past ms ls remembered space counted = (e ≡ NoSpace) × ((more : List Defined) → the_offer p g past (ms ++ more) ls remembered space ≡ full)
 TellsOffers p g blocks ys cols w v (Ok u) past ms ls remembered space counted = Offers p g blocks ys cols v past ms ls remembered space counted × SameCounts w v
 
 pub record AddsBranch (p : Program) (xs ys : List ℕ) (w v : Walk) (s : MemoryState) (r : Result (Unit {0}) Refusal) : Type 0 where
   pub says :
-      (g : Given) (blocks cols : List ℕ) (ls : List (Lineage Defined)) (remembered : List Defined) (space : ℕ) (counted : List ResultRow) (past : List ℕ) (m : Defined) →
+      (g : Given) (blocks : List ℕ) (cols : Columns 2000) (ls : List (Lineage Defined)) (remembered : List Defined) (space : ℕ) (counted : List ResultRow) (past : List ℕ) (m : Defined) →
       HoldsList p g blocks xs cols w ls remembered space counted →
       HoldsState p.limit (bound_of w) (cells xs) s m →
       Counted xs p.size (counts_from p) past →
@@ -151,7 +152,7 @@ pub record AddsBranch (p : Program) (xs ys : List ℕ) (w v : Walk) (s : MemoryS
 -- at most one
 pub record AddsWay (p : Program) (xs ys : List ℕ) (w v : Walk) (branch : Way) (r : Result (Unit {0}) Refusal) : Type 0 where
   pub says :
-      (g : Given) (blocks cols : List ℕ) (ls : List (Lineage Defined)) (remembered : List Defined) (space : ℕ) (counted : List ResultRow) (past : List ℕ) (ms : Option Defined) →
+      (g : Given) (blocks : List ℕ) (cols : Columns 2000) (ls : List (Lineage Defined)) (remembered : List Defined) (space : ℕ) (counted : List ResultRow) (past : List ℕ) (ms : Option Defined) →
       HoldsList p g blocks xs cols w ls remembered space counted →
       TellsWay p.limit (bound_of w) (cells xs) branch ms →
       Counted xs p.size (counts_from p) past →
@@ -162,7 +163,7 @@ pub record AddsWay (p : Program) (xs ys : List ℕ) (w v : Walk) (branch : Way) 
 -- three of them
 pub record AddsThree (p : Program) (xs ys : List ℕ) (w v : Walk) (a b c : MemoryState) (r : Result (Unit {0}) Refusal) : Type 0 where
   pub says :
-      (g : Given) (blocks cols : List ℕ) (ls : List (Lineage Defined)) (remembered : List Defined) (space : ℕ) (counted : List ResultRow) (past : List ℕ) (m₁ m₂ m₃ : Defined) →
+      (g : Given) (blocks : List ℕ) (cols : Columns 2000) (ls : List (Lineage Defined)) (remembered : List Defined) (space : ℕ) (counted : List ResultRow) (past : List ℕ) (m₁ m₂ m₃ : Defined) →
       HoldsList p g blocks xs cols w ls remembered space counted →
       HoldsState p.limit (bound_of w) (cells xs) a m₁ →
       HoldsState p.limit (bound_of w) (cells xs) b m₂ →
@@ -179,13 +180,12 @@ note_repeated w b =
     record {
       gas = w.gas;
       counts = record { charged = w.counts.charged; loopstops = w.counts.loopstops; gasstops = w.counts.gasstops; repeats = note_repeat b w.counts.repeats };
-      width = w.width;
       branches = w.branches;
     }
 
 pub record FollowsWays (p : Program) (xs ys : List ℕ) (w v : Walk) (branch stays : Way) (repeat : Bool) (r : Result (Option MemoryState) Refusal) : Type 0 where
   pub says :
-      (g : Given) (blocks cols : List ℕ) (ls : List (Lineage Defined)) (n : Notes Defined ResultRow) (past : List ℕ) (o : Offer) →
+      (g : Given) (blocks : List ℕ) (cols : Columns 2000) (ls : List (Lineage Defined)) (n : Notes Defined ResultRow) (past : List ℕ) (o : Offer) →
       HoldsWalk p g blocks xs cols w ls n →
       Counted xs p.size (counts_from p) past →
       OffersWays p.limit (bound_of w) (cells xs) branch stays repeat o →
@@ -195,7 +195,7 @@ pub record FollowsWays (p : Program) (xs ys : List ℕ) (w v : Walk) (branch sta
 
 pub record FollowsThree (p : Program) (xs ys : List ℕ) (w v : Walk) (a b c stays : MemoryState) (r : Result (Option MemoryState) Refusal) : Type 0 where
   pub says :
-      (g : Given) (blocks cols : List ℕ) (ls : List (Lineage Defined)) (n : Notes Defined ResultRow) (past : List ℕ) (o : Offer) →
+      (g : Given) (blocks : List ℕ) (cols : Columns 2000) (ls : List (Lineage Defined)) (n : Notes Defined ResultRow) (past : List ℕ) (o : Offer) →
       HoldsWalk p g blocks xs cols w ls n →
       Counted xs p.size (counts_from p) past →
       OffersThree p.limit (bound_of w) (cells xs) a b c stays o →
@@ -203,41 +203,38 @@ pub record FollowsThree (p : Program) (xs ys : List ℕ) (w v : Walk) (a b c sta
       TellsTurn p g blocks ys cols v r (the_following p g past ls n o)
   pub bytes : length ys ≡ length xs
 
--- n registers of a state make a result row
-pub record Resulting (p : Program) (xs cols : List ℕ) (w : Walk) (branch : MemoryState) (first n : ℕ) : Type 0 where
+-- registers of a state make a result row
+pub record Resulting (p : Program) (xs : List ℕ) (cols : Columns 2000) (w : Walk) (branch : MemoryState) (from : Registers) : Type 0 where
   pub offering : Offering p xs w branch
   pub row : List ColumnType
-  pub read : read_columns n (pos first) offering.state ≡ done row
-  pub range : first + n ≤ 65536
-  pub narrow : n ≤ 2000
-  pub width : length cols ≡ 2000
+  pub read : read_columns from.count (pos from.first) offering.state ≡ done row
+  pub narrow : from.count ≤ 2000
   pub results : List ResultRow
-  pub has : HasColumns cols w.width (columns_of results)
+  pub has : HasColumns cols.bytes cols.width (columns_of results)
 
-pub record FollowsResult (p : Program) (xs ys cols dols : List ℕ) (w v : Walk) (branch : MemoryState) (first n : ℕ) (r : Result (Option MemoryState) Refusal) : Type 0 where
+pub record FollowsResult (p : Program) (xs ys : List ℕ) (cols dols : Columns 2000) (w v : Walk) (branch : MemoryState) (from : Registers) (r : Result (Option MemoryState) Refusal) : Type 0 where
   pub says :
       (g : Given) (blocks : List ℕ) (ls : List (Lineage Defined)) (notes : Notes Defined ResultRow) (past : List ℕ) (m : Defined) (o : Offer) →
       HoldsWalk p g blocks xs cols w ls notes →
       Counted xs p.size (counts_from p) past →
-      OffersResult p.limit (bound_of w) (cells xs) m branch first n o →
+      OffersResult p.limit (bound_of w) (cells xs) m branch from o →
       TellsTurn p g blocks ys dols v r (the_following p g past ls notes o)
   pub bytes : length ys ≡ length xs
-  pub columns : length dols ≡ length cols
 
 -- ---- all of them
 
-abbrev pub MayFollow : Program → List ℕ → List ℕ → Walk → Handling → Type 0
+abbrev pub MayFollow : Program → List ℕ → Columns 2000 → Walk → Handling → Type 0
 MayFollow p xs cols w (handling.Ways ways r) = MayOffer p xs w ways.branch
 MayFollow p xs cols w (handling.Three a b c s) = Offering p xs w a × Offering p xs w b × Offering p xs w c
-MayFollow p xs cols w (handling.Result b first n) = Resulting p xs cols w b first n
+MayFollow p xs cols w (handling.Result b from) = Resulting p xs cols w b from
 
 -- the state that goes on lies where the current one did
 abbrev pub StaysHere : Program → List ℕ → Handling → Type 0
 StaysHere p xs (handling.Ways ways r) = StaysAt p.limit (cells xs) 0 ways.stays
 StaysHere p xs (handling.Three a b c s) = StaysAt p.limit (cells xs) 0 (Some s)
-StaysHere p xs (handling.Result b first n) = Unit {0}
+StaysHere p xs (handling.Result b from) = Unit {0}
 
-pub record Follows (p : Program) (xs ys cols dols : List ℕ) (w v : Walk) (h : Handling) (r : Result (Option MemoryState) Refusal) : Type 0 where
+pub record Follows (p : Program) (xs ys : List ℕ) (cols dols : Columns 2000) (w v : Walk) (h : Handling) (r : Result (Option MemoryState) Refusal) : Type 0 where
   pub says :
       (g : Given) (blocks : List ℕ) (ls : List (Lineage Defined)) (n : Notes Defined ResultRow) (past : List ℕ) (m : Defined) (o : Offer) →
       HoldsWalk p g blocks xs cols w ls n →
@@ -246,44 +243,39 @@ pub record Follows (p : Program) (xs ys cols dols : List ℕ) (w v : Walk) (h : 
       StaysHere p xs h →
       TellsTurn p g blocks ys dols v r (the_following p g past ls n o)
   pub bytes : length ys ≡ length xs
-  pub columns : length dols ≡ length cols
 
 -- ---- a turn of the loop, and the run
 
 abbrev pub charge_one : Walk → Walk
-charge_one w = record { gas = w.gas - 1; counts = one_charged w.counts; width = w.width; branches = w.branches }
+charge_one w = record { gas = w.gas - 1; counts = one_charged w.counts; branches = w.branches }
 
 -- a lineage is on a row, with a unit left
-pub record Standing (p : Program) (blocks xs cols : List ℕ) (w : Walk) (s : MemoryState) : Type 0 where
+pub record Standing (p : Program) (blocks xs : List ℕ) (cols : Columns 2000) (w : Walk) (s : MemoryState) : Type 0 where
   pub given : Given
   pub front : Fronted Defined ResultRow
   pub holds : HoldsRow p given blocks xs cols w s front
-  pub width : length cols ≡ 2000
   pub gas : 0 < w.gas
 
-pub record Turns (p : Program) (blocks xs ys cols dols : List ℕ) (w v : Walk) (s : MemoryState) (r : Result (Option MemoryState) Refusal) : Type 0 where
+pub record Turns (p : Program) (blocks xs ys : List ℕ) (cols dols : Columns 2000) (w v : Walk) (s : MemoryState) (r : Result (Option MemoryState) Refusal) : Type 0 where
   pub says : (g : Given) (f : Fronted Defined ResultRow) → HoldsRow p g blocks xs cols w s f → TellsTurn p g blocks ys dols v r (the_turn p g f)
   pub bytes : length ys ≡ length xs
-  pub columns : length dols ≡ length cols
 
 -- with no unit left, the lineages that wait on a row are closed
 pub record Closes (p : Program) (xs : List ℕ) (w v : Walk) : Type 0 where
-  pub says : (g : Given) (blocks cols : List ℕ) (ls : List (Lineage Defined)) (n : Notes Defined ResultRow) → HoldsWalk p g blocks xs cols w ls n → HoldsEnd p g blocks xs cols v (close_all (row_of g.rows) ls n)
+  pub says : (g : Given) (blocks : List ℕ) (cols : Columns 2000) (ls : List (Lineage Defined)) (n : Notes Defined ResultRow) → HoldsWalk p g blocks xs cols w ls n → HoldsEnd p g blocks xs cols v (close_all (row_of g.rows) ls n)
 
 -- the current one first
 pub record ClosesCurrent (p : Program) (xs : List ℕ) (w v : Walk) : Type 0 where
-  pub says : (g : Given) (blocks cols : List ℕ) (ls : List (Lineage Defined)) (n : Notes Defined ResultRow) → HoldsWalk p g blocks xs cols w ls n → HoldsEnd p g blocks xs cols v (close_all (row_of g.rows) ls (gas_stop n))
+  pub says : (g : Given) (blocks : List ℕ) (cols : Columns 2000) (ls : List (Lineage Defined)) (n : Notes Defined ResultRow) → HoldsWalk p g blocks xs cols w ls n → HoldsEnd p g blocks xs cols v (close_all (row_of g.rows) ls (gas_stop n))
 
 -- a lineage is on a row, and no lineage was closed for want of units
-pub record Running (p : Program) (blocks xs cols : List ℕ) (w : Walk) (s : MemoryState) : Type 0 where
+pub record Running (p : Program) (blocks xs : List ℕ) (cols : Columns 2000) (w : Walk) (s : MemoryState) : Type 0 where
   pub given : Given
   pub front : Fronted Defined ResultRow
   pub holds : HoldsRow p given blocks xs cols w s front
-  pub width : length cols ≡ 2000
   pub unclosed : (notes_at front).gasstops ≡ 0
 
 -- the run is the definition's, with this budget and the units that are left
-pub record Runs (p : Program) (blocks xs ys cols dols : List ℕ) (w v : Walk) (s : MemoryState) (budget : ℕ) (r : Result (Option MemoryState) Refusal) : Type 0 where
+pub record Runs (p : Program) (blocks xs ys : List ℕ) (cols dols : Columns 2000) (w v : Walk) (s : MemoryState) (budget : ℕ) (r : Result (Option MemoryState) Refusal) : Type 0 where
   pub says : (g : Given) (f : Fronted Defined ResultRow) → HoldsRow p g blocks xs cols w s f → (notes_at f).gasstops ≡ 0 → TellsRun p g blocks ys dols v r (the_run p g budget w.gas f)
   pub bytes : length ys ≡ length xs
-  pub columns : length dols ≡ length cols

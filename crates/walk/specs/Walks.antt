@@ -26,6 +26,7 @@ use Rattle.branches.specs.Entries.{Kept, states, lineages, Counted, Remembers}
 use Rattle.branches.specs.declared.Layout.{Layout}
 use Rattle.merge.specs.Columns.{HasColumns}
 use Rattle.explain.specs.Handles.{meaning_of}
+use Rattle.merge.specs.declared.columns.Columns.{Columns}
 use Rattle.walk.specs.declared.Program.{Program}
 use Rattle.walk.specs.declared.Walk.{Walk}
 
@@ -58,13 +59,12 @@ abbrev pub bound_of : Walk → ℕ
 bound_of w = operands + w.counts.charged
 
 -- what is in the area but for the current lineage: these wait and are remembered, with this space left, and these result rows are counted
-pub record HoldsList (p : Program) (g : Given) (blocks xs cols : List ℕ) (w : Walk) (ls : List (Lineage Defined)) (remembered : List Defined) (space : ℕ) (counted : List ResultRow) : Type 0 where
+pub record HoldsList (p : Program) (g : Given) (blocks xs : List ℕ) (cols : Columns 2000) (w : Walk) (ls : List (Lineage Defined)) (remembered : List Defined) (space : ℕ) (counted : List ResultRow) : Type 0 where
   pub size : length g.rows ≡ p.size
   pub few : p.size ≤ 2048
   pub rows : HaveRows (cells xs) (rows_from p) g.rows
   pub records : HasBlocks blocks g.records
-  pub columns : HasColumns cols w.width (columns_of counted)
-  pub wide : w.width ≤ 2000
+  pub columns : HasColumns cols.bytes cols.width (columns_of counted)
   pub all : List Kept
   pub wait : List Kept
   pub remembers : Remembers p.limit (bound_of w) p.size xs w.branches all wait
@@ -83,7 +83,7 @@ pub record Counts (w : Walk) (n : Notes Defined ResultRow) : Type 0 where
   pub loopstops_few : w.counts.loopstops ≤ w.counts.charged
   pub repeats_few : w.counts.repeats ≤ w.counts.charged
 
-pub record HoldsWalk (p : Program) (g : Given) (blocks xs cols : List ℕ) (w : Walk) (ls : List (Lineage Defined)) (n : Notes Defined ResultRow) : Type 0 where
+pub record HoldsWalk (p : Program) (g : Given) (blocks xs : List ℕ) (cols : Columns 2000) (w : Walk) (ls : List (Lineage Defined)) (n : Notes Defined ResultRow) : Type 0 where
   pub list : HoldsList p g blocks xs cols w ls n.remembered n.space n.counted
   pub counts : Counts w n
   pub all : w.counts.charged + w.gas ≡ g.units
@@ -96,13 +96,13 @@ pub record HoldsLineage (p : Program) (xs : List ℕ) (w : Walk) (s : MemoryStat
   pub past : Counted xs p.size (counts_from p) l.past
 
 -- no lineage is left
-pub record HoldsNone (p : Program) (g : Given) (blocks xs cols : List ℕ) (w : Walk) (f : Fronted Defined ResultRow) : Type 0 where
+pub record HoldsNone (p : Program) (g : Given) (blocks xs : List ℕ) (cols : Columns 2000) (w : Walk) (f : Fronted Defined ResultRow) : Type 0 where
   pub notes : Notes Defined ResultRow
   pub is : f ≡ none_left notes
   pub walk : HoldsWalk p g blocks xs cols w [] notes
 
 -- the current lineage is on a row
-pub record HoldsRow (p : Program) (g : Given) (blocks xs cols : List ℕ) (w : Walk) (s : MemoryState) (f : Fronted Defined ResultRow) : Type 0 where
+pub record HoldsRow (p : Program) (g : Given) (blocks xs : List ℕ) (cols : Columns 2000) (w : Walk) (s : MemoryState) (f : Fronted Defined ResultRow) : Type 0 where
   pub row : ℕ
   pub lineage : Lineage Defined
   pub waiting : List (Lineage Defined)
@@ -114,7 +114,7 @@ pub record HoldsRow (p : Program) (g : Given) (blocks xs cols : List ℕ) (w : W
   pub within : row < p.size
 
 -- either, by the state that is current
-abbrev pub HoldsFront : Program → Given → List ℕ → List ℕ → List ℕ → Walk → Option MemoryState → Fronted Defined ResultRow → Type 0
+abbrev pub HoldsFront : Program → Given → List ℕ → List ℕ → Columns 2000 → Walk → Option MemoryState → Fronted Defined ResultRow → Type 0
 HoldsFront p g blocks xs cols w None f = HoldsNone p g blocks xs cols w f
 HoldsFront p g blocks xs cols w (Some s) f = HoldsRow p g blocks xs cols w s f
 
@@ -123,17 +123,17 @@ pub record Stopped (k : ℕ) (t : Turned Defined ResultRow) : Type 0 where
   pub notes : Notes Defined ResultRow
   pub is : t ≡ over (refused_with k notes)
 
-pub record Moved (p : Program) (g : Given) (blocks xs cols : List ℕ) (w : Walk) (r : Option MemoryState) (t : Turned Defined ResultRow) : Type 0 where
+pub record Moved (p : Program) (g : Given) (blocks xs : List ℕ) (cols : Columns 2000) (w : Walk) (r : Option MemoryState) (t : Turned Defined ResultRow) : Type 0 where
   pub front : Fronted Defined ResultRow
   pub is : t ≡ goes front
   pub holds : HoldsFront p g blocks xs cols w r front
 
-abbrev pub TellsTurn : Program → Given → List ℕ → List ℕ → List ℕ → Walk → Result (Option MemoryState) Refusal → Turned Defined ResultRow → Type 0
+abbrev pub TellsTurn : Program → Given → List ℕ → List ℕ → Columns 2000 → Walk → Result (Option MemoryState) Refusal → Turned Defined ResultRow → Type 0
 TellsTurn p g blocks xs cols w (Err e) t = Stopped (number_of e) t
 TellsTurn p g blocks xs cols w (Ok r) t = Moved p g blocks xs cols w r t
 
 -- a run is paused, refused or answered
-pub record Paused (p : Program) (g : Given) (blocks xs cols : List ℕ) (w : Walk) (s : MemoryState) (t : Progressed Defined ResultRow) : Type 0 where
+pub record Paused (p : Program) (g : Given) (blocks xs : List ℕ) (cols : Columns 2000) (w : Walk) (s : MemoryState) (t : Progressed Defined ResultRow) : Type 0 where
   pub front : Fronted Defined ResultRow
   pub is : t ≡ paused w.gas front
   pub holds : HoldsRow p g blocks xs cols w s front
@@ -148,19 +148,18 @@ pub record Few (w : Walk) : Type 0 where
   pub loopstops : w.counts.loopstops ≤ 4294967295
   pub gasstops : w.counts.gasstops ≤ 4294967295
   pub repeats : w.counts.repeats ≤ 4294967295
-  pub width : w.width ≤ 2000
 
 -- a walk that has ended: nothing waits, and what is remembered and counted is still held
-pub record HoldsEnd (p : Program) (g : Given) (blocks xs cols : List ℕ) (w : Walk) (notes : Notes Defined ResultRow) : Type 0 where
+pub record HoldsEnd (p : Program) (g : Given) (blocks xs : List ℕ) (cols : Columns 2000) (w : Walk) (notes : Notes Defined ResultRow) : Type 0 where
   pub walk : HoldsWalk p g blocks xs cols w [] notes
   pub few : Few w
 
-pub record Answered (p : Program) (g : Given) (blocks xs cols : List ℕ) (w : Walk) (t : Progressed Defined ResultRow) : Type 0 where
+pub record Answered (p : Program) (g : Given) (blocks xs : List ℕ) (cols : Columns 2000) (w : Walk) (t : Progressed Defined ResultRow) : Type 0 where
   pub notes : Notes Defined ResultRow
   pub is : t ≡ ended (answered notes)
   pub end : HoldsEnd p g blocks xs cols w notes
 
-abbrev pub TellsRun : Program → Given → List ℕ → List ℕ → List ℕ → Walk → Result (Option MemoryState) Refusal → Progressed Defined ResultRow → Type 0
+abbrev pub TellsRun : Program → Given → List ℕ → List ℕ → Columns 2000 → Walk → Result (Option MemoryState) Refusal → Progressed Defined ResultRow → Type 0
 TellsRun p g blocks xs cols w (Err e) t = Refused (number_of e) t
 TellsRun p g blocks xs cols w (Ok (Some s)) t = Paused p g blocks xs cols w s t
 TellsRun p g blocks xs cols w (Ok None) t = Answered p g blocks xs cols w t

@@ -11,9 +11,10 @@ ghost use Rattle.walk.specs.Loop.{Walking, Takes, TakesUp, GoesOn, Holding, Turn
 use branches::{BranchList, Layout};
 use counters::Counters;
 use explain::Handling;
+use merge::Columns;
 use refusal::Refusal;
 use rows::Row;
-use state::{MemoryState, Ways};
+use state::{MemoryState, Registers, Ways};
 
 // The listing's rows, so many, behind the rooms of two states of at most `limit` cells.
 #[derive(Clone, Copy)]
@@ -22,12 +23,11 @@ pub struct Program {
     pub size: usize,
 }
 
-// A walk between rows: the units left, the four counts, the width of the widest result row, and the branches.
+// A walk between rows: the units left, the four counts, and the branches.
 #[derive(Clone, Copy)]
 pub struct Walk {
     pub gas: u64,
     pub counts: Counters,
-    pub width: usize,
     pub branches: BranchList,
 }
 
@@ -54,7 +54,7 @@ fn in_listing(row: u64, p: Program) -> bool
 
 // Where the state goes on to, if the row is handled in place.
 fn next_in_place(s: MemoryState, area: &mut [u8], x: Row, p: Program) -> Option<u64>
-    requires { Ready p.limit (cells area.old) s x }
+    requires { Ready p.limit (cells area.old) s }
     ensures { HandlesNear (cells area.old) (cells area.new) s.row s.map.base (s.map.base + s.map.used) x.op x.p1 x.p2 x.p3 p.size result }
 {
     let m = s.map;
@@ -189,16 +189,15 @@ impl Walk {
     fn follow_result(
         &mut self,
         area: &mut [u8],
-        columns: &mut [u8],
+        columns: &mut Columns<2000>,
         p: Program,
         branch: MemoryState,
-        first: u64,
-        n: u64,
+        row: Registers,
     ) -> Result<Option<MemoryState>, Refusal>
-        requires { Turning p area.old self.old × Resulting p area.old columns.old self.old branch first n }
-        ensures { FollowsResult p area.old area.new columns.old columns.new self.old self.new branch first n result }
+        requires { Turning p area.old self.old × Resulting p area.old columns.old self.old branch row }
+        ensures { FollowsResult p area.old area.new columns.old columns.new self.old self.new branch row result }
     {
-        self.width = merge::merge_row(columns, self.width, branch.map, area, first, n);
+        columns.merge_row(branch.map, area, row);
         self.add_branch(area, p, branch)?;
         Ok(self.take_up(area, p))
     }
@@ -207,7 +206,7 @@ impl Walk {
     fn follow(
         &mut self,
         area: &mut [u8],
-        columns: &mut [u8],
+        columns: &mut Columns<2000>,
         p: Program,
         h: Handling,
     ) -> Result<Option<MemoryState>, Refusal>
@@ -217,7 +216,7 @@ impl Walk {
         match h {
             Handling::Ways(ways, repeat) => self.follow_ways(area, p, ways, repeat),
             Handling::Three(a, b, c, s) => self.follow_three(area, p, a, b, c, s),
-            Handling::Result(b, first, n) => self.follow_result(area, columns, p, b, first, n),
+            Handling::Result(b, row) => self.follow_result(area, columns, p, b, row),
         }
     }
 
@@ -238,7 +237,7 @@ impl Walk {
         &mut self,
         s: MemoryState,
         area: &mut [u8],
-        columns: &mut [u8],
+        columns: &mut Columns<2000>,
         blocks: &[u8],
         p: Program,
     ) -> Result<Option<MemoryState>, Refusal>
@@ -298,7 +297,7 @@ impl Walk {
         &mut self,
         s: MemoryState,
         area: &mut [u8],
-        columns: &mut [u8],
+        columns: &mut Columns<2000>,
         blocks: &[u8],
         p: Program,
         budget: u64,

@@ -1,10 +1,7 @@
 -- `branches::link` adds the place to the third of the links' word that is 0. Assumes nothing.
 use Rattle.std.proofs.Common.{arith}
-use Rattle.branches.proofs.SaveLaws.{link_fits, linked, linked-none}
+use Rattle.branches.proofs.SaveLaws.{link_fits, linked}
 use Rattle.branches.proofs.link.Goals as goal
-
-pub returns-then-p-eq0 : goal.returns-then-p-eq0
-returns-then-p-eq0 c = linked-none _ _ _ _ c.if-p-eq0.true
 
 pub overflow_add-c : goal.overflow_add-c
 overflow_add-c c = record { fits = link_fits c.args.area.now _ _ _ _ _ c.requires c.if-p-eq0.false c.cell_at-c.ensures c.shift.ensures (omega arith) }

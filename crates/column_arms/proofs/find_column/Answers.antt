@@ -1,18 +1,11 @@
 -- `column_arms::find_column` searches the columns, and looks whether the one that it finds nests within its levels. Assumes nothing.
 use mathlib.Core.Path.{◌∙◌}
-use native.Mathlib.Omega.{arith}
 use Rattle.intmap.proofs.RunLaws.{first-inside}
-use Rattle.column_arms.proofs.ColumnLaws.{head_below, column_direct, direct_place, run-within, columns_behind, found_column, column_none, column_alone, column_record, too_deep}
+use Rattle.column_arms.proofs.ColumnLaws.{head_below, column_direct, run-within, columns_behind, found_column, column_none, column_alone, column_record, too_deep}
 use Rattle.column_arms.proofs.find_column.Goals as goal
-
-pub cell_at-head-requires : goal.cell_at-head-requires
-cell_at-head-requires c = first-inside _ _ _ c.requires.0
 
 pub is_direct-requires : goal.is_direct-requires
 is_direct-requires c = (c.requires.2, c.requires.3, head_below _ c.args.map _ c.requires.4)
-
-pub overflow_add-result-then-is_direct : goal.overflow_add-result-then-is_direct
-overflow_add-result-then-is_direct c = let near = c.is_direct.ensures c.if-is_direct.true in let h = direct_place _ _ _ _ _ near.flat near.below in omega (arith, h, c.requires.2.inside, c.requires.2.small)
 
 pub returns-then-is_direct : goal.returns-then-is_direct
 returns-then-is_direct c = column_direct _ _ _ _ c.requires.0 c.requires.1 c.requires.4 _ c.cell_at-head.ensures (c.is_direct.ensures c.if-is_direct.true)

@@ -1,7 +1,7 @@
 -- `column_arms::is_direct` tests the number, what is behind the columns, and the cell. Assumes nothing.
 use native.Mathlib.Omega.{arith}
 use mathlib.Core.Path.{sym, ◌∙◌}
-use Rattle.column_arms.proofs.ColumnLaws.{direct_place, direct_at}
+use Rattle.column_arms.proofs.ColumnLaws.{direct_place}
 use Rattle.column_arms.proofs.is_direct.Goals as goal
 
 pub overflow_add-at-2 : goal.overflow_add-at-2
@@ -12,6 +12,3 @@ cell_at-c-requires c = let flat = c.if-not-is_flat.false in let h = direct_place
 
 pub has_key-requires : goal.has_key-requires
 has_key-requires c = let flat = c.if-not-is_flat.false in let h = direct_place _ _ _ _ _ (sym c.is_flat.ensures ∙ flat) c.if-n-key.false in omega (arith, h, c.requires.0.inside, c.requires.0.small)
-
-pub returns : goal.returns
-returns c = direct_at _ _ _ _ _ (omega (arith, c.if-n-key.false)) (sym c.is_flat.ensures ∙ c.if-not-is_flat.false) _ c.cell_at-c.ensures _ c.tag_of.ensures c.if-tag_of-eq-RECORD.false _ c.has_key.ensures

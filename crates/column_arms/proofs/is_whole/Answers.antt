@@ -9,11 +9,6 @@ use Rattle.column_arms.specs.Columns.{counted}
 use Rattle.column_arms.proofs.ColumnLaws.{whole_end, whole_stop, whole_turn}
 use Rattle.column_arms.proofs.is_whole.Goals as goal
 
-pub loop-p-init : goal.loop-p-init
-loop-p-init c =
-    let all : c.args.at + c.args.n - c.args.at ≡ c.args.n = omega arith in
-    (ap (λ m. ltb (counted (span (cells c.args.area.now) c.args.at m)) c.args.n) all, omega arith)
-
 pub returns-then-room-k : goal.returns-then-room-k
 returns-then-room-k c = whole_stop _ _ _ _ _ (omega (arith, c.loop-p-test.true)) _ c.cell_at.ensures c.columns_in-k.ensures c.if-room-k.true ∙ c.loop-p.invariant.0
 

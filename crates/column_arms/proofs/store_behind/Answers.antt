@@ -1,13 +1,10 @@
 -- `column_arms::store_behind` stores a cell alone, or moves the run behind the map, writes its head, and stores it. Assumes nothing.
 use mathlib.Core.Path.{◌∙◌}
-use Rattle.column_arms.proofs.RunLaws.{behind_inside, run_room, run_above, stores_run, stores-alone}
+use Rattle.column_arms.proofs.RunLaws.{run_room, run_above, stores_run, stores-alone}
 use Rattle.column_arms.proofs.store_behind.Goals as goal
 
 pub returns-then-tag_of-ne-RECORD : goal.returns-then-tag_of-ne-RECORD
 returns-then-tag_of-ne-RECORD c = stores-alone _ _ _ _ _ c.requires.3 (λ e. c.if-tag_of-ne-RECORD.true (c.tag_of.ensures ∙ e)) _ _ _ c.store_cell.ensures
-
-pub put_cell-requires : goal.put_cell-requires
-put_cell-requires c = behind_inside _ _ _ _ _ c.requires.0 c.requires.1 c.requires.2 _ c.run_behind.ensures
 
 pub store_run-requires : goal.store_run-requires
 store_run-requires c = let pre = c.requires in

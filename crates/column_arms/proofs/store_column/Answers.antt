@@ -1,27 +1,18 @@
 -- `column_arms::store_column` judges the number, and stores the column that it finds, or the default. Assumes nothing.
 use Rattle.std.specs.Prelude.{Ok}
-use Rattle.std.proofs.lemmas.Result.{err_from_is_err_and}
 use mathlib.Core.Path.{ap, ◌∙◌}
+use Rattle.refusal.proofs.Passed.{passed}
 use Rattle.area.specs.declared.Cell.{Cell}
 use Rattle.intmap.specs.Pack.{tag_of}
 use Rattle.column_arms.proofs.RunLaws.{stores-alone}
-use Rattle.column_arms.proofs.ArmLaws.{still_storable, still_stored, column_index, column_bad, column_absent, column_inside, column_place, column_there}
+use Rattle.column_arms.proofs.ArmLaws.{still_stored, column_index, column_absent, column_there}
 use Rattle.column_arms.proofs.store_column.Goals as goal
-
-pub cell_at-c-requires : goal.cell_at-c-requires
-cell_at-c-requires c = record { within = column_place _ _ _ _ c.requires.0 c.requires.1 c.requires.2 _ _ c.find_column.ensures _ (c.in_ok-q.was ∙ ap Ok c.in-Some.is); small = c.requires.0.room.small }
 
 pub returns-then-store_over : goal.returns-then-store_over
 returns-then-store_over c = column_there _ _ _ _ c.requires.0 c.requires.1 c.requires.2 _ _ _ c.judge_index.ensures _ c.in_ok-k.was _ c.find_column.ensures _ (c.in_ok-q.was ∙ ap Ok c.in-Some.is) _ c.cell_at-c.ensures _ _ (stores-alone _ _ _ _ _ (ap (λ (y : Cell). tag_of y) c.cell_at-c.ensures) (c.store_over.ensures.0 c.if-store_over.true) _ _ _ ((c.store_over.ensures.1 (c.store_over.ensures.0 c.if-store_over.true)).yes c.if-store_over.true _ c.requires.0.room))
 
-pub store_from-requires : goal.store_from-requires
-store_from-requires c = let place = column_inside _ _ _ _ c.requires.0 c.requires.1 c.requires.2 _ _ c.find_column.ensures _ (c.in_ok-q.was ∙ ap Ok c.in-Some.is) in still_storable (c.store_over.ensures.2 c.if-store_over.false) _ _ _ c.requires.0 place.0 place.1 c.cell_at-c.ensures
-
 pub returns-in_err-k : goal.returns-in_err-k
-returns-in_err-k c = let p = err_from_is_err_and c.from_residual.result c.from_residual.ensures.1 in rw (p.1, p.2) (column_index _ _ _ _ c.requires.0 c.requires.1 c.requires.2 _ _ _ c.judge_index.ensures _ c.in_err-k.was)
-
-pub returns-in_err-q : goal.returns-in_err-q
-returns-in_err-q c = let p = err_from_is_err_and c.from_residual-in_err-q.result c.from_residual-in_err-q.ensures.1 in rw (p.1, p.2) (column_bad _ _ _ _ c.requires.0 c.requires.1 c.requires.2 _ _ _ c.judge_index.ensures _ c.in_ok-k.was _ c.find_column.ensures _ c.in_err-q.was)
+returns-in_err-k c = rw (passed _ _ c.from_residual.ensures.1) (column_index _ _ _ _ c.requires.0 c.requires.1 c.requires.2 _ _ _ c.judge_index.ensures _ c.in_err-k.was)
 
 pub returns-in_default : goal.returns-in_default
 returns-in_default c = column_absent _ _ _ _ c.requires.0 c.requires.1 c.requires.2 _ _ _ c.judge_index.ensures _ c.in_ok-k.was _ c.find_column.ensures (c.in_ok-q.was ∙ ap Ok c.in_default.is) _ _ c.store_single.ensures

@@ -1,10 +1,10 @@
 -- `column_arms::store_empty` judges the index and the cells, writes the record behind the map, and stores it. Assumes nothing.
-use Rattle.std.proofs.lemmas.Result.{err_from_is_err_and}
+use Rattle.refusal.proofs.Passed.{passed}
 use Rattle.column_arms.proofs.RunLaws.{empty_bad, empty_full, empty_room, empty_above, empty_stored}
 use Rattle.column_arms.proofs.store_empty.Goals as goal
 
 pub returns-in_err-judge_index : goal.returns-in_err-judge_index
-returns-in_err-judge_index c = let p = err_from_is_err_and c.from_residual.result c.from_residual.ensures.1 in rw (p.1, p.2) (empty_bad _ _ _ _ _ c.judge_index.ensures _ c.in_err-judge_index.was)
+returns-in_err-judge_index c = rw (passed _ _ c.from_residual.ensures.1) (empty_bad _ _ _ _ _ c.judge_index.ensures _ c.in_err-judge_index.was)
 
 pub returns-then-limit-eq0 : goal.returns-then-limit-eq0
 returns-then-limit-eq0 c = empty_full _ _ _ _ _ c.judge_index.ensures _ c.in_ok-judge_index.was c.if-limit-eq0.true

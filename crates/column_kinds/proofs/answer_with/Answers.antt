@@ -7,17 +7,8 @@ use Rattle.column_kinds.proofs.answer_with.Goals as goal
 pub answer_rows-requires : goal.answer_rows-requires
 answer_rows-requires c = (c.requires.0, indexable _ _ _ 256 c.requires.1 refl (omega (arith, c.if-records-le16.true)) (omega arith) (omega arith))
 
-pub returns-then-records-le16 : goal.returns-then-records-le16
-returns-then-records-le16 c = c.answer_rows.ensures
-
 pub answer_rows-requires-then-records-le256 : goal.answer_rows-requires-then-records-le256
 answer_rows-requires-then-records-le256 c = (c.requires.0, indexable _ _ _ 4096 c.requires.1 refl (omega (arith, c.if-records-le256.true)) (omega arith) (omega arith))
 
-pub returns-then-records-le256 : goal.returns-then-records-le256
-returns-then-records-le256 c = c.answer_rows-then-records-le256.ensures
-
 pub answer_rows-requires-2 : goal.answer_rows-requires-2
 answer_rows-requires-2 c = (c.requires.0, indexable _ _ _ 65536 c.requires.1 refl (omega (arith, c.requires.1.few)) (omega arith) (omega arith))
-
-pub returns : goal.returns
-returns c = c.answer_rows-2.ensures

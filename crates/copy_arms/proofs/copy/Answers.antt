@@ -1,7 +1,7 @@
 -- `copy_arms::copy` copies P3 + 1 registers. Assumes nothing.
-use Rattle.state.proofs.StoreLeads.{leads_as}
+use Rattle.state.proofs.ArmLaws.{register_arm_as}
 use Rattle.copy_arms.proofs.CopyLaws.{arm_copy}
 use Rattle.copy_arms.proofs.copy.Goals as goal
 
 pub returns : goal.returns
-returns c = record { leads = λ meaning l s j. leads_as _ (arm_copy _ meaning l _ s j _ c.saturating_sub-n.ensures) c.carry_many.ensures }
+returns c = register_arm_as c.carry_many.ensures (λ meaning l s j. arm_copy _ meaning l c.args.x s j _ c.saturating_sub-n.ensures)

@@ -1,18 +1,14 @@
 -- `coroutine_arms::yield_` reads the register, and stores the row in it. Assumes nothing.
-use Rattle.std.proofs.lemmas.Result.{err_from_is_err_and}
 use Rattle.std.specs.Prelude.{Ok}
 use mathlib.Core.Path.{sym, ap, subst, ◌∙◌}
+use Rattle.refusal.proofs.Passed.{passed}
 use Rattle.jump_arms.specs.Arms.{Knows}
-use Rattle.state.proofs.LeadsLaws.{current_held}
 use Rattle.coroutine_arms.specs.Arms.{RowsArm}
 use Rattle.coroutine_arms.proofs.CoroutineLaws.{yield_arm_lem, number_bad, number_unknown, yield_to}
 use Rattle.coroutine_arms.proofs.yield_.Goals as goal
 
-pub known_int-requires : goal.known_int-requires
-known_int-requires c = current_held c.requires.0.current
-
 pub returns-in_err-w : goal.returns-in_err-w
-returns-in_err-w c = let p = err_from_is_err_and c.from_residual.result c.from_residual.ensures.1 in rw (p.1, p.2) (number_bad _ _ _ _ _ _ _ (yield_arm_lem _) _ (subst (Knows _ _ _) c.in_err-w.was c.known_int.ensures))
+returns-in_err-w c = rw (passed _ _ c.from_residual.ensures.1) (number_bad _ _ _ _ _ _ _ (yield_arm_lem _) _ (subst (Knows _ _ _) c.in_err-w.was c.known_int.ensures))
 
 pub returns-in_default : goal.returns-in_default
 returns-in_default c = number_unknown _ _ _ _ _ _ _ (yield_arm_lem _) (subst (Knows _ _ _) (c.in_ok-w.was ∙ ap Ok c.in_default.is) c.known_int.ensures)

@@ -9,7 +9,7 @@ pub returns-then-n-k : goal.returns-then-n-k
 returns-then-n-k c = target_past _ _ _ _ c.if-w-lt-ZERO.false c.if-n-k.true
 
 pub returns-in-Yield : goal.returns-in-Yield
-returns-in-Yield c = target_yield _ _ _ _ c.if-w-lt-ZERO.false _ c.if-n-k.false c.row_at-x.ensures c.in-Yield.is
+returns-in-Yield c = target_yield _ _ _ _ c.if-w-lt-ZERO.false c.row_at-x.result c.if-n-k.false c.row_at-x.ensures c.in-Yield.is
 
 pub returns-in_default : goal.returns-in_default
-returns-in_default c = target_other _ _ _ _ c.if-w-lt-ZERO.false _ c.if-n-k.false c.row_at-x.ensures c.in_default.not-Yield
+returns-in_default c = target_other _ _ _ _ c.if-w-lt-ZERO.false c.row_at-x.result c.if-n-k.false c.row_at-x.ensures c.in_default.not-Yield

@@ -11,32 +11,32 @@ use Rattle.explain.proofs.NumberLaws.{cursor_number, read_number}
 use Rattle.explain.proofs.cursor.Goals as goal
 
 pub returns-in-Column : goal.returns-in-Column
-returns-in-Column c = λ from n. cursor_number c.requires.0.row c.requires.1 (ap arm_of c.in-Column.is) (c.column.ensures _)
+returns-in-Column c = λ from n. cursor_number (ap arm_of c.in-Column.is) (c.column.ensures _)
 
 pub returns-in-RowData : goal.returns-in-RowData
-returns-in-RowData c = λ from n. cursor_number c.requires.0.row c.requires.1 (ap arm_of c.in-RowData.is) (c.row_data.ensures _)
+returns-in-RowData c = λ from n. cursor_number (ap arm_of c.in-RowData.is) (c.row_data.ensures _)
 
 pub returns-in-Insert : goal.returns-in-Insert
-returns-in-Insert c = λ from n. cursor_number c.requires.0.row c.requires.1 (ap arm_of c.in-Insert.is) (c.insert.ensures _)
+returns-in-Insert c = λ from n. cursor_number (ap arm_of c.in-Insert.is) (c.insert.ensures _)
 
 pub returns-in-Delete : goal.returns-in-Delete
-returns-in-Delete c = λ from n. cursor_number c.requires.0.row c.requires.1 (ap arm_of c.in-Delete.is) (c.delete.ensures _ _ c.requires.0.current)
+returns-in-Delete c = λ from n. cursor_number (ap arm_of c.in-Delete.is) (c.delete.ensures _ _ c.requires.0.current)
 
 pub returns-in-OpenPseudo : goal.returns-in-OpenPseudo
-returns-in-OpenPseudo c = λ from n. cursor_number c.requires.0.row c.requires.1 (ap arm_of c.in-OpenPseudo.is) (c.open_pseudo.ensures _)
+returns-in-OpenPseudo c = λ from n. cursor_number (ap arm_of c.in-OpenPseudo.is) (c.open_pseudo.ensures _)
 
 pub returns-in-OpenDup : goal.returns-in-OpenDup
-returns-in-OpenDup c = λ from n. cursor_number c.requires.0.row c.requires.1 (ap arm_of c.in-OpenDup.is) (c.open_dup.ensures _)
+returns-in-OpenDup c = λ from n. cursor_number (ap arm_of c.in-OpenDup.is) (c.open_dup.ensures _)
 
 pub returns-in-OpenRead : goal.returns-in-OpenRead
-returns-in-OpenRead c = λ from n. read_number c.requires.0.row c.requires.1 (ap arm_of c.in-OpenRead.is) c.open_read.ensures
+returns-in-OpenRead c = λ from n. read_number (ap arm_of c.in-OpenRead.is) c.open_read.ensures
 
 pub returns-in-OpenEphemeral : goal.returns-in-OpenEphemeral
-returns-in-OpenEphemeral c = λ from n. cursor_number c.requires.0.row c.requires.1 (ap arm_of c.in-OpenEphemeral.is) c.open_ephemeral.ensures
+returns-in-OpenEphemeral c = λ from n. cursor_number (ap arm_of c.in-OpenEphemeral.is) c.open_ephemeral.ensures
 
 pub returns-in_default : goal.returns-in_default
 unfolding NotThese numbers_from
 returns-in_default c =
     let past = number_past c.args.x.op 33 8 (OpenEphemeral ∷ OpenRead ∷ OpenDup ∷ OpenPseudo ∷ Delete ∷ Insert ∷ RowData ∷ Column ∷ []) refl c.requires.3 (search rules) in
     let last : c.args.x.op ≡ NullRow = operation_is NullRow (omega (arith, past, c.requires.4)) in
-    λ from n. cursor_number c.requires.0.row c.requires.1 (ap arm_of last) (c.null_row.ensures _ _ c.requires.0.current)
+    λ from n. cursor_number (ap arm_of last) (c.null_row.ensures _ _ c.requires.0.current)

@@ -1,6 +1,5 @@
 -- `explain::handle` reads the row that the state stands on, and handles it by the range of the number. Assumes nothing.
 use mathlib.Core.Path.{refl, sym, subst, ◌∙◌}
-use Rattle.jump_arms.specs.Arms.{Ready}
 use Rattle.opcode.specs.declared.Operation.TheVariants.{Other, Jump, IfPos}
 use Rattle.opcode.proofs.Numbers.{operation_is}
 use Rattle.explain.specs.Handles.{Handles}
@@ -9,10 +8,10 @@ use Rattle.explain.proofs.HandlingLaws.{number_handles, if_pos_handles, row_hand
 use Rattle.explain.proofs.handle.Goals as goal
 
 pub returns-then-op : goal.returns-then-op
-returns-then-op c = row_handles c.row_at-x.ensures (subst (Handles _ _ _ _ _ _ _ _ _) (sym c.falls_through.ensures) (number_handles _ (sym (operation_is Other (sym c.number-op.ensures ∙ c.if-op.true))) (none_number refl c.requires.0.current)))
+returns-then-op c = row_handles c.row_at-x.ensures (subst (Handles _ _ _ _ _ _ _ _ _) (sym c.falls_through.ensures) (number_handles {x = c.row_at-x.result} _ (sym (operation_is Other (sym c.number-op.ensures ∙ c.if-op.true))) (none_number refl c.requires.0.current)))
 
 pub jump_three-requires : goal.jump_three-requires
-jump_three-requires c = (subst (Ready _ _ _) (sym c.row_at-x.ensures) c.requires.0, operation_is Jump (sym c.number-op.ensures ∙ c.if-op-2.true))
+jump_three-requires c = (c.requires.0, operation_is Jump (sym c.number-op.ensures ∙ c.if-op-2.true))
 
 pub returns-then-op-2 : goal.returns-then-op-2
 returns-then-op-2 c = row_handles c.row_at-x.ensures (c.jump_three.ensures _ _ _ _)
@@ -24,7 +23,7 @@ pub returns-then-op-4 : goal.returns-then-op-4
 returns-then-op-4 c = row_handles c.row_at-x.ensures (subst (Handles _ _ _ _ _ _ _ _ _) (sym c.as_handling-then-op-4.ensures) (if_pos_handles _ (sym (operation_is IfPos (sym c.number-op.ensures ∙ c.if-op-4.true))) c.if_pos.ensures))
 
 pub returns-then-op-5 : goal.returns-then-op-5
-returns-then-op-5 c = row_handles c.row_at-x.ensures (subst (Handles _ _ _ _ _ _ _ _ _) (sym c.falls_through-then-op-5.ensures) (number_handles _ refl (c.register.ensures _ _ _ c.requires.4)))
+returns-then-op-5 c = row_handles c.row_at-x.ensures (subst (Handles _ _ _ _ _ _ _ _ _) (sym c.falls_through-then-op-5.ensures) (number_handles _ refl (c.register.ensures _ _ _)))
 
 pub returns-then-op-6 : goal.returns-then-op-6
 returns-then-op-6 c = row_handles c.row_at-x.ensures (subst (Handles _ _ _ _ _ _ _ _ _) (sym c.falls_through-then-op-6.ensures) (number_handles _ refl (c.cursor.ensures _ _)))

@@ -1,6 +1,6 @@
 -- `in_place::register`: each operation leads to its arm. Assumes nothing.
 use mathlib.Core.Path.{ap}
-use Rattle.model.specs.Operation.{op_variable, op_halt_if_null, op_copy_one, op_copy, op_integer, op_null, op_arithmetic, op_constant}
+use Rattle.model.specs.Operation.{op_variable, op_halt_if_null, op_copy_one, op_integer, op_null, op_constant}
 use Rattle.opcode.specs.Opcode.{arm_of}
 use Rattle.explain.proofs.NumberLaws.{constant_operation}
 use Rattle.in_place.proofs.NearLaws.{constant_near, variable_near, copies_near, integer_near}
@@ -16,17 +16,11 @@ returns-in-HaltIfNull c = record { arm = op_halt_if_null; is = λ _. ap arm_of c
 pub returns-in-CopyOne : goal.returns-in-CopyOne
 returns-in-CopyOne c = record { arm = op_copy_one; is = λ _. ap arm_of c.in-CopyOne.is; near = copies_near c.copy.ensures }
 
-pub returns-in-Copy : goal.returns-in-Copy
-returns-in-Copy c = record { arm = op_copy; is = λ _. ap arm_of c.in-Copy.is; near = c.copy_one.ensures }
-
 pub returns-in-Integer : goal.returns-in-Integer
 returns-in-Integer c = record { arm = op_integer; is = λ _. ap arm_of c.in-Integer.is; near = integer_near c.int_near.ensures }
 
 pub returns-in-Null : goal.returns-in-Null
 returns-in-Null c = record { arm = op_null; is = λ _. ap arm_of c.in-Null.is; near = c.null.ensures _ }
-
-pub returns-in-Arithmetic : goal.returns-in-Arithmetic
-returns-in-Arithmetic c = record { arm = op_arithmetic; is = λ _. ap arm_of c.in-Arithmetic.is; near = c.arithmetic.ensures }
 
 pub returns-in-ConstantInteger : goal.returns-in-ConstantInteger
 returns-in-ConstantInteger c = record { arm = op_constant c.opcode_to_type.result; is = λ _. constant_operation c.in-ConstantInteger.is c.opcode_to_type.ensures; near = constant_near _ c.single_near-in-ConstantInteger.ensures }

@@ -1,7 +1,6 @@
 -- What is left of `column_eq_record_eq`, by the invariant of Invariants.antt. Assumes nothing.
 use mathlib.Core.Path.{sym, ◌∙◌}
 use Prim.Native.Nat.{◌<◌}
-use native.Mathlib.Nat.{sub-zero, add-zero, zero-add}
 use native.Mathlib.Omega.{arith}
 use Rattle.area.specs.Cells.{cells}
 use Rattle.intmap.proofs.RunLaws.{size_record, size-pos, sizes_room, sizes-turn, same_size, same-cell, eq_heads, eq_loads, eq_none, eq_single, eq_record, eqs_end, eqs_stop, eqs_turn, some_left, one_less, none_left}
@@ -25,12 +24,6 @@ column_eq-returns-then-depth-eq0 t c = eq_none _ _ _ _ _ c.cell_at-x.ensures c.c
 pub column_eq-returns-then-tag-ne-RECORD : goal.column_eq-returns-then-tag-ne-RECORD
 column_eq-returns-then-tag-ne-RECORD t c = eq_single _ _ _ _ _ c.cell_at-x.ensures c.cell_at-y.ensures _ c.if-x-y.false c.if-x-y-2.false c.if-tag-ne-RECORD.true
 
-pub column_eq-overflow_add-a : goal.column_eq-overflow_add-a
-column_eq-overflow_add-a t c = omega (arith, c.requires.0.fits, c.requires.1.fits, c.requires.0.small, size-pos (cells c.args.area.now) c.args.depth c.args.a, size-pos (cells c.args.area.now) c.args.depth c.args.b)
-
-pub column_eq-overflow_add-b : goal.column_eq-overflow_add-b
-column_eq-overflow_add-b t c = omega (arith, c.requires.0.fits, c.requires.1.fits, c.requires.0.small, size-pos (cells c.args.area.now) c.args.depth c.args.a, size-pos (cells c.args.area.now) c.args.depth c.args.b)
-
 pub column_eq-record_eq-requires : goal.column_eq-record_eq-requires
 column_eq-record_eq-requires t c =
     let x = c.cell_at-x in
@@ -42,15 +35,6 @@ column_eq-record_eq-requires t c =
 
 pub column_eq-returns : goal.column_eq-returns
 column_eq-returns t c = c.record_eq.ensures ∙ eq_record _ _ _ _ _ c.cell_at-x.ensures c.cell_at-y.ensures _ c.if-x-y.false c.if-x-y-2.false (omega (arith, c.if-depth-eq0.false)) c.if-tag-ne-RECORD.false
-
-pub record_eq-loop-init : goal.record_eq-loop-init
-record_eq-loop-init t c = (simp (sub-zero, add-zero), simp (sub-zero, add-zero, zero-add), simp (sub-zero, add-zero, zero-add))
-
-pub record_eq-overflow_add-a : goal.record_eq-overflow_add-a
-record_eq-overflow_add-a t c = omega (arith, c.requires.0.fits, c.requires.1.fits, c.requires.0.small)
-
-pub record_eq-overflow_add-b : goal.record_eq-overflow_add-b
-record_eq-overflow_add-b t c = omega (arith, c.requires.0.fits, c.requires.1.fits, c.requires.0.small)
 
 pub record_eq-column_eq-requires : goal.record_eq-column_eq-requires
 record_eq-column_eq-requires t c =
@@ -64,9 +48,6 @@ record_eq-returns-then-not-column_eq t c =
     let l = c.loop in
     let e = c.column_eq in
     sym (eqs_stop _ _ _ _ _ (some_left c.loop-test.true) (sym e.ensures ∙ c.if-not-column_eq.true)) ∙ l.invariant.0
-
-pub record_eq-overflow_add-a-in-loop : goal.record_eq-overflow_add-a-in-loop
-record_eq-overflow_add-a-in-loop t c = omega (arith, c.requires.0.fits, c.requires.1.fits, c.requires.0.small)
 
 pub record_eq-count-k-requires : goal.record_eq-count-k-requires
 record_eq-count-k-requires t c =

@@ -26,15 +26,6 @@ copy_run-returns-then-tag-ne-RECORD t c =
     let one = size-single (cells c.args.area.now) c.args.depth c.args.from x.result x.ensures c.if-tag-ne-RECORD.true in
     copied one (one-moved _ _ _ _ _ _ x.ensures c.put_cell.ensures.cells one)
 
-pub copy_run-overflow_add-from : goal.copy_run-overflow_add-from
-copy_run-overflow_add-from t c = omega (arith, c.requires.room, c.requires.apart, c.requires.small, size-pos (cells c.args.area.now) c.args.depth c.args.from)
-
-pub copy_run-overflow_add-to : goal.copy_run-overflow_add-to
-copy_run-overflow_add-to t c = omega (arith, c.requires.room, c.requires.apart, c.requires.small, size-pos (cells c.args.area.now) c.args.depth c.args.from)
-
-pub copy_run-overflow_sub-depth : goal.copy_run-overflow_sub-depth
-copy_run-overflow_sub-depth t c = omega (arith)
-
 pub copy_run-copy_runs-requires : goal.copy_run-copy_runs-requires
 copy_run-copy_runs-requires t c =
     let x = c.cell_at-c in
@@ -63,19 +54,10 @@ copy_run-returns t c =
 pub copy_runs-loop-init : goal.copy_runs-loop-init
 copy_runs-loop-init t c = (refl, record { able = c.requires; done = moved_none _ _ _ _ refl; rest = simp (sub-zero, add-zero, zero-add) })
 
-pub copy_runs-overflow_add-from : goal.copy_runs-overflow_add-from
-copy_runs-overflow_add-from t c = omega (arith, next_able c.loop.invariant.1 (some_left c.loop-test.true))
-
 pub copy_runs-cell_at-c-requires : goal.copy_runs-cell_at-c-requires
 copy_runs-cell_at-c-requires t c =
     let l = c.loop in
     omega (arith, next_able l.invariant.1 (some_left c.loop-test.true), size-pos (cells l.area) c.args.depth (c.args.from + l.k))
-
-pub copy_runs-overflow_add-from-then-c-eq-RECORD : goal.copy_runs-overflow_add-from-then-c-eq-RECORD
-copy_runs-overflow_add-from-then-c-eq-RECORD t c = omega (arith, next_able c.loop.invariant.1 (some_left c.loop-test.true))
-
-pub copy_runs-overflow_add-to : goal.copy_runs-overflow_add-to
-copy_runs-overflow_add-to t c = omega (arith, next_able c.loop.invariant.1 (some_left c.loop-test.true))
 
 pub copy_runs-copy_run-k-requires : goal.copy_runs-copy_run-k-requires
 copy_runs-copy_run-k-requires t c = (omega arith, next_able c.loop.invariant.1 (some_left c.loop-test.true))
@@ -83,16 +65,10 @@ copy_runs-copy_run-k-requires t c = (omega arith, next_able c.loop.invariant.1 (
 pub copy_runs-overflow_add-k : goal.copy_runs-overflow_add-k
 copy_runs-overflow_add-k t c = omega (arith, next_able c.loop.invariant.1 (some_left c.loop-test.true), c.copy_run-k.ensures.count)
 
-pub copy_runs-overflow_add-to-else-c-eq-RECORD : goal.copy_runs-overflow_add-to-else-c-eq-RECORD
-copy_runs-overflow_add-to-else-c-eq-RECORD t c = omega (arith, next_able c.loop.invariant.1 (some_left c.loop-test.true))
-
 pub copy_runs-put_cell-requires : goal.copy_runs-put_cell-requires
 copy_runs-put_cell-requires t c =
     let l = c.loop in
     omega (arith, next_able l.invariant.1 (some_left c.loop-test.true), size-pos (cells l.area) c.args.depth (c.args.from + l.k))
-
-pub copy_runs-overflow_add-k-else-c-eq-RECORD : goal.copy_runs-overflow_add-k-else-c-eq-RECORD
-copy_runs-overflow_add-k-else-c-eq-RECORD t c = omega (arith, next_able c.loop.invariant.1 (some_left c.loop-test.true))
 
 pub copy_runs-loop-preserved : goal.copy_runs-loop-preserved
 copy_runs-loop-preserved t c =

@@ -20,16 +20,10 @@ returns-then-tag-ne-RECORD t c = size-single _ _ _ _ c.cell_at-c.ensures c.if-ta
 pub loop-init : goal.loop-init
 loop-init t c = rw sub-zero (size_record _ _ _ _ c.cell_at-c.ensures (omega arith) c.if-tag-ne-RECORD.false)
 
-pub overflow_add-at : goal.overflow_add-at
-overflow_add-at t c = let l = c.loop in omega (arith, c.requires.fits, c.requires.small, sizes_room (size (cells c.args.area.now) (c.args.depth - 1)) _ _ _ _ (some_left c.loop-test.true) l.invariant)
-
 pub cell_at-x-requires : goal.cell_at-x-requires
 cell_at-x-requires t c =
     let l = c.loop in
     omega (arith, c.requires.fits, c.requires.small, size-pos (cells c.args.area.now) (c.args.depth - 1) (c.args.at + l.k), sizes_room (size (cells c.args.area.now) (c.args.depth - 1)) _ _ _ _ (some_left c.loop-test.true) l.invariant)
-
-pub overflow_add-at-then-x-eq-RECORD : goal.overflow_add-at-then-x-eq-RECORD
-overflow_add-at-then-x-eq-RECORD t c = let l = c.loop in omega (arith, c.requires.fits, c.requires.small, sizes_room (size (cells c.args.area.now) (c.args.depth - 1)) _ _ _ _ (some_left c.loop-test.true) l.invariant)
 
 pub count-k-requires : goal.count-k-requires
 count-k-requires t c =
@@ -39,11 +33,6 @@ count-k-requires t c =
 
 pub overflow_add-k : goal.overflow_add-k
 overflow_add-k t c = let l = c.loop in omega (arith, c.requires.fits, c.requires.small, c.count-k.ensures, sizes_room (size (cells c.args.area.now) (c.args.depth - 1)) _ _ _ _ (some_left c.loop-test.true) l.invariant)
-
-pub overflow_add-k-else-x-eq-RECORD : goal.overflow_add-k-else-x-eq-RECORD
-overflow_add-k-else-x-eq-RECORD t c =
-    let l = c.loop in
-    omega (arith, c.requires.fits, c.requires.small, size-pos (cells c.args.area.now) (c.args.depth - 1) (c.args.at + l.k), sizes_room (size (cells c.args.area.now) (c.args.depth - 1)) _ _ _ _ (some_left c.loop-test.true) l.invariant)
 
 pub loop-preserved : goal.loop-preserved
 loop-preserved t c =

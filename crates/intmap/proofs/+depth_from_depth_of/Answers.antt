@@ -22,41 +22,17 @@ depth_of-loop-init t c =
     let x = c.cell_at-c in
     rw sub-zero (omega arith, size_record (cells c.args.area.now) c.args.depth c.args.at x.result x.ensures (omega (arith, c.if-depth-eq0.false)) c.if-tag-ne-RECORD.false, omega arith)
 
-pub depth_of-overflow_add-at : goal.depth_of-overflow_add-at
-depth_of-overflow_add-at t c =
-    let l = c.loop in
-    let r = sizes_room (size (cells c.args.area.now) (c.args.depth - 1)) (c.cell_at-c.result.payload - l.counter) c.args.at l.k _ (some_left c.loop-test.true) l.invariant.1 in
-    omega (arith, c.requires.fits, c.requires.small)
-
 pub depth_of-cell_at-x-requires : goal.depth_of-cell_at-x-requires
 depth_of-cell_at-x-requires t c =
     let l = c.loop in
     let r = sizes_room (size (cells c.args.area.now) (c.args.depth - 1)) (c.cell_at-c.result.payload - l.counter) c.args.at l.k _ (some_left c.loop-test.true) l.invariant.1 in
     omega (arith, c.requires.fits, c.requires.small, size-pos (cells c.args.area.now) (c.args.depth - 1) (c.args.at + l.k))
 
-pub depth_of-overflow_add-at-in-loop : goal.depth_of-overflow_add-at-in-loop
-depth_of-overflow_add-at-in-loop t c =
-    let l = c.loop in
-    let r = sizes_room (size (cells c.args.area.now) (c.args.depth - 1)) (c.cell_at-c.result.payload - l.counter) c.args.at l.k _ (some_left c.loop-test.true) l.invariant.1 in
-    omega (arith, c.requires.fits, c.requires.small)
-
-pub depth_of-overflow_sub-depth : goal.depth_of-overflow_sub-depth
-depth_of-overflow_sub-depth t c = omega (arith, c.if-depth-eq0.false)
-
 pub depth_of-depth_from-requires : goal.depth_of-depth_from-requires
 depth_of-depth_from-requires t c =
     let l = c.loop in
     let r = sizes_room (size (cells c.args.area.now) (c.args.depth - 1)) (c.cell_at-c.result.payload - l.counter) c.args.at l.k _ (some_left c.loop-test.true) l.invariant.1 in
     (omega (arith, c.if-depth-eq0.false), (record { fits = omega (arith, c.requires.fits); small = c.requires.small }, c.cell_at-x.ensures))
-
-pub depth_of-overflow_add-at-in-loop-2 : goal.depth_of-overflow_add-at-in-loop-2
-depth_of-overflow_add-at-in-loop-2 t c =
-    let l = c.loop in
-    let r = sizes_room (size (cells c.args.area.now) (c.args.depth - 1)) (c.cell_at-c.result.payload - l.counter) c.args.at l.k _ (some_left c.loop-test.true) l.invariant.1 in
-    omega (arith, c.requires.fits, c.requires.small)
-
-pub depth_of-overflow_sub-depth-in-loop : goal.depth_of-overflow_sub-depth-in-loop
-depth_of-overflow_sub-depth-in-loop t c = omega (arith, c.if-depth-eq0.false)
 
 pub depth_of-count_from-k-requires : goal.depth_of-count_from-k-requires
 depth_of-count_from-k-requires t c =
@@ -81,9 +57,6 @@ depth_of-loop-preserved t c =
       omega (arith, x.ensures, nesting_most (cells c.args.area.now) (c.args.depth - 1) (c.args.at + l.k), l.invariant.2, c.max-best.ensures),
     )
 
-pub depth_of-overflow_add-result : goal.depth_of-overflow_add-result
-depth_of-overflow_add-result t c = omega (arith, c.ranges.depth, c.loop.invariant.2, c.if-depth-eq0.false)
-
 pub depth_of-returns : goal.depth_of-returns
 depth_of-returns t c =
     let l = c.loop in
@@ -95,9 +68,3 @@ depth_of-returns t c =
 
 pub depth_from-returns-then-tag-ne-RECORD : goal.depth_from-returns-then-tag-ne-RECORD
 depth_from-returns-then-tag-ne-RECORD t c = nesting-single (cells c.args.area.now) c.args.depth c.args.at c.args.c c.requires.1 c.if-tag-ne-RECORD.true
-
-pub depth_from-depth_of-requires : goal.depth_from-depth_of-requires
-depth_from-depth_of-requires t c = (omega (arith, c.requires.0), c.requires.0)
-
-pub depth_from-returns : goal.depth_from-returns
-depth_from-returns t c = c.depth_of.ensures

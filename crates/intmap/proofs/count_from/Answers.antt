@@ -7,9 +7,3 @@ returns-then-tag-ne-RECORD c = size-single _ _ _ _ c.requires.1 c.if-tag-ne-RECO
 
 pub returns-then-c-eq0 : goal.returns-then-c-eq0
 returns-then-c-eq0 c = size-empty _ _ _ _ c.requires.1 c.if-tag-ne-RECORD.false c.if-c-eq0.true
-
-pub count-requires : goal.count-requires
-count-requires c = c.requires.0
-
-pub returns : goal.returns
-returns c = c.count.ensures

@@ -1,16 +1,12 @@
 -- What is left of `find_from`, by the invariant of Invariants.antt. Assumes nothing.
-use mathlib.Core.Path.{refl, ◌∙◌}
+use mathlib.Core.Path.{◌∙◌}
 use Prim.Native.Nat.{◌-◌, ◌<◌}
-use native.Mathlib.Nat.{sub-zero}
 use native.Mathlib.Omega.{arith}
 use Rattle.area.specs.Cells.{cells}
 use Rattle.intmap.specs.Runs.{size}
 use Rattle.intmap.proofs.RunLaws.{size-pos, sizes_step, one_less, sizes_on}
 use Rattle.intmap.proofs.FindLaws.{seek_end, seek_here, seek_on}
 use Rattle.intmap.proofs.find_from.Goals as goal
-
-pub loop-passed-init : goal.loop-passed-init
-loop-passed-init c = rw sub-zero (refl, c.requires.fits)
 
 pub cell_at-c-requires : goal.cell_at-c-requires
 cell_at-c-requires c =

@@ -1,16 +1,12 @@
 -- `jump_arms::is_null` asks the register. Assumes nothing.
-use Rattle.std.proofs.lemmas.Result.{err_from_is_err_and}
 use mathlib.Core.Path.{subst}
-use Rattle.state.proofs.LeadsLaws.{current_held}
+use Rattle.refusal.proofs.Passed.{passed}
 use Rattle.jump_arms.specs.Arms.{Asks}
 use Rattle.jump_arms.proofs.NullLaws.{change_bad, change_ends, change_both, is-null-arm, decided_null}
 use Rattle.jump_arms.proofs.is_null.Goals as goal
 
-pub ask-requires : goal.ask-requires
-ask-requires c = current_held c.requires.current
-
 pub returns-in_err-asked : goal.returns-in_err-asked
-returns-in_err-asked c = let p = err_from_is_err_and c.from_residual.result c.from_residual.ensures.1 in rw (p.1, p.2) (change_bad _ _ _ _ _ _ _ (is-null-arm _) _ (subst (Asks _ _ _) c.in_err-asked.was c.ask.ensures))
+returns-in_err-asked c = rw (passed _ _ c.from_residual.ensures.1) (change_bad _ _ _ _ _ _ _ (is-null-arm _) _ (subst (Asks _ _ _) c.in_err-asked.was c.ask.ensures))
 
 pub returns : goal.returns
 returns c = change_ends _ _ _ _ _ _ _ (is-null-arm _) (λ bound m h. decided_null ((subst (Asks _ _ _) c.in_ok-asked.was c.ask.ensures).says _ bound m h.map) c.if-asked.false)

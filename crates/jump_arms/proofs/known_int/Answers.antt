@@ -1,12 +1,12 @@
 -- `jump_arms::known_int` reads the register. Assumes nothing.
-use Rattle.std.proofs.lemmas.Result.{err_from_is_err_and}
 use mathlib.Core.Path.{ap, ◌∙◌}
 use Rattle.std.specs.Prelude.{Ok, Some}
+use Rattle.refusal.proofs.Passed.{passed}
 use Rattle.jump_arms.proofs.ReturnLaws.{knows_bad, knows_absent, knows_single, knows_record, knows_int}
 use Rattle.jump_arms.proofs.known_int.Goals as goal
 
 pub returns-in_err-read_register : goal.returns-in_err-read_register
-returns-in_err-read_register c = let p = err_from_is_err_and c.from_residual.result c.from_residual.ensures.1 in rw (p.1, p.2) (knows_bad _ _ _ _ c.read_register.ensures _ c.in_err-read_register.was)
+returns-in_err-read_register c = rw (passed _ _ c.from_residual.ensures.1) (knows_bad _ _ _ _ c.read_register.ensures _ c.in_err-read_register.was)
 
 pub returns-in-None : goal.returns-in-None
 returns-in-None c = knows_absent _ _ _ _ c.read_register.ensures (c.in_ok-read_register.was ∙ ap Ok c.in-None.is)

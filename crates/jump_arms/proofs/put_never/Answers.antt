@@ -1,22 +1,18 @@
 -- `jump_arms::put_never` stores a plain column that is never null. Assumes nothing.
-use Rattle.std.proofs.lemmas.Result.{err_from_is_err_and}
 use Rattle.std.specs.Prelude.{Ok, Some}
 use Rattle.jump_arms.proofs.NullLaws.{put_bad, put_absent, never_single, never_record, never_int}
 use mathlib.Core.Path.{ap, ◌∙◌}
-use native.Mathlib.Omega.{arith}
+use Rattle.refusal.proofs.Passed.{passed}
 use Rattle.jump_arms.proofs.put_never.Goals as goal
 
-pub put_single-requires : goal.put_single-requires
-put_single-requires c = (c.requires.0, omega arith, c.requires.1)
-
 pub returns-in_err-read_register : goal.returns-in_err-read_register
-returns-in_err-read_register c = let p = err_from_is_err_and c.from_residual.result c.from_residual.ensures.1 in rw (p.1, p.2) (put_bad _ _ _ _ _ c.read_register.ensures _ _ c.in_err-read_register.was)
+returns-in_err-read_register c = rw (passed _ _ c.from_residual.ensures.1) (put_bad _ _ _ _ _ c.read_register.ensures _ _ c.in_err-read_register.was)
 
 pub returns-in-None : goal.returns-in-None
 returns-in-None c = put_absent _ _ _ _ _ c.read_register.ensures c.requires.0 _ (c.in_ok-read_register.was ∙ ap Ok c.in-None.is)
 
 pub returns-in-Some-Single : goal.returns-in-Some-Single
-returns-in-Some-Single c = never_single _ _ _ _ _ c.read_register.ensures _ _ _ _ _ c.datatype-d.ensures c.put_single.ensures (c.in_ok-read_register.was ∙ ap Ok (c.in-Some-Single.is ∙ ap Some c.in-Some-Single.field-0-is))
+returns-in-Some-Single c = never_single _ _ _ _ _ c.read_register.ensures _ _ _ _ c.put_single.ensures (c.in_ok-read_register.was ∙ ap Ok (c.in-Some-Single.is ∙ ap Some c.in-Some-Single.field-0-is))
 
 pub returns-in-Some-Record : goal.returns-in-Some-Record
 returns-in-Some-Record c = never_record _ _ _ _ _ c.read_register.ensures c.requires.0 _ (c.in_ok-read_register.was ∙ ap Ok (c.in-Some-Record.is ∙ ap Some c.in-Some-Record.field-0-is))

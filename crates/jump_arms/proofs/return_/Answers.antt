@@ -1,21 +1,17 @@
 -- `jump_arms::return_` removes the register and goes to the row after its number. Assumes nothing.
-use Rattle.std.proofs.lemmas.Result.{err_from_is_err_and}
 use Rattle.std.specs.Prelude.{Ok}
 use mathlib.Core.Path.{sym, ap, subst, ◌∙◌}
+use Rattle.refusal.proofs.Passed.{passed}
 use Rattle.state.specs.Steps.{JumpArm}
-use Rattle.state.proofs.LeadsLaws.{current_held}
 use Rattle.jump_arms.specs.Arms.{Knows}
 use Rattle.jump_arms.proofs.ReturnLaws.{return_bad, return_on, return_ends, return_to}
 use Rattle.jump_arms.proofs.return_.Goals as goal
-
-pub known_int-requires : goal.known_int-requires
-known_int-requires c = current_held c.requires.current
 
 pub returns-then-x-eq-ONE : goal.returns-then-x-eq-ONE
 returns-then-x-eq-ONE c = return_on _ _ _ _ (subst (Knows _ _ _) (c.in_ok-w.was ∙ ap Ok c.in_default.is) c.known_int.ensures) c.requires.current c.if-x-eq-ONE.true
 
 pub returns-in_err-w : goal.returns-in_err-w
-returns-in_err-w c = let p = err_from_is_err_and c.from_residual.result c.from_residual.ensures.1 in rw (p.1, p.2) (return_bad _ _ _ _ _ (subst (Knows _ _ _) c.in_err-w.was c.known_int.ensures))
+returns-in_err-w c = rw (passed _ _ c.from_residual.ensures.1) (return_bad _ _ _ _ _ (subst (Knows _ _ _) c.in_err-w.was c.known_int.ensures))
 
 pub returns-in_default : goal.returns-in_default
 returns-in_default c = return_ends _ _ _ _ (subst (Knows _ _ _) (c.in_ok-w.was ∙ ap Ok c.in_default.is) c.known_int.ensures) c.if-x-eq-ONE.false

@@ -17,9 +17,7 @@ returns-in_err-row c =
     rw e (load_refused c.loop-reader.invariant.1 (eqb-false _ _ (sym c.is_empty.ensures ∙ c.loop-reader-test.true)) (row_none _ _ _ c.read_row.ensures none))
 
 pub put_where-requires : goal.put_where-requires
-put_where-requires c =
-    let some : c.read_row.result ≡ Some c.in_ok-row.row = search rules in
-    record { room = room_kept c.loop-reader.invariant.0 c.requires; fits = (row_some _ _ _ c.read_row.ensures some).judged.fits }
+put_where-requires c = room_kept c.loop-reader.invariant.0 c.requires
 
 pub loop-reader-preserved : goal.loop-reader-preserved
 loop-reader-preserved c =

@@ -5,7 +5,6 @@ use Rattle.type_info.specs.Ascii.{ascii}
 use Rattle.model.specs.ListingText.{take_row}
 use Rattle.intmap.specs.Signed.{int_of}
 use Rattle.text.proofs.ReadLaws.{read_none, read_next, read_given}
-use Rattle.listing.proofs.OperandLaws.{operand_is}
 use Rattle.listing.proofs.read_row.Goals as goal
 
 pub returns-in_err-address : goal.returns-in_err-address
@@ -51,9 +50,6 @@ returns-in_err-p4 c = rw c.from_residual-in_err-p4.ensures
     (read_next c.operand-2.ensures.reads _ (ap (option_map int_of) c.in_ok-p2.was)
     (read_next c.operand-3.ensures.reads _ (ap (option_map int_of) c.in_ok-p3.was)
     (read_none c.p4.ensures _ (ap option_copied c.in_err-p4.was)))))))
-
-pub judge-requires : goal.judge-requires
-judge-requires c = (operand_is c.operand.ensures c.in_ok-p1.was, operand_is c.operand-2.ensures c.in_ok-p2.was, operand_is c.operand-3.ensures c.in_ok-p3.was)
 
 pub returns : goal.returns
 unfolding take_row ascii

@@ -1,7 +1,7 @@
 -- What is left of `columns_at`, by the invariant of Invariants.antt. Assumes nothing.
-use Rattle.std.proofs.lemmas.Result.{err_from_is_err_and}
 use mathlib.Core.Path.{refl, sym, ◌∙◌}
 use native.Mathlib.Omega.{arith}
+use Rattle.refusal.proofs.Passed.{passed}
 use Rattle.read_arm.proofs.GatherLaws.{gathering_first, gathering_end, gathering_inside, gathering_plain, gathering_less, gathering_passed, gathering_behind, gathering_full, gathering_added}
 use Rattle.read_arm.proofs.columns_at.Goals as goal
 
@@ -23,7 +23,7 @@ insert_new-requires c = (c.loop-link.invariant.1.room, gathering_plain c.loop-li
 
 pub returns-in_err-m : goal.returns-in_err-m
 returns-in_err-m c =
-    let p = err_from_is_err_and c.from_residual.result c.from_residual.ensures.1 in rw (p.1, p.2) (gathering_full c.loop-link.invariant.1 c.loop-link-test.true _ c.cell_at-c.ensures (sym c.is_block_for.ensures ∙ c.if-not-is_block_for.false) _ _ c.insert_new.ensures _ c.in_err-m.was)
+    rw (passed _ _ c.from_residual.ensures.1) (gathering_full c.loop-link.invariant.1 c.loop-link-test.true _ c.cell_at-c.ensures (sym c.is_block_for.ensures ∙ c.if-not-is_block_for.false) _ _ c.insert_new.ensures _ c.in_err-m.was)
 
 pub loop-link-smaller-then-bound-key : goal.loop-link-smaller-then-bound-key
 loop-link-smaller-then-bound-key c = gathering_less c.loop-link.invariant.1 c.loop-link-test.true _ c.cell_at-c.ensures c.requires.2
@@ -37,7 +37,7 @@ insert_cell-requires c = let g = c.loop-link.invariant.1 in
 
 pub returns-in_err-m-2 : goal.returns-in_err-m-2
 returns-in_err-m-2 c =
-    let p = err_from_is_err_and c.from_residual-in_err-m-2.result c.from_residual-in_err-m-2.ensures.1 in rw (p.1, p.2) (gathering_full c.loop-link.invariant.1 c.loop-link-test.true _ c.cell_at-c.ensures (sym c.is_block_for.ensures ∙ c.if-not-is_block_for.false) _ _ c.insert_cell.ensures _ c.in_err-m-2.was)
+    rw (passed _ _ c.from_residual-in_err-m-2.ensures.1) (gathering_full c.loop-link.invariant.1 c.loop-link-test.true _ c.cell_at-c.ensures (sym c.is_block_for.ensures ∙ c.if-not-is_block_for.false) _ _ c.insert_cell.ensures _ c.in_err-m-2.was)
 
 pub loop-link-smaller : goal.loop-link-smaller
 loop-link-smaller c = gathering_less c.loop-link.invariant.1 c.loop-link-test.true _ c.cell_at-c.ensures c.requires.2

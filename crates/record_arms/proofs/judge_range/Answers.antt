@@ -1,7 +1,7 @@
 -- `record_arms::judge_range` goes by where the first index and the last lie. Assumes nothing.
-use Rattle.std.proofs.lemmas.Result.{err_from_is_err_and}
 use mathlib.Core.Path.{refl, subst}
 use native.Mathlib.Omega.{arith}
+use Rattle.refusal.proofs.Passed.{passed}
 use Rattle.intmap.specs.Get.{Within}
 use Rattle.record_arms.proofs.RangeLaws.{range_none, range_bad, range_high, range_within}
 use Rattle.record_arms.proofs.judge_range.Goals as goal
@@ -10,7 +10,7 @@ pub returns-then-n-eq0 : goal.returns-then-n-eq0
 returns-then-n-eq0 c = range_none _ _ c.if-n-eq0.true _ refl refl
 
 pub returns-in_err-first : goal.returns-in_err-first
-returns-in_err-first c = let p = err_from_is_err_and c.from_residual.result c.from_residual.ensures.1 in rw (p.1, p.2) (range_bad _ _ c.if-n-eq0.false _ c.judge_index.ensures _ c.in_err-first.was)
+returns-in_err-first c = rw (passed _ _ c.from_residual.ensures.1) (range_bad _ _ c.if-n-eq0.false _ c.judge_index.ensures _ c.in_err-first.was)
 
 pub returns-then-first-n : goal.returns-then-first-n
 returns-then-first-n c = let few = subst Within c.in_ok-first.was c.judge_index.ensures.small in range_high _ _ c.if-n-eq0.false _ c.judge_index.ensures _ c.in_ok-first.was (omega (arith, few))

@@ -1,6 +1,6 @@
 -- `record_arms::make_record` judges the count and the range. Assumes nothing.
-use Rattle.std.proofs.lemmas.Result.{err_from_is_err_and}
 use mathlib.Core.Path.{refl, subst}
+use Rattle.refusal.proofs.Passed.{passed}
 use Rattle.record_arms.specs.Records.{JudgesRange}
 use Rattle.record_arms.proofs.RecordLaws.{arm_negative, arm_range, arm_stored}
 use Rattle.record_arms.proofs.make_record.Goals as goal
@@ -9,7 +9,7 @@ pub returns-then-x-lt-ZERO : goal.returns-then-x-lt-ZERO
 returns-then-x-lt-ZERO c = arm_negative _ _ _ _ c.if-x-lt-ZERO.true
 
 pub returns-in_err-registers : goal.returns-in_err-registers
-returns-in_err-registers c = let p = err_from_is_err_and c.from_residual.result c.from_residual.ensures.1 in rw (p.1, p.2) (arm_range _ _ _ _ c.if-x-lt-ZERO.false _ refl _ (subst (JudgesRange _ _) c.in_err-registers.was c.judge_range.ensures))
+returns-in_err-registers c = rw (passed _ _ c.from_residual.ensures.1) (arm_range _ _ _ _ c.if-x-lt-ZERO.false _ refl _ (subst (JudgesRange _ _) c.in_err-registers.was c.judge_range.ensures))
 
 pub returns : goal.returns
 returns c = arm_stored _ _ _ _ c.if-x-lt-ZERO.false _ refl _ (subst (JudgesRange _ _) c.in_ok-registers.was c.judge_range.ensures) _ _ c.store_record.ensures

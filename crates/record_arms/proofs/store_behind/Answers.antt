@@ -1,14 +1,14 @@
 -- `record_arms::store_behind` judges index, depth and cells, and stores what it built. Assumes nothing.
-use Rattle.std.proofs.lemmas.Result.{err_from_is_err_and}
 use mathlib.Core.Path.{refl, sym, subst, ◌∙◌}
 use native.Mathlib.Omega.{arith}
+use Rattle.refusal.proofs.Passed.{passed}
 use Rattle.record_arms.specs.Records.{BuildsRecord}
 use Rattle.record_arms.proofs.DeepLaws.{flat_registers}
 use Rattle.record_arms.proofs.RecordLaws.{record_index, record_deep, record_many, record_full, built_room, built_fits, record_stored}
 use Rattle.record_arms.proofs.store_behind.Goals as goal
 
 pub returns-in_err-judge_index : goal.returns-in_err-judge_index
-returns-in_err-judge_index c = let p = err_from_is_err_and c.from_residual.result c.from_residual.ensures.1 in rw (p.1, p.2) (record_index _ _ _ _ _ _ c.args.registers.within _ c.judge_index.ensures _ c.in_err-judge_index.was)
+returns-in_err-judge_index c = rw (passed _ _ c.from_residual.ensures.1) (record_index _ _ _ _ _ _ c.args.registers.within _ c.judge_index.ensures _ c.in_err-judge_index.was)
 
 pub returns-then-too_deep : goal.returns-then-too_deep
 returns-then-too_deep c = record_deep _ _ _ _ _ _ c.args.registers.within _ c.judge_index.ensures _ c.in_ok-judge_index.was (sym c.too_deep.ensures ∙ c.if-too_deep.true)

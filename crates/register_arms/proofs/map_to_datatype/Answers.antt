@@ -8,7 +8,7 @@ pub returns-in_default : goal.returns-in_default
 returns-in_default c = datatype_is _ _ c.in_default.is _ refl
 
 pub returns-in-Single : goal.returns-in-Single
-returns-in-Single c = datatype_is _ _ (c.in-Some.is ∙ ap Some c.in-Single.is) _ c.datatype.ensures
+returns-in-Single c = datatype_is _ _ (c.in-Some.is ∙ ap Some c.in-Single.is) _ refl
 
 pub returns-in-Record : goal.returns-in-Record
 returns-in-Record c = datatype_is _ _ (c.in-Some.is ∙ ap Some c.in-Record.is) _ refl

@@ -1,11 +1,11 @@
 -- `register_arms::null` counts the registers from P2 to P3. Assumes nothing.
 use native.Mathlib.Omega.{arith}
-use Rattle.state.proofs.StoreLeads.{leads_as}
+use Rattle.state.proofs.ArmLaws.{register_arm_as}
 use Rattle.register_arms.proofs.NullLaws.{null_arm}
 use Rattle.register_arms.proofs.null.Goals as goal
 
 pub returns-then-x : goal.returns-then-x
-returns-then-x c = record { leads = λ meaning l s j. leads_as _ (λ m. null_arm _ meaning l _ s j m _ (omega (arith, c.if-x.true))) c.null_many.ensures }
+returns-then-x c = register_arm_as c.null_many.ensures (λ meaning l s j m. null_arm _ meaning l c.args.x s j m _ (omega (arith, c.if-x.true)))
 
 pub returns : goal.returns
-returns c = record { leads = λ meaning l s j. leads_as _ (λ m. null_arm _ meaning l _ s j m 1 (omega (arith, c.if-x.false))) c.null_many-2.ensures }
+returns c = register_arm_as c.null_many-2.ensures (λ meaning l s j m. null_arm _ meaning l c.args.x s j m 1 (omega (arith, c.if-x.false)))

@@ -10,8 +10,5 @@ returns-then-is_none c = first_absent _ _ (c.is_none.ensures ∙ ap not c.if-is_
 pub returns-then-is_none-2 : goal.returns-then-is_none-2
 returns-then-is_none-2 c = second_absent _ _ (c.is_none-2.ensures ∙ ap not c.if-is_none-2.true)
 
-pub either_nullable-requires : goal.either_nullable-requires
-either_nullable-requires c = (c.map_to_nullable.ensures.below, c.map_to_nullable-2.ensures.below)
-
 pub returns : goal.returns
-returns c = both_nullable _ _ c.map_to_nullable.result c.map_to_nullable-2.result _ (c.is_none.ensures ∙ ap not c.if-is_none.false) (c.is_none-2.ensures ∙ ap not c.if-is_none-2.false) c.map_to_nullable.ensures c.map_to_nullable-2.ensures c.either_nullable.ensures.0 c.either_nullable.ensures.1
+returns c = both_nullable _ _ c.map_to_nullable.result c.map_to_nullable-2.result _ (c.is_none.ensures ∙ ap not c.if-is_none.false) (c.is_none-2.ensures ∙ ap not c.if-is_none-2.false) c.map_to_nullable.ensures c.map_to_nullable-2.ensures c.either_nullable.ensures

@@ -1,16 +1,12 @@
 -- `register_arms::other_row` reads the operand, and stores its kind, nullable. Assumes nothing.
-use Rattle.std.proofs.lemmas.Result.{err_from_is_err_and}
 use mathlib.Core.Path.{ap, ◌∙◌}
 use mathlib.Core.Bool.{not}
-use Rattle.state.proofs.LeadsLaws.{current_held}
+use Rattle.refusal.proofs.Passed.{passed}
 use Rattle.register_arms.proofs.RegisterLaws.{refuses_leads, same_leads, leads_where, copy_refused, copy_nothing, row_stored}
 use Rattle.register_arms.proofs.other_row.Goals as goal
 
-pub read_register-requires : goal.read_register-requires
-read_register-requires c = current_held c.requires
-
 pub returns-in_err-v : goal.returns-in_err-v
-returns-in_err-v c = let p = err_from_is_err_and c.from_residual.result c.from_residual.ensures.1 in rw (p.1, p.2) (refuses_leads _ _ _ _ _ (λ bound m h. copy_refused _ _ _ _ _ c.read_register.result c.read_register.ensures bound m h _ _ c.in_err-v.was))
+returns-in_err-v c = rw (passed _ _ c.from_residual.ensures.1) (refuses_leads _ _ _ _ _ (λ bound m h. copy_refused _ _ _ _ _ c.read_register.result c.read_register.ensures bound m h _ _ c.in_err-v.was))
 
 pub returns-then-is_none : goal.returns-then-is_none
 returns-then-is_none c = same_leads _ _ _ _ c.requires (λ bound m h. copy_nothing _ _ _ _ _ c.read_register.result c.read_register.ensures bound m h _ _ c.in_ok-v.was (c.is_none.ensures ∙ ap not c.if-is_none.true))

@@ -1,19 +1,15 @@
 -- `rewind_arm::rewind` reads the cursor, where P2 is not 0. Assumes nothing.
 use Rattle.std.specs.Prelude.{Ok, Some}
-use Rattle.std.proofs.lemmas.Result.{err_from_is_err_and}
 use mathlib.Core.Path.{ap, ◌∙◌}
-use Rattle.cursor_arms.proofs.CursorLaws.{row_within}
+use Rattle.refusal.proofs.Passed.{passed}
 use Rattle.rewind_arm.proofs.RewindLaws.{rewind_on, rewind_bad, rewind_absent, rewind_normal, rewind_pseudo}
 use Rattle.rewind_arm.proofs.rewind.Goals as goal
 
 pub returns-then-x-eq-ZERO : goal.returns-then-x-eq-ZERO
 returns-then-x-eq-ZERO c = rewind_on _ _ _ _ c.requires.current c.if-x-eq-ZERO.true
 
-pub rewind_table-requires : goal.rewind_table-requires
-rewind_table-requires c = (c.requires, row_within _ _ _ _ c.read_cursor.ensures _ (c.in_ok-read_cursor.was ∙ ap Ok c.in-Some-Normal.is ∙ ap (λ p. Ok (Some p)) c.in-Some-Normal.field-0-is))
-
 pub returns-in_err-read_cursor : goal.returns-in_err-read_cursor
-returns-in_err-read_cursor c = let p = err_from_is_err_and c.from_residual.result c.from_residual.ensures.1 in rw (p.1, p.2) (rewind_bad _ _ _ _ c.requires.current c.if-x-eq-ZERO.false _ c.read_cursor.ensures _ c.in_err-read_cursor.was)
+returns-in_err-read_cursor c = rw (passed _ _ c.from_residual.ensures.1) (rewind_bad _ _ _ _ c.requires.current c.if-x-eq-ZERO.false _ c.read_cursor.ensures _ c.in_err-read_cursor.was)
 
 pub returns-in-None : goal.returns-in-None
 returns-in-None c = rewind_absent _ _ _ _ c.requires.current c.if-x-eq-ZERO.false _ c.read_cursor.ensures (c.in_ok-read_cursor.was ∙ ap Ok c.in-None.is)

@@ -1,12 +1,8 @@
 -- `rewind_arm::rewind_table` goes by whether the table is empty. Assumes nothing.
 use Rattle.std.specs.Prelude.{Some}
 use mathlib.Core.Path.{ap, ◌∙◌}
-use Rattle.jump_arms.proofs.BothLaws.{behind_held}
 use Rattle.rewind_arm.proofs.RewindLaws.{table_full, table_empty, table_unknown}
 use Rattle.rewind_arm.proofs.rewind_table.Goals as goal
-
-pub set_empty-requires : goal.set_empty-requires
-set_empty-requires c = (behind_held _ _ _ _ c.requires.0.current _ c.copy_to-map.ensures, c.requires.1)
 
 pub returns-in-Some-false : goal.returns-in-Some-false
 returns-in-Some-false c = table_full _ _ _ _ _ c.requires.0.current c.requires.1 _ c.is_empty.ensures (c.in-Some-false.is ∙ ap Some c.in-Some-false.field-0-test)

@@ -4,9 +4,6 @@ use native.Mathlib.Omega.{arith}
 use Rattle.root_block.proofs.LinkLaws.{linked_all-turn, linked_all_end}
 use Rattle.root_block.proofs.link_records.Goals as goal
 
-pub loop-i-init : goal.loop-i-init
-loop-i-init c = (omega arith, record { same = refl; bytes = refl; rest = λ j le. refl; cells = refl }, refl)
-
 pub loop-i-preserved : goal.loop-i-preserved
 loop-i-preserved c =
     let l = c.loop-i.invariant in

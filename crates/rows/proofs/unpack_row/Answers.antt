@@ -1,7 +1,7 @@
 -- `rows::unpack_row` reads the parts. Assumes nothing.
 use Prim.Native.Nat.{◌+◌, ◌/◌, ◌%◌}
 use Rattle.opcode.proofs.Numbers.{numbered_is}
-use Rattle.rows.specs.Rows.{least}
+use Rattle.rows.specs.Parts.{least}
 use Rattle.rows.proofs.unpack_row.Goals as goal
 
 pub returns : goal.returns

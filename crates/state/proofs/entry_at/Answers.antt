@@ -1,12 +1,8 @@
 -- `state::entry_at` takes what was located. Assumes nothing.
 use mathlib.Core.Path.{refl}
 use native.Mathlib.Omega.{arith}
-use Rattle.intmap.proofs.PackLaws.{class_small}
-use Rattle.state.proofs.OwnLaws.{held-among, located_key, located_nowhere, entry_none, entry_hinted}
+use Rattle.state.proofs.OwnLaws.{located_key, located_nowhere, entry_none, entry_hinted}
 use Rattle.state.proofs.entry_at.Goals as goal
-
-pub locate-requires : goal.locate-requires
-locate-requires c = (held-among c.requires.0, omega (arith, c.class_key-key.ensures), omega (arith, c.class_key-key.ensures, class_small c.args.class, c.requires.1))
 
 pub returns-in-Ok : goal.returns-in-Ok
 returns-in-Ok c = entry_hinted _ _ _ _ _ c.class_key-key.ensures c.requires.0 _ (located_key c.locate.ensures c.in-Ok.is)

@@ -1,15 +1,9 @@
 -- `state::over_entry` finds the entry and copies over it. Assumes nothing.
-use mathlib.Core.Path.{ap, sym, ◌∙◌}
-use native.Mathlib.Omega.{arith}
-use Rattle.state.proofs.OwnLaws.{case}
-use Rattle.state.proofs.OverLaws.{entry-not, entry_column, entry_over}
+use Rattle.state.proofs.OverLaws.{entry_column, entry_over}
 use Rattle.state.proofs.over_entry.Goals as goal
 
 pub copy_over-requires : goal.copy_over-requires
 copy_over-requires c = (c.requires.1.column, entry_column _ _ _ _ _ _ c.entry_at.ensures c.in-Some.is c.requires.0.map, c.requires.1.tag, c.requires.1.number)
-
-pub returns-in-None : goal.returns-in-None
-returns-in-None c = entry-not c.entry_at.ensures (λ e. let t = sym (ap case c.in-None.is) ∙ e in omega (arith, t))
 
 pub returns-in-Some : goal.returns-in-Some
 returns-in-Some c = entry_over _ _ _ _ _ _ c.entry_at.ensures c.in-Some.is c.copy_over.ensures

@@ -2,17 +2,8 @@
 use mathlib.Core.Path.{sym, subst, ◌∙◌}
 use native.Mathlib.Omega.{arith}
 use Rattle.intmap.specs.Get.{Within}
-use Rattle.state.proofs.OwnLaws.{bad_own, other_own, has_key, overwrites_bad, overwrites_at}
+use Rattle.state.proofs.OwnLaws.{other_own, has_key, overwrites_bad, overwrites_at}
 use Rattle.state.proofs.overwrite.Goals as goal
-
-pub returns-in_default : goal.returns-in_default
-returns-in_default c = overwrites_bad _ (bad_own c.judge_index.ensures _ c.in_default.is _)
-
-pub class_key-key-requires : goal.class_key-key-requires
-class_key-key-requires c = subst Within c.in-Ok.is c.judge_index.ensures.small
-
-pub is_at-requires : goal.is_at-requires
-is_at-requires c = (c.requires.0.map.inside, c.requires.0.map.small, let w = subst Within c.in-Ok.is c.judge_index.ensures.small in omega (arith, c.class_key-key.ensures, w))
 
 pub returns-then-not-is_at : goal.returns-then-not-is_at
 returns-then-not-is_at c = overwrites_bad _ (other_own c.judge_index.ensures c.in-Ok.is c.class_key-key.ensures c.is_at.ensures c.if-not-is_at.true)

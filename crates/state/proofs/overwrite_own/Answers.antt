@@ -3,17 +3,8 @@ use mathlib.Core.Path.{subst}
 use native.Mathlib.Omega.{arith}
 use Rattle.intmap.specs.Get.{Within}
 use Rattle.intmap.proofs.PackLaws.{class_small}
-use Rattle.state.proofs.OwnLaws.{held-among, located_key, located_nowhere, bad_own, new_own, overwrites_none, overwrites_own}
+use Rattle.state.proofs.OwnLaws.{located_key, located_nowhere, new_own, overwrites_none, overwrites_own}
 use Rattle.state.proofs.overwrite_own.Goals as goal
-
-pub returns-in_default : goal.returns-in_default
-returns-in_default c = overwrites_none _ (bad_own c.judge_index.ensures _ c.in_default.is)
-
-pub class_key-key-requires : goal.class_key-key-requires
-class_key-key-requires c = subst Within c.in-Ok.is c.judge_index.ensures.small
-
-pub locate-requires : goal.locate-requires
-locate-requires c = (held-among c.requires.0, omega (arith, c.class_key-key.ensures), let w = subst Within c.in-Ok.is c.judge_index.ensures.small in omega (arith, c.class_key-key.ensures, class_small c.args.class, w))
 
 pub returns-in_default-locate : goal.returns-in_default-locate
 returns-in_default-locate c = overwrites_none _ (new_own c.judge_index.ensures c.in-Ok.is c.class_key-key.ensures c.requires.0 (located_nowhere c.requires.0 (omega (arith, c.class_key-key.ensures)) c.locate.ensures c.in_default-locate.is))

@@ -5,7 +5,7 @@ use Rattle.state.proofs.ReadLaws.{in_single, in_record, in_int}
 use Rattle.state.proofs.register_in.Goals as goal
 
 pub returns-then-tag-eq-SINGLE : goal.returns-then-tag-eq-SINGLE
-returns-then-tag-eq-SINGLE c = ap₂ register.Single c.kind_of.ensures c.nullable_of.ensures ∙ in_single _ _ (sym c.tag_of-tag.ensures ∙ c.if-tag-eq-SINGLE.true)
+returns-then-tag-eq-SINGLE c = ap₂ register.Single c.datatype_in.ensures c.nullable_in.ensures ∙ in_single _ _ (sym c.tag_of-tag.ensures ∙ c.if-tag-eq-SINGLE.true)
 
 pub returns-then-tag-eq-RECORD : goal.returns-then-tag-eq-RECORD
 returns-then-tag-eq-RECORD c = in_record _ _ (sym c.tag_of-tag.ensures ∙ c.if-tag-eq-RECORD.true)

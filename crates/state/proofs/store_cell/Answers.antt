@@ -1,29 +1,17 @@
 -- `state::store_cell` writes over the own cell, puts a new one, or stores by the map. Assumes nothing.
-use Rattle.std.proofs.lemmas.Result.{err_from_is_err_and}
 use mathlib.Core.Path.{refl, ap, subst}
 use mathlib.Core.List.{[], ◌∷◌}
 use native.Mathlib.Omega.{arith}
+use Rattle.refusal.proofs.Passed.{passed}
 use Rattle.area.specs.declared.Cell.{Cell}
 use Rattle.intmap.specs.Get.{Within}
 use Rattle.intmap.proofs.JudgedLaws.{store_bad, store_tried}
 use Rattle.intmap.proofs.PackLaws.{class_small}
-use Rattle.state.proofs.OwnLaws.{held-among, located_key, located_nowhere, put_stored, keyed_new, map_stored, still_room, stored_then}
+use Rattle.state.proofs.OwnLaws.{located_key, located_nowhere, put_stored, keyed_new, map_stored}
 use Rattle.state.proofs.store_cell.Goals as goal
 
 pub returns-in_err-k : goal.returns-in_err-k
-returns-in_err-k c = let p = err_from_is_err_and c.from_residual.result c.from_residual.ensures.1 in rw (p.1, p.2) (map_stored _ _ _ _ _ _ _ _ (store_bad _ _ _ _ _ _ _ _ _ c.judge_index.ensures.answer _ c.in_err-k.was refl))
-
-pub class_key-key-requires : goal.class_key-key-requires
-class_key-key-requires c = subst Within c.in_ok-k.was c.judge_index.ensures.small
-
-pub overflow_add-map : goal.overflow_add-map
-overflow_add-map c = omega (arith, c.requires.0.most, c.requires.0.room, c.requires.0.small)
-
-pub locate-requires : goal.locate-requires
-locate-requires c = (held-among c.requires.1, omega (arith, c.class_key-key.ensures), let w = subst Within c.in_ok-k.was c.judge_index.ensures.small in omega (arith, c.class_key-key.ensures, class_small c.args.class, w))
-
-pub with_key-requires : goal.with_key-requires
-with_key-requires c = let w = subst Within c.in_ok-k.was c.judge_index.ensures.small in omega (arith, c.class_key-key.ensures, class_small c.args.class, w)
+returns-in_err-k c = rw (passed _ _ c.from_residual.ensures.1) (map_stored _ _ _ _ _ _ _ _ (store_bad _ _ _ _ _ _ _ _ _ c.judge_index.ensures.answer _ c.in_err-k.was refl))
 
 pub insert_new-requires : goal.insert_new-requires
 insert_new-requires c = let new = located_nowhere c.requires.1 (omega (arith, c.class_key-key.ensures)) c.locate.ensures c.in-Err.is in
@@ -38,9 +26,3 @@ put_plain-requires c = let w = subst Within c.in_ok-k.was c.judge_index.ensures.
 
 pub returns-then-put_plain : goal.returns-then-put_plain
 returns-then-put_plain c = put_stored c.judge_index.ensures c.in_ok-k.was c.class_key-key.ensures (located_key c.locate.ensures c.in-Ok.is) c.requires.2 c.put_plain.ensures c.if-put_plain.true _ c.requires.0
-
-pub store_cell-requires : goal.store_cell-requires
-store_cell-requires c = (still_room (c.put_plain.ensures.no c.if-put_plain.false).1 c.requires.0, c.requires.2)
-
-pub returns-else-put_plain : goal.returns-else-put_plain
-returns-else-put_plain c = stored_then (c.put_plain.ensures.no c.if-put_plain.false).1 (map_stored _ _ _ _ _ _ _ _ c.store_cell.ensures)

@@ -9,7 +9,7 @@ use Rattle.encoding.proofs.Packing.{code_small}
 use Rattle.state.proofs.store_single.Goals as goal
 
 pub store_register-requires : goal.store_register-requires
-store_register-requires c = (c.requires.0.room, current_held c.requires.0, omega (arith, ap (λ x. tag_of x) c.single.ensures, code_small c.args.d))
+store_register-requires c = (c.requires.room, current_held c.requires, omega (arith, ap (λ x. tag_of x) c.single.ensures, code_small c.args.d))
 
 pub returns : goal.returns
-returns c = cell_leads c.store_register.ensures (single_leads _ _ _ _ _ _ _ _ _ c.requires.1 c.single.ensures)
+returns c = cell_leads c.store_register.ensures (single_leads _ _ _ _ _ _ _ _ _ c.single.ensures)

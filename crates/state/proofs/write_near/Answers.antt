@@ -2,20 +2,8 @@
 use mathlib.Core.Path.{subst}
 use native.Mathlib.Omega.{arith}
 use Rattle.intmap.specs.Get.{Within}
-use Rattle.state.proofs.OwnLaws.{among_inside, near_not, near_written}
+use Rattle.state.proofs.OwnLaws.{among_inside, near_written}
 use Rattle.state.proofs.write_near.Goals as goal
-
-pub returns-in_default : goal.returns-in_default
-returns-in_default c = near_not
-
-pub class_key-key-requires : goal.class_key-key-requires
-class_key-key-requires c = subst Within c.in-Ok.is c.judge_index.ensures.small
-
-pub near_first-requires : goal.near_first-requires
-near_first-requires c = (c.requires.0, let w = subst Within c.in-Ok.is c.judge_index.ensures.small in omega (arith, c.class_key-key.ensures, w))
-
-pub returns-in_default-near_first : goal.returns-in_default-near_first
-returns-in_default-near_first c = near_not
 
 pub put_plain-requires : goal.put_plain-requires
 put_plain-requires c = let w = subst Within c.in-Ok.is c.judge_index.ensures.small in let i = among_inside c.requires.0 in (let h = c.near_first.ensures.is _ c.in-Some.is in omega (arith, i.0, i.1, h.inside), omega (arith, c.class_key-key.ensures, w))

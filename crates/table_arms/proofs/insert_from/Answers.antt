@@ -1,11 +1,12 @@
 -- `table_arms::insert_from` goes by the tag and the kind. Assumes nothing.
 use mathlib.Core.Path.{sym, ◌∙◌}
 use native.Mathlib.Omega.{arith}
-use Rattle.table_arms.proofs.InsertLaws.{value-within, from_record, from_null, from_kind, from_number}
+use Rattle.state.proofs.LeadsLaws.{value-within}
+use Rattle.table_arms.proofs.InsertLaws.{from_record, from_null, from_kind, from_number}
 use Rattle.table_arms.proofs.insert_from.Goals as goal
 
 pub cell_at-c-requires : goal.cell_at-c-requires
-cell_at-c-requires c = record { within = omega (arith, value-within _ _ _ _ c.requires.0 c.requires.2); small = c.requires.0.room.small }
+cell_at-c-requires c = record { within = omega (arith, value-within c.requires.0 c.requires.2); small = c.requires.0.room.small }
 
 pub returns-then-tag-eq-RECORD : goal.returns-then-tag-eq-RECORD
 returns-then-tag-eq-RECORD c = from_record _ _ _ _ _ c.requires.0 c.requires.2 _ c.cell_at-c.ensures (sym c.tag_of-tag.ensures ∙ c.if-tag-eq-RECORD.true) _ _ c.insert_record.ensures

@@ -1,17 +1,12 @@
 -- `table_arms::insert_null` sets the emptiness of the cursor's table. Assumes nothing.
 use Rattle.std.specs.Prelude.{Ok}
-use Rattle.std.proofs.lemmas.Result.{err_from_is_err_and}
 use mathlib.Core.Path.{ap, ◌∙◌}
+use Rattle.refusal.proofs.Passed.{passed}
 use Rattle.table_arms.proofs.InsertLaws.{null_bad, null_absent, null_changed}
-use Rattle.cursor_arms.proofs.CursorLaws.{row_within}
-use Rattle.state.proofs.LeadsLaws.{current_held}
 use Rattle.table_arms.proofs.insert_null.Goals as goal
 
-pub set_empty-requires : goal.set_empty-requires
-set_empty-requires c = (current_held c.requires, row_within _ _ _ _ c.read_cursor.ensures _ (c.in_ok-p.was ∙ ap Ok c.in-Some.is))
-
 pub returns-in_err-p : goal.returns-in_err-p
-returns-in_err-p c = let p = err_from_is_err_and c.from_residual.result c.from_residual.ensures.1 in rw (p.1, p.2) (null_bad _ _ _ _ _ c.read_cursor.ensures c.requires _ c.in_err-p.was)
+returns-in_err-p c = rw (passed _ _ c.from_residual.ensures.1) (null_bad _ _ _ _ _ c.read_cursor.ensures c.requires _ c.in_err-p.was)
 
 pub returns-in_default : goal.returns-in_default
 returns-in_default c = null_absent _ _ _ _ _ c.read_cursor.ensures c.requires (c.in_ok-p.was ∙ ap Ok c.in_default.is)

@@ -1,20 +1,12 @@
 -- `table_arms::insert_record` goes by the cursor and its table. Assumes nothing.
 use Rattle.std.specs.Prelude.{Ok, Some}
-use Rattle.std.proofs.lemmas.Result.{err_from_is_err_and}
 use mathlib.Core.Path.{ap, ◌∙◌}
-use Rattle.cursor_arms.proofs.CursorLaws.{row_within}
+use Rattle.refusal.proofs.Passed.{passed}
 use Rattle.table_arms.proofs.InsertLaws.{record_bad, record_absent, record_pseudo, table_absent, table_there}
-use Rattle.state.proofs.LeadsLaws.{current_held}
 use Rattle.table_arms.proofs.insert_record.Goals as goal
 
-pub table-requires : goal.table-requires
-table-requires c = (current_held c.requires.0, row_within _ _ _ _ c.read_cursor.ensures _ (c.in_ok-p.was ∙ ap Ok c.in-Some.is ∙ ap (λ p. Ok (Some p)) c.in-Normal.is))
-
-pub store_table-requires : goal.store_table-requires
-store_table-requires c = (c.requires.0, c.requires.1, c.requires.2, row_within _ _ _ _ c.read_cursor.ensures _ ((c.in_ok-p.was ∙ ap Ok c.in-Some.is) ∙ ap (λ p. Ok (Some p)) c.in-Normal.is))
-
 pub returns-in_err-p : goal.returns-in_err-p
-returns-in_err-p c = let p = err_from_is_err_and c.from_residual.result c.from_residual.ensures.1 in rw (p.1, p.2) (record_bad _ _ _ _ _ c.read_cursor.ensures c.requires.0 _ _ c.in_err-p.was)
+returns-in_err-p c = rw (passed _ _ c.from_residual.ensures.1) (record_bad _ _ _ _ _ c.read_cursor.ensures c.requires.0 _ _ c.in_err-p.was)
 
 pub returns-in_default : goal.returns-in_default
 returns-in_default c = record_absent _ _ _ _ _ c.read_cursor.ensures c.requires.0 _ (c.in_ok-p.was ∙ ap Ok c.in_default.is)

@@ -1,40 +1,31 @@
 -- `table_arms::null_row` reads the cursor and changes its columns. Assumes nothing.
 use Rattle.std.specs.Prelude.{Ok}
-use Rattle.std.proofs.lemmas.Result.{err_from_is_err_and}
 use mathlib.Core.Path.{sym, ap, ◌∙◌}
 use native.Mathlib.Omega.{arith}
+use Rattle.refusal.proofs.Passed.{passed}
 use Rattle.intmap.proofs.StoreLaws.{room_map}
 use Rattle.state.proofs.LeadsLaws.{current_held}
 use Rattle.cursor_arms.proofs.StandsLaws.{cursor_led, flat_there}
-use Rattle.table_arms.proofs.NullLaws.{null_bad, null_absent, head_within, columns_within, null_there}
+use Rattle.table_arms.proofs.NullLaws.{null_bad, null_absent, columns_within, null_there}
 use Rattle.table_arms.proofs.null_row.Goals as goal
 
-pub cell_at-c-requires : goal.cell_at-c-requires
-cell_at-c-requires c = let is = room_map c.requires.0.current.room in let h = head_within _ _ is _ _ c.columns_of.ensures _ (c.in_ok-at.was ∙ ap Ok c.in-Some.is) in record { within = omega (arith, h); small = is.small }
-
 pub is_flat-requires : goal.is_flat-requires
-is_flat-requires c = let is = room_map c.requires.0.current.room in let led = cursor_led _ _ is _ _ _ c.columns_of.ensures (c.in_ok-at.was ∙ ap Ok c.in-Some.is) in (is, led.above, omega (arith, led.below))
-
-pub overflow_add-at : goal.overflow_add-at
-overflow_add-at c = let is = room_map c.requires.0.current.room in let h = head_within _ _ is _ _ c.columns_of.ensures _ (c.in_ok-at.was ∙ ap Ok c.in-Some.is) in omega (arith, h, is.small)
+is_flat-requires c = let is = room_map c.requires.current.room in let led = cursor_led _ _ is _ _ _ c.columns_of.ensures (c.in_ok-at.was ∙ ap Ok c.in-Some.is) in (is, led.above, omega (arith, led.below))
 
 pub null_cells-requires : goal.null_cells-requires
-null_cells-requires c = let is = room_map c.requires.0.current.room in (columns_within _ _ is _ _ c.columns_of.ensures _ (c.in_ok-at.was ∙ ap Ok c.in-Some.is) _ c.cell_at-c.ensures, flat_there _ _ (current_held c.requires.0.current) _ _ c.columns_of.ensures _ (c.in_ok-at.was ∙ ap Ok c.in-Some.is) _ c.cell_at-c.ensures (sym c.is_flat.ensures ∙ c.if-is_flat.true))
+null_cells-requires c = let is = room_map c.requires.current.room in (columns_within _ _ is _ _ c.columns_of.ensures _ (c.in_ok-at.was ∙ ap Ok c.in-Some.is) _ c.cell_at-c.ensures, flat_there _ _ (current_held c.requires.current) _ _ c.columns_of.ensures _ (c.in_ok-at.was ∙ ap Ok c.in-Some.is) _ c.cell_at-c.ensures (sym c.is_flat.ensures ∙ c.if-is_flat.true))
 
 pub returns-then-is_flat : goal.returns-then-is_flat
-returns-then-is_flat c = null_there _ _ (room_map c.requires.0.current.room) _ _ c.columns_of.ensures _ (c.in_ok-at.was ∙ ap Ok c.in-Some.is) _ _ c.cell_at-c.ensures c.null_cells.ensures
-
-pub overflow_add-at-2 : goal.overflow_add-at-2
-overflow_add-at-2 c = let is = room_map c.requires.0.current.room in let h = head_within _ _ is _ _ c.columns_of.ensures _ (c.in_ok-at.was ∙ ap Ok c.in-Some.is) in omega (arith, h, is.small)
+returns-then-is_flat c = null_there _ _ (room_map c.requires.current.room) _ _ c.columns_of.ensures _ (c.in_ok-at.was ∙ ap Ok c.in-Some.is) _ _ c.cell_at-c.ensures c.null_cells.ensures
 
 pub null_columns-requires : goal.null_columns-requires
-null_columns-requires c = let is = room_map c.requires.0.current.room in columns_within _ _ is _ _ c.columns_of.ensures _ (c.in_ok-at.was ∙ ap Ok c.in-Some.is) _ c.cell_at-c.ensures
+null_columns-requires c = let is = room_map c.requires.current.room in columns_within _ _ is _ _ c.columns_of.ensures _ (c.in_ok-at.was ∙ ap Ok c.in-Some.is) _ c.cell_at-c.ensures
 
 pub returns-in_err-at : goal.returns-in_err-at
-returns-in_err-at c = let p = err_from_is_err_and c.from_residual.result c.from_residual.ensures.1 in rw (p.1, p.2) (null_bad _ _ (room_map c.requires.0.current.room) _ _ c.columns_of.ensures _ c.in_err-at.was)
+returns-in_err-at c = rw (passed _ _ c.from_residual.ensures.1) (null_bad _ _ (room_map c.requires.current.room) _ _ c.columns_of.ensures _ c.in_err-at.was)
 
 pub returns-in_default : goal.returns-in_default
-returns-in_default c = null_absent _ _ (room_map c.requires.0.current.room) _ _ c.columns_of.ensures (c.in_ok-at.was ∙ ap Ok c.in_default.is)
+returns-in_default c = null_absent _ _ (room_map c.requires.current.room) _ _ c.columns_of.ensures (c.in_ok-at.was ∙ ap Ok c.in_default.is)
 
 pub returns : goal.returns
-returns c = null_there _ _ (room_map c.requires.0.current.room) _ _ c.columns_of.ensures _ (c.in_ok-at.was ∙ ap Ok c.in-Some.is) _ _ c.cell_at-c.ensures c.null_columns.ensures
+returns c = null_there _ _ (room_map c.requires.current.room) _ _ c.columns_of.ensures _ (c.in_ok-at.was ∙ ap Ok c.in-Some.is) _ _ c.cell_at-c.ensures c.null_columns.ensures

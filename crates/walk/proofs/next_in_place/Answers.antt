@@ -7,4 +7,4 @@ pub overflow_add-end : goal.overflow_add-end
 overflow_add-end c = omega (arith, c.requires.current.room.most, c.requires.current.room.room, c.requires.current.room.small)
 
 pub next_row-requires : goal.next_row-requires
-next_row-requires c = ready_near c.requires
+next_row-requires c = ready_near c.args.x c.requires

@@ -1,6 +1,4 @@
 -- `cursor_arms::CursorDataType::set_empty` changes the head of its table. Assumes nothing.
-use mathlib.Core.Path.{ap, ◌∙◌}
-use Rattle.intmap.specs.Pack.{with_nullable}
 use Rattle.cursor_arms.proofs.TableLaws.{table_none, table-within, table_there}
 use native.Mathlib.Omega.{arith}
 use Rattle.cursor_arms.proofs.CursorDataType.set_empty.Goals as goal
@@ -15,4 +13,4 @@ pub returns-in_default : goal.returns-in_default
 returns-in_default c = table_none _ _ _ _ c.table.ensures (λ _. c.args.empty) c.in_default.is
 
 pub returns : goal.returns
-returns c = table_there _ _ _ _ c.table.ensures (λ _. c.args.empty) _ c.in-Some.is c.requires.0.map _ _ _ c.cell_at.ensures (c.with_nullable-c.ensures ∙ ap (λ n. with_nullable n c.cell_at.result) c.nullable_code.ensures) c.put_cell.ensures.cells
+returns c = table_there _ _ _ _ c.table.ensures (λ _. c.args.empty) _ c.in-Some.is c.requires.0.map _ _ _ c.cell_at.ensures c.with_nullable-c.ensures c.put_cell.ensures.cells

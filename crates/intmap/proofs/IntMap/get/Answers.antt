@@ -1,18 +1,13 @@
 -- `IntMap::get` judges the index, then looks for its key. Assumes nothing.
-use Rattle.std.proofs.lemmas.Result.{err_from_is_err_and}
-use mathlib.Core.Path.{subst}
-use Rattle.intmap.specs.Get.{Within}
+use Rattle.refusal.proofs.Passed.{passed}
 use Rattle.intmap.proofs.GetLaws.{get_bad, get_absent, get_at}
 use Rattle.intmap.proofs.IntMap.get.Goals as goal
-
-pub class_key-requires : goal.class_key-requires
-class_key-requires c = subst Within c.in_ok-k.was c.judge_index.ensures.small
 
 pub returns-then-found : goal.returns-then-found
 returns-then-found c = get_at _ _ _ _ _ c.judge_index.ensures.answer c.requires _ c.in_ok-k.was _ (rw c.class_key.ensures at c.find-found.ensures) c.if-found.true
 
 pub returns-in_err-k : goal.returns-in_err-k
-returns-in_err-k c = let p = err_from_is_err_and c.from_residual.result c.from_residual.ensures.1 in rw (p.1, p.2) (get_bad _ _ _ _ _ c.judge_index.ensures.answer _ c.in_err-k.was)
+returns-in_err-k c = rw (passed _ _ c.from_residual.ensures.1) (get_bad _ _ _ _ _ c.judge_index.ensures.answer _ c.in_err-k.was)
 
 pub returns : goal.returns
 returns c = get_absent _ _ _ _ _ c.judge_index.ensures.answer c.requires _ c.in_ok-k.was _ (rw c.class_key.ensures at c.find-found.ensures) c.if-found.false

@@ -20,9 +20,6 @@ returns-then-limit-self c = let a = c.args in
 pub overflow_add-at : goal.overflow_add-at
 overflow_add-at c = let f = new_within c.requires.0 c.requires.2 in omega (arith, f.1, c.requires.0.most, c.requires.0.room, c.requires.0.small)
 
-pub overflow_add-self : goal.overflow_add-self
-overflow_add-self c = omega (arith, c.requires.0.most, c.requires.0.room, c.requires.0.small)
-
 pub overflow_sub-self : goal.overflow_sub-self
 overflow_sub-self c = let f = new_within c.requires.0 c.requires.2 in omega (arith, f.1)
 
@@ -39,9 +36,6 @@ put_cell-requires c = let f = new_within c.requires.0 c.requires.2 in
 
 pub overflow_add-result : goal.overflow_add-result
 overflow_add-result c = let is = room_map c.requires.0 in omega (arith, few_entries _ _ is, is.inside, is.small)
-
-pub overflow_add-result-2 : goal.overflow_add-result-2
-overflow_add-result-2 c = omega (arith, c.requires.0.most, c.requires.0.room, c.requires.0.small)
 
 pub returns : goal.returns
 unfolding key_run

@@ -1,14 +1,11 @@
-use Rattle.std.proofs.lemmas.Result.{err_from_is_err_and}
 use mathlib.Core.Path.{refl, ap}
 use Rattle.area.specs.Cells.{cells}
 use Rattle.intmap.specs.Entries.{key_run}
 use Rattle.intmap.specs.Pack.{key_of}
 use Rattle.intmap.proofs.StoreLaws.{opened_as, opened_in, cell_full, cell_done}
 use native.Mathlib.Omega.{arith}
+use Rattle.refusal.proofs.Passed.{passed}
 use Rattle.intmap.proofs.IntMap.replace.Goals as goal
-
-pub room_at-requires : goal.room_at-requires
-room_at-requires c = (c.requires.0, omega arith, record { key = key_of c.args.c; is = c.requires.2 })
 
 pub put_cell-requires : goal.put_cell-requires
 put_cell-requires c = let a = c.args in
@@ -18,7 +15,7 @@ put_cell-requires c = let a = c.args in
 
 pub returns-in_err-map : goal.returns-in_err-map
 unfolding key_run
-returns-in_err-map c = let p = err_from_is_err_and c.from_residual.result c.from_residual.ensures.1 in rw (p.1, p.2) (let a = c.args in
+returns-in_err-map c = rw (passed _ _ c.from_residual.ensures.1) (let a = c.args in
     let o = opened_as (cells a.area.now) (cells c.room_at.new.area) a.limit a.self 1 c.room_at.result a.found _ c.requires.2 c.room_at.ensures in
     cell_full _ _ _ _ _ _ _ c.requires.0 c.requires.1 refl o _ c.in_err-map.was)
 

@@ -1,11 +1,9 @@
 -- `IntMap::store_run` judges the index, then the run's depth, then inserts it under its key. Assumes nothing.
-use Rattle.std.proofs.lemmas.Result.{err_from_is_err_and}
-use mathlib.Core.Path.{refl, ap, subst}
+use mathlib.Core.Path.{refl, ap}
 use Prim.Native.Nat.{ℕ}
 use native.Mathlib.Omega.{arith}
+use Rattle.refusal.proofs.Passed.{passed}
 use Rattle.area.specs.Cells.{cells}
-use Rattle.intmap.proofs.PackLaws.{class_small}
-use Rattle.intmap.specs.Get.{Within}
 use Rattle.intmap.specs.Entries.{span}
 use Rattle.intmap.specs.Change.{rekey}
 use Rattle.intmap.proofs.JudgedLaws.{store_bad, store_nested, store_tried}
@@ -14,17 +12,8 @@ use Rattle.intmap.proofs.IntMap.store_run.Goals as goal
 pub returns-then-depth_of-gt8 : goal.returns-then-depth_of-gt8
 returns-then-depth_of-gt8 c = store_nested _ _ _ _ _ _ _ _ _ c.judge_index.ensures.answer _ c.in_ok-k.was (omega (arith, c.if-depth_of-gt8.true, c.depth_of.ensures)) refl
 
-pub class_key-requires : goal.class_key-requires
-class_key-requires c = subst Within c.in_ok-k.was c.judge_index.ensures.small
-
-pub insert_run-requires : goal.insert_run-requires
-insert_run-requires c = let counted = c.count-n.ensures in
-    let small = subst Within c.in_ok-k.was c.judge_index.ensures.small in
-    let pre = c.requires in
-    (pre.0, record { whole = counted; above = pre.1.above; fits = omega (arith, pre.1.fits, counted) }, omega (arith, small, class_small c.args.class, c.class_key.ensures))
-
 pub returns-in_err-k : goal.returns-in_err-k
-returns-in_err-k c = let p = err_from_is_err_and c.from_residual.result c.from_residual.ensures.1 in rw (p.1, p.2) (store_bad _ _ _ _ _ _ _ _ _ c.judge_index.ensures.answer _ c.in_err-k.was refl)
+returns-in_err-k c = rw (passed _ _ c.from_residual.ensures.1) (store_bad _ _ _ _ _ _ _ _ _ c.judge_index.ensures.answer _ c.in_err-k.was refl)
 
 pub returns : goal.returns
 returns c = let a = c.args in

@@ -1,6 +1,5 @@
 -- `Operation::from`: a number that is none of the others' is 0, or past the last. Assumes nothing.
-use mathlib.Core.Path.{refl}
-use mathlib.Core.Path.{◌≡◌}
+use mathlib.Core.Path.{refl, ◌≡◌}
 use Prim.Native.Nat.{ℕ, zero, suc, ◌<◌}
 use native.Mathlib.Omega.{arith}
 use borrow.Author.Rules.{rules}

@@ -1,12 +1,11 @@
 -- `Walk::follow_ways` after at most one branch. Assumes nothing.
 use borrow.Author.Rules.{rules}
-use Rattle.walk.specs.Loop.{FollowsWays}
-use Rattle.walk.proofs.Passed.{passed_up}
+use Rattle.refusal.proofs.Passed.{passed}
 use Rattle.walk.proofs.FollowLaws.{few_after, walking_after, ways_refused, ways_goes}
 use Rattle.walk.proofs.Walk.follow_ways.Goals as goal
 
 pub returns-in_err-add_way : goal.returns-in_err-add_way
-returns-in_err-add_way c = passed_up (FollowsWays _ _ _ _ _ _ _ _) _ _ c.from_residual.ensures.1 (ways_refused _ _ _ c.in_err-add_way.ensures)
+returns-in_err-add_way c = rw (passed _ _ c.from_residual.ensures.1) (ways_refused _ _ _ c.in_err-add_way.ensures)
 
 pub note_repeat-requires : goal.note_repeat-requires
 note_repeat-requires c = few_after c.in_ok-add_way.ensures c.requires.1 c.requires.0

@@ -1,7 +1,6 @@
 -- What is left of `Walk::run`, by the invariant of Invariants.antt. Assumes nothing.
 use native.Mathlib.Omega.{arith}
-use Rattle.walk.specs.Loop.{Runs}
-use Rattle.walk.proofs.Passed.{passed_up}
+use Rattle.refusal.proofs.Passed.{passed}
 use Rattle.walk.proofs.RunLaws.{runs_standing, may_close, runs_pause, runs_close, runs_refused, runs_ended, runs_next}
 use Rattle.walk.proofs.Walk.run.Goals as goal
 
@@ -9,7 +8,7 @@ pub take_turn-requires : goal.take_turn-requires
 take_turn-requires c = runs_standing c.loop-turn.invariant c.requires (omega (arith, c.loop-turn-test.true, c.min-turn-end.ensures))
 
 pub returns-in_err-take_turn : goal.returns-in_err-take_turn
-returns-in_err-take_turn c = passed_up (Runs _ _ _ _ _ _ _ _ _ _) _ _ c.from_residual.ensures.1 (runs_refused c.loop-turn.invariant (omega (arith, c.loop-turn-test.true, c.min-turn-end.ensures)) _ _ _ _ c.in_err-take_turn.ensures)
+returns-in_err-take_turn c = rw (passed _ _ c.from_residual.ensures.1) (runs_refused c.loop-turn.invariant (omega (arith, c.loop-turn-test.true, c.min-turn-end.ensures)) _ _ _ _ c.in_err-take_turn.ensures)
 
 pub returns-in-None : goal.returns-in-None
 returns-in-None c = runs_ended c.loop-turn.invariant (omega (arith, c.loop-turn-test.true, c.min-turn-end.ensures)) _ _ _ _ c.in_ok-take_turn.ensures c.in-None.is
