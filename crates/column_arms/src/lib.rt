@@ -12,15 +12,16 @@ ghost use Rattle.intmap.specs.Map.{levels, IsMap};
 ghost use Rattle.intmap.specs.Pack.{tag_of};
 ghost use Rattle.intmap.specs.Runs.{size, IsColumn};
 ghost use Rattle.intmap.specs.Signed.{int_of};
-ghost use Rattle.state.specs.Leads.{Held, Current, Leads};
+ghost use Rattle.state.specs.Leads.{Leads};
 ghost use Rattle.state.specs.Own.{OverwritesOwn};
 ghost use Rattle.state.specs.Arms.{CursorArm};
+ghost use Rattle.state.specs.Stores.{cells_in, IsHeld, IsCurrent, Changes, Writes};
 ghost use Rattle.column_arms.specs.Columns.{columns_in, counted, DirectAt, FindsColumn, StoresRun, store_column, LeadsWith};
 
 use area::Cell;
-use intmap::IntMap;
 use refusal::Refusal;
 use rows::Row;
+use state::Store;
 use type_info::DataType;
 
 // How many columns a cell says that it has behind it.
@@ -51,17 +52,17 @@ fn is_whole(area: &[u8], at: usize, n: usize) -> bool
 
 // Whether the column of a key is at its distance from the head at `at`, which has n columns: where each has one cell, the one there that has the
 // key is it.
-fn is_direct(map: IntMap, area: &[u8], at: usize, n: u64, key: u64) -> bool
-    requires { IsMap (cells area.now) map × (map.base ≤ at) × (at < map.base + map.used) }
-    ensures { result ≡ true → DirectAt (cells area.now) map at n key }
+fn is_direct(store: &Store, at: usize, n: u64, key: u64) -> bool
+    requires { IsMap (cells_in store.now) store.now.map × (store.now.map.base ≤ at) × (at < store.now.map.base + store.now.map.used) }
+    ensures { result ≡ true → DirectAt (cells_in store.now) store.now.map at n key }
 {
     if n <= key {
         return false;
     }
-    if !state::is_flat(map, area, at, n) {
+    if !store.is_flat(at, n) {
         return false;
     }
-    let c = area::cell_at(area, at + 1 + key as usize);
+    let c = store.cell_at(at + 1 + key as usize);
     if intmap::tag_of(c) == intmap::RECORD {
         return false;
     }
@@ -70,26 +71,26 @@ fn is_direct(map: IntMap, area: &[u8], at: usize, n: u64, key: u64) -> bool
 
 // Looks for a key among the columns behind the head at `at`. The head's run is counted in LEVELS levels, so its columns in one fewer. In a state
 // none goes deeper, and in other cells a record that may is refused.
-fn find_column(map: IntMap, area: &[u8], at: usize, key: u64) -> Result<Option<usize>, Refusal>
-    requires { IsColumn (cells area.now) levels at × (tag_of (get_or (cells area.now) at blank) ≡ 2) × IsMap (cells area.now) map × (map.base ≤ at) × (at + size (cells area.now) levels at ≤ map.base + map.used) }
-    ensures { FindsColumn (cells area.now) at key result }
+fn find_column(store: &Store, at: usize, key: u64) -> Result<Option<usize>, Refusal>
+    requires { IsColumn (cells_in store.now) levels at × (tag_of (get_or (cells_in store.now) at blank) ≡ 2) × IsMap (cells_in store.now) store.now.map × (store.now.map.base ≤ at) × (at + size (cells_in store.now) levels at ≤ store.now.map.base + store.now.map.used) }
+    ensures { FindsColumn (cells_in store.now) at key result }
 {
-    let head = area::cell_at(area, at);
-    if is_direct(map, area, at, head.payload, key) {
+    let head = store.cell_at(at);
+    if is_direct(store, at, head.payload, key) {
         return Ok(Some(at + 1 + key as usize));
     }
-    let found = intmap::find_from(area, at + 1, head.payload, key, intmap::LEVELS - 1);
+    let found = intmap::find_from(store.area, at + 1, head.payload, key, intmap::LEVELS - 1);
     let q = found.at;
     let there = found.present;
     if !there {
         return Ok(None);
     }
-    let c = area::cell_at(area, q);
+    let c = store.cell_at(q);
     if intmap::tag_of(c) != intmap::RECORD {
         return Ok(Some(q));
     }
-    let n = intmap::count(area, q, intmap::LEVELS - 1);
-    if is_whole(area, q, n) {
+    let n = intmap::count(store.area, q, intmap::LEVELS - 1);
+    if is_whole(store.area, q, n) {
         return Ok(Some(q));
     }
     Err(Refusal::TooDeep)
@@ -97,115 +98,93 @@ fn find_column(map: IntMap, area: &[u8], at: usize, key: u64) -> Result<Option<u
 
 // Stores the run at `at` of the map in register j, with c for its head. A cell alone is stored as it is. A store may move a longer run, so that
 // goes to the room behind the map first.
-fn store_behind(
-    map: IntMap,
-    area: &mut [u8],
-    at: usize,
-    c: Cell,
-    j: u64,
-    limit: usize,
-) -> Result<IntMap, Refusal>
-    requires { Current limit (cells area.old) map × (map.base ≤ at) × (at + size (cells area.old) levels at ≤ map.base + map.used) × (tag_of c ≡ tag_of (get_or (cells area.old) at blank)) × (c.payload ≡ (get_or (cells area.old) at blank).payload) }
-    ensures { StoresRun limit (cells area.old) (cells area.new) map at c j result }
+fn store_behind(store: &mut Store, at: usize, c: Cell, j: u64) -> Result<(), Refusal>
+    requires { IsCurrent store.old × (store.old.map.base ≤ at) × (at + size (cells_in store.old) levels at ≤ store.old.map.base + store.old.map.used) × (tag_of c ≡ tag_of (get_or (cells_in store.old) at blank)) × (c.payload ≡ (get_or (cells_in store.old) at blank).payload) }
+    ensures { Changes (λ limit cs ds a r. StoresRun limit cs ds a at c j r) store.old store.new result }
 {
     if intmap::tag_of(c) != intmap::RECORD {
-        return state::store_cell(map, area, intmap::Class::Registers, j, c, limit);
+        return store.store_cell(intmap::Class::Registers, j, c);
     }
-    cursor_arms::run_behind(map, area, at, None, limit);
-    let to = map.base + limit;
-    area::put_cell(area, to, c);
-    map.store_run(area, intmap::Class::Registers, j, to, limit)
+    let to = store.map.base + store.limit;
+    cursor_arms::run_behind(store, at, None);
+    store.put_cell(to, c);
+    store.store_run(intmap::Class::Registers, j, to)
 }
 
 // The same, at once where both are records of as many columns, of one cell each.
-fn store_from(
-    map: IntMap,
-    area: &mut [u8],
-    at: usize,
-    c: Cell,
-    j: u64,
-    limit: usize,
-) -> Result<IntMap, Refusal>
-    requires { Current limit (cells area.old) map × (map.base ≤ at) × (at + size (cells area.old) levels at ≤ map.base + map.used) × (tag_of c ≡ tag_of (get_or (cells area.old) at blank)) × (c.payload ≡ (get_or (cells area.old) at blank).payload) }
-    ensures { StoresRun limit (cells area.old) (cells area.new) map at c j result }
+fn store_from(store: &mut Store, at: usize, c: Cell, j: u64) -> Result<(), Refusal>
+    requires { IsCurrent store.old × (store.old.map.base ≤ at) × (at + size (cells_in store.old) levels at ≤ store.old.map.base + store.old.map.used) × (tag_of c ≡ tag_of (get_or (cells_in store.old) at blank)) × (c.payload ≡ (get_or (cells_in store.old) at blank).payload) }
+    ensures { Changes (λ limit cs ds a r. StoresRun limit cs ds a at c j r) store.old store.new result }
 {
-    if state::over_register(map, area, at, c, j) {
-        return Ok(map);
+    if store.over_register(at, c, j) {
+        return Ok(());
     }
-    store_behind(map, area, at, c, j, limit)
+    store_behind(store, at, c, j)
 }
 
-// Stores the cell c over register j's own, if neither is a record's. Says whether it was: then the map is as it was, and no call hands it over and
-// back.
-fn store_over(map: IntMap, area: &mut [u8], c: Cell, j: u64) -> bool
-    requires { Held (cells area.old) map }
-    ensures { (result ≡ true → tag_of c ≡ 2 → ⊥) × ((tag_of c ≡ 2 → ⊥) → OverwritesOwn (cells area.old) (cells area.new) map 0 j c result) × (result ≡ false → cells area.new ≡ cells area.old) }
+// Stores the cell c over register j's own, if neither is a record's. Says whether it was.
+fn store_over(store: &mut Store, c: Cell, j: u64) -> bool
+    requires { IsHeld store.old }
+    ensures { (result ≡ true → tag_of c ≡ 2 → ⊥) × Writes (λ cs ds a. ((tag_of c ≡ 2 → ⊥) → OverwritesOwn cs ds a 0 j c result) × (result ≡ false → ds ≡ cs)) store.old store.new }
 {
     if intmap::tag_of(c) == intmap::RECORD {
         return false;
     }
-    state::overwrite_own(map, area, intmap::Class::Registers, j, c)
+    store.overwrite_own(intmap::Class::Registers, j, c)
 }
 
 // Stores an empty record in register j. It has one cell, and where there is room for none, it is refused before it is written.
-fn store_empty(map: IntMap, area: &mut [u8], j: u64, limit: usize) -> Result<IntMap, Refusal>
-    requires { Current limit (cells area.old) map }
-    ensures { Leads limit (cells area.old) (cells area.new) map result (store_register limit (int_of j) (Column (Record end))) }
+fn store_empty(store: &mut Store, j: u64) -> Result<(), Refusal>
+    requires { IsCurrent store.old }
+    ensures { Changes (λ limit cs ds a r. Leads limit cs ds a r (store_register limit (int_of j) (Column (Record end)))) store.old store.new result }
 {
     intmap::judge_index(j)?;
-    if limit == 0 {
+    if store.limit == 0 {
         return Err(Refusal::TooManyCells);
     }
-    let to = map.base + limit;
+    let to = store.map.base + store.limit;
     let head = intmap::RECORD;
-    area::put_cell(area, to, Cell { head, payload: 0 });
-    map.store_run(area, intmap::Class::Registers, j, to, limit)
+    store.put_cell(to, Cell { head, payload: 0 });
+    store.store_run(intmap::Class::Registers, j, to)
 }
 
 // Stores column i of those behind the head at `at` in register j, or the default, if it is absent.
-fn store_column(
-    map: IntMap,
-    area: &mut [u8],
-    at: usize,
-    i: u64,
-    j: u64,
-    limit: usize,
-) -> Result<IntMap, Refusal>
-    requires { Current limit (cells area.old) map × (map.base ≤ at) × (at + size (cells area.old) levels at ≤ map.base + map.used) × (tag_of (get_or (cells area.old) at blank) ≡ 2) }
-    ensures { LeadsWith limit (cells area.old) (cells area.new) map at result (store_column limit (int_of i) (int_of j)) }
+fn store_column(store: &mut Store, at: usize, i: u64, j: u64) -> Result<(), Refusal>
+    requires { IsCurrent store.old × (store.old.map.base ≤ at) × (at + size (cells_in store.old) levels at ≤ store.old.map.base + store.old.map.used) × (tag_of (get_or (cells_in store.old) at blank) ≡ 2) }
+    ensures { Changes (λ limit cs ds a r. LeadsWith limit cs ds a at r (store_column limit (int_of i) (int_of j))) store.old store.new result }
 {
     let k = intmap::judge_index(i)?;
-    let Some(q) = find_column(map, area, at, k)? else {
-        return state::store_single(map, area, j, DataType::Null, None, limit);
+    let Some(q) = find_column(store, at, k)? else {
+        return store.store_single(j, DataType::Null, None);
     };
-    let c = area::cell_at(area, q);
-    if store_over(map, area, c, j) {
-        return Ok(map);
+    let c = store.cell_at(q);
+    if store_over(store, c, j) {
+        return Ok(());
     }
-    store_from(map, area, q, c, j, limit)
+    store_from(store, q, c, j)
 }
 
 // Column: register P3 becomes column P2 of cursor P1. P2 is looked at only where there are columns.
-pub fn column(map: IntMap, area: &mut [u8], x: Row, limit: usize) -> Result<IntMap, Refusal>
-    requires { Current limit (cells area.old) map }
-    ensures { (row : ℕ) → CursorArm limit (cells area.old) (cells area.new) map row x op_column result }
+pub fn column(store: &mut Store, x: Row) -> Result<(), Refusal>
+    requires { IsCurrent store.old }
+    ensures { Changes (λ limit cs ds a r. (row : ℕ) → CursorArm limit cs ds a row x op_column r) store.old store.new result }
 {
-    let Some(at) = cursor_arms::columns_of(map, area, x.p1)? else {
-        return state::store_single(map, area, x.p3, DataType::Null, None, limit);
+    let Some(at) = cursor_arms::columns_of(store, x.p1)? else {
+        return store.store_single(x.p3, DataType::Null, None);
     };
-    store_column(map, area, at, x.p2, x.p3, limit)
+    store_column(store, at, x.p2, x.p3)
 }
 
 // RowData, SorterData: register P2 becomes the record of cursor P1's columns, an empty one, if it has none.
-pub fn row_data(map: IntMap, area: &mut [u8], x: Row, limit: usize) -> Result<IntMap, Refusal>
-    requires { Current limit (cells area.old) map }
-    ensures { (row : ℕ) → CursorArm limit (cells area.old) (cells area.new) map row x op_row_data result }
+pub fn row_data(store: &mut Store, x: Row) -> Result<(), Refusal>
+    requires { IsCurrent store.old }
+    ensures { Changes (λ limit cs ds a r. (row : ℕ) → CursorArm limit cs ds a row x op_row_data r) store.old store.new result }
 {
-    let Some(at) = cursor_arms::columns_of(map, area, x.p1)? else {
-        return store_empty(map, area, x.p2, limit);
+    let Some(at) = cursor_arms::columns_of(store, x.p1)? else {
+        return store_empty(store, x.p2);
     };
-    let c = area::cell_at(area, at);
+    let c = store.cell_at(at);
     let head = intmap::RECORD;
     let payload = c.payload;
-    store_from(map, area, at, Cell { head, payload }, x.p2, limit)
+    store_from(store, at, Cell { head, payload }, x.p2)
 }

@@ -102,6 +102,9 @@ module _ (limit : ℕ) (cs es : List Cell) (a : IntMap) (at n : ℕ) (current : 
 
 -- ---- a record put over another where that stands
 
+pub stores_to : {limit : ℕ} {cs ds : List Cell} {a b c : IntMap} {at j : ℕ} → b ≡ c → StoresFrom limit cs ds a at j (Ok c) → StoresFrom limit cs ds a at j (Ok b)
+stores_to {limit} {cs} {ds} {a} {b} {c} {at} {j} e = subst (λ x. StoresFrom limit cs ds a at j (Ok x)) (sym e)
+
 pub stores-over : (limit : ℕ) (cs ds : List Cell) (a : IntMap) (at j : ℕ) (c : Cell) (r : Bool) → HasRoom cs limit a → c ≡ get_or cs at blank → OverRegister cs ds a at c j r → r ≡ true → StoresFrom limit cs ds a at j (Ok a)
 stores-over limit cs ds a at j c r room ce over e =
     record {

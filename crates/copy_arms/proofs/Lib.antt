@@ -3,3 +3,4 @@ pub mod GapLaws
 pub mod PlaceLaws
 pub mod CellLaws
 pub mod TurnLaws
+pub mod StoreLaws

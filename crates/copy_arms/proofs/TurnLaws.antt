@@ -128,6 +128,9 @@ run_of {cs} {ds} {a} {moves} {n} {r} i k x ij xe j l y jj ye c =
 
 -- ---- the loop over all: d of n turns are done
 
+pub leads_to : {limit : ℕ} {cs ds : List Cell} {a b c : IntMap} {f : MemoryState → Tried MemoryState} → b ≡ c → Leads limit cs ds a (Ok c) f → Leads limit cs ds a (Ok b) f
+leads_to {limit} {cs} {ds} {a} {b} {c} {f} e = subst (λ x. Leads limit cs ds a (Ok x) f) (sym e)
+
 module _ (limit : ℕ) (moves : Bool) (n i j : ℕ) where
   -- what is still to come
   abbrev pub rest : ℕ → MemoryState → Tried MemoryState

@@ -9,8 +9,9 @@ ghost use Rattle.area.specs.Cells.{cells};
 ghost use Rattle.intmap.specs.Map.{levels, IsMap};
 ghost use Rattle.intmap.specs.Runs.{size};
 ghost use Rattle.intmap.specs.Signed.{offset, int_of};
-ghost use Rattle.state.specs.Leads.{Held, Current, Leads};
+ghost use Rattle.state.specs.Leads.{Leads};
 ghost use Rattle.state.specs.Arms.{RegisterArm};
+ghost use Rattle.state.specs.Stores.{cells_in, IsHeld, IsCurrent, Changes, Writes};
 ghost use Rattle.copy_arms.specs.Copies.{StoresFrom, carry_one, carry_many};
 ghost use Rattle.copy_arms.specs.Gaps.{Next, Gap};
 ghost use Rattle.copy_arms.specs.InPlace.{Alone, FoundAt, Leading, CarriesCell, CarriesRun};
@@ -18,103 +19,79 @@ ghost use Rattle.copy_arms.specs.InPlace.{Alone, FoundAt, Leading, CarriesCell, 
 use intmap::IntMap;
 use refusal::Refusal;
 use rows::Row;
+use state::Store;
 use type_info::DataType;
 
 // Stores the entry at `at` of the map in register j too. A cell alone is stored as it is. A store may move a longer run, so that goes to the room
 // behind the map first.
-fn store_behind(
-    map: IntMap,
-    area: &mut [u8],
-    at: usize,
-    j: u64,
-    limit: usize,
-) -> Result<IntMap, Refusal>
-    requires { Current limit (cells area.old) map × (map.base ≤ at) × (at + size (cells area.old) levels at ≤ map.base + map.used) }
-    ensures { StoresFrom limit (cells area.old) (cells area.new) map at j result }
+fn store_behind(store: &mut Store, at: usize, j: u64) -> Result<(), Refusal>
+    requires { IsCurrent store.old × (store.old.map.base ≤ at) × (at + size (cells_in store.old) levels at ≤ store.old.map.base + store.old.map.used) }
+    ensures { Changes (λ limit cs ds a r. StoresFrom limit cs ds a at j r) store.old store.new result }
 {
-    let c = area::cell_at(area, at);
+    let c = store.cell_at(at);
     if intmap::tag_of(c) != intmap::RECORD {
-        return state::store_cell(map, area, intmap::Class::Registers, j, c, limit);
+        return store.store_cell(intmap::Class::Registers, j, c);
     }
-    let to = map.base + limit;
-    let n = intmap::count(area, at, intmap::LEVELS);
-    area::move_cells(area, at, to, n);
-    map.store_run(area, intmap::Class::Registers, j, to, limit)
+    let to = store.map.base + store.limit;
+    let n = store.count(at);
+    store.move_cells(at, to, n);
+    store.store_run(intmap::Class::Registers, j, to)
 }
 
 // The same, at once where both are records of as many columns, of one cell each.
-fn store_from(
-    map: IntMap,
-    area: &mut [u8],
-    at: usize,
-    j: u64,
-    limit: usize,
-) -> Result<IntMap, Refusal>
-    requires { Current limit (cells area.old) map × (map.base ≤ at) × (at + size (cells area.old) levels at ≤ map.base + map.used) }
-    ensures { StoresFrom limit (cells area.old) (cells area.new) map at j result }
+fn store_from(store: &mut Store, at: usize, j: u64) -> Result<(), Refusal>
+    requires { IsCurrent store.old × (store.old.map.base ≤ at) × (at + size (cells_in store.old) levels at ≤ store.old.map.base + store.old.map.used) }
+    ensures { Changes (λ limit cs ds a r. StoresFrom limit cs ds a at j r) store.old store.new result }
 {
-    let c = area::cell_at(area, at);
-    if state::over_register(map, area, at, c, j) {
-        return Ok(map);
+    let c = store.cell_at(at);
+    if store.over_register(at, c, j) {
+        return Ok(());
     }
-    store_behind(map, area, at, j, limit)
+    store_behind(store, at, j)
 }
 
 // Stores what register i holds, if there is something, in register j; then null in register i, if it moves.
-fn carry_register(
-    map: IntMap,
-    area: &mut [u8],
-    i: u64,
-    j: u64,
-    moves: bool,
-    limit: usize,
-) -> Result<IntMap, Refusal>
-    requires { Current limit (cells area.old) map }
-    ensures { Leads limit (cells area.old) (cells area.new) map result (carry_one limit moves (int_of i) (int_of j)) }
+fn carry_register(store: &mut Store, i: u64, j: u64, moves: bool) -> Result<(), Refusal>
+    requires { IsCurrent store.old }
+    ensures { Changes (λ limit cs ds a r. Leads limit cs ds a r (carry_one limit moves (int_of i) (int_of j))) store.old store.new result }
 {
-    let Some(at) = state::get(map, area, intmap::Class::Registers, i)? else {
-        return Ok(map);
+    let Some(at) = store.get(intmap::Class::Registers, i)? else {
+        return Ok(());
     };
-    let b = store_from(map, area, at, j, limit)?;
+    store_from(store, at, j)?;
     if !moves {
-        return Ok(b);
+        return Ok(());
     }
-    state::store_single(b, area, i, DataType::Null, Some(true), limit)
+    store.store_single(i, DataType::Null, Some(true))
 }
 
 // Stores what register i holds, if there is something, in register j.
-pub fn copy_register(
-    map: IntMap,
-    area: &mut [u8],
-    i: u64,
-    j: u64,
-    limit: usize,
-) -> Result<IntMap, Refusal>
-    requires { Current limit (cells area.old) map }
-    ensures { Leads limit (cells area.old) (cells area.new) map result (copy_to limit (int_of i) (int_of j) (λ v. v)) }
+pub fn copy_register(store: &mut Store, i: u64, j: u64) -> Result<(), Refusal>
+    requires { IsCurrent store.old }
+    ensures { Changes (λ limit cs ds a r. Leads limit cs ds a r (copy_to limit (int_of i) (int_of j) (λ v. v))) store.old store.new result }
 {
-    carry_register(map, area, i, j, false, limit)
+    carry_register(store, i, j, false)
 }
 
 // SCopy, IntCopy, Not: r[P2] = r[P1].
-pub fn scopy(map: IntMap, area: &mut [u8], x: Row, limit: usize) -> Result<IntMap, Refusal>
-    requires { Current limit (cells area.old) map }
-    ensures { RegisterArm limit (cells area.old) (cells area.new) map x op_copy_one result }
+pub fn scopy(store: &mut Store, x: Row) -> Result<(), Refusal>
+    requires { IsCurrent store.old }
+    ensures { Changes (λ limit cs ds a r. RegisterArm limit cs ds a x op_copy_one r) store.old store.new result }
 {
-    copy_register(map, area, x.p1, x.p2, limit)
+    copy_register(store, x.p1, x.p2)
 }
 
 // The first register from k on that the map has, or 65,536 if it has none: then all from k on are absent, and no Option says that better. The keys
 // of registers are those from 65,536 on and below 131,072.
-fn next_register(map: IntMap, area: &[u8], k: u64) -> u64
-    requires { IsMap (cells area.now) map × (k ≤ 65535) }
-    ensures { Next (cells area.now) map k result }
+fn next_register(store: &Store, k: u64) -> u64
+    requires { IsMap (cells_in store.now) store.now.map × (k ≤ 65535) }
+    ensures { Next (cells_in store.now) store.now.map k result }
 {
-    let found = map.find(area, intmap::class_key(intmap::Class::Registers, k));
+    let found = store.find(intmap::class_key(intmap::Class::Registers, k));
     if found.left == 0 {
         return 65536;
     }
-    let key = intmap::key_of(area::cell_at(area, found.at));
+    let key = intmap::key_of(store.cell_at(found.at));
     if 131071 < key {
         return 65536;
     }
@@ -122,9 +99,9 @@ fn next_register(map: IntMap, area: &[u8], k: u64) -> u64
 }
 
 // How many of n registers from i on are absent before the first that is present or whose read is refused.
-fn absent(map: IntMap, area: &[u8], i: u64, n: u64) -> u64
-    requires { IsMap (cells area.now) map }
-    ensures { Gap (cells area.now) map i n result }
+fn absent(store: &Store, i: u64, n: u64) -> u64
+    requires { IsMap (cells_in store.now) store.now.map }
+    ensures { Gap (cells_in store.now) store.now.map i n result }
 {
     if n == 0 {
         return 0;
@@ -132,7 +109,7 @@ fn absent(map: IntMap, area: &[u8], i: u64, n: u64) -> u64
     let Ok(k) = intmap::judge_index(i) else {
         return 0;
     };
-    n.min(next_register(map, area, k) - k)
+    n.min(next_register(store, k) - k)
 }
 
 // Whether the cell at `at` is register k, and no record.
@@ -176,7 +153,7 @@ fn carry_cell(map: IntMap, area: &mut [u8], p: usize, q: usize, k: u64, l: u64, 
 }
 
 // Carries registers from k on, which begin at p, to those from l on, which begin at q, as long as each is one cell where the one before it ends, and
-// at most n. Gives how many.
+// at most n. Gives how many. Over the words of the map, since it is slower where each turn reads them of the store.
 fn carry_cells(
     map: IntMap,
     area: &mut [u8],
@@ -206,9 +183,9 @@ fn carry_cells(
 
 // Carries registers from i on to those from j on where they stand, as long as each is there and one cell, and at most n. Gives how many. The two
 // searches are all, however many it carries. `i`, `j` and `n` are other ones at each turn, so that a struct of them is no plainer.
-fn carry_run(map: IntMap, area: &mut [u8], i: u64, j: u64, n: u64, moves: bool) -> u64
-    requires { Held (cells area.old) map }
-    ensures { CarriesRun (cells area.old) (cells area.new) map moves i j n result }
+fn carry_run(store: &mut Store, i: u64, j: u64, n: u64, moves: bool) -> u64
+    requires { IsHeld store.old }
+    ensures { Writes (λ cs ds a. CarriesRun cs ds a moves i j n result) store.old store.new }
 {
     let Ok(k) = intmap::judge_index(i) else {
         return 0;
@@ -216,58 +193,49 @@ fn carry_run(map: IntMap, area: &mut [u8], i: u64, j: u64, n: u64, moves: bool) 
     let Ok(l) = intmap::judge_index(j) else {
         return 0;
     };
-    let Some(q) = state::entry_at(map, area, intmap::Class::Registers, l) else {
+    let Some(q) = store.entry_at(intmap::Class::Registers, l) else {
         return 0;
     };
-    let Some(p) = state::entry_at(map, area, intmap::Class::Registers, k) else {
+    let Some(p) = store.entry_at(intmap::Class::Registers, k) else {
         return 0;
     };
-    carry_cells(map, area, p, q, k, l, n, moves)
+    carry_cells(store.map, store.area, p, q, k, l, n, moves)
 }
 
 // Carries n registers from i on to those from j on, in their order: in a turn those that can be where they stand, and one by a store. Then it goes on
 // to the next that is present, and that one stays present, or to the first index above 65,535, which is refused: the turns are at most two more
 // than the entries that the limit allows.
-fn carry_many(
-    map: IntMap,
-    area: &mut [u8],
-    i: u64,
-    j: u64,
-    n: u64,
-    moves: bool,
-    limit: usize,
-) -> Result<IntMap, Refusal>
-    requires { Current limit (cells area.old) map × (i + n < 18446744073709551616) × (j + n < 18446744073709551616) }
-    ensures { Leads limit (cells area.old) (cells area.new) map result (carry_many limit moves n (int_of i) (int_of j)) }
+fn carry_many(store: &mut Store, i: u64, j: u64, n: u64, moves: bool) -> Result<(), Refusal>
+    requires { IsCurrent store.old × (i + n < 18446744073709551616) × (j + n < 18446744073709551616) }
+    ensures { Changes (λ limit cs ds a r. Leads limit cs ds a r (carry_many limit moves n (int_of i) (int_of j))) store.old store.new result }
 {
-    let mut m = map;
     let mut done = 0;
     // Not a range: a turn carries as many as it can.
     while done < n {
-        done += carry_run(m, area, i + done, j + done, n - done, moves);
+        done += carry_run(store, i + done, j + done, n - done, moves);
         if done == n {
-            return Ok(m);
+            return Ok(());
         }
-        m = carry_register(m, area, i + done, j + done, moves, limit)?;
-        done += 1 + absent(m, area, i + done + 1, n - done - 1);
+        carry_register(store, i + done, j + done, moves)?;
+        done += 1 + absent(store, i + done + 1, n - done - 1);
     }
-    Ok(m)
+    Ok(())
 }
 
 // Copy: P3 + 1 registers from P1 on to those from P2 on, none if P3 is negative.
-pub fn copy(map: IntMap, area: &mut [u8], x: Row, limit: usize) -> Result<IntMap, Refusal>
-    requires { Current limit (cells area.old) map }
-    ensures { RegisterArm limit (cells area.old) (cells area.new) map x op_copy result }
+pub fn copy(store: &mut Store, x: Row) -> Result<(), Refusal>
+    requires { IsCurrent store.old }
+    ensures { Changes (λ limit cs ds a r. RegisterArm limit cs ds a x op_copy r) store.old store.new result }
 {
     let n = (x.p3 + 1).saturating_sub(intmap::ZERO);
-    carry_many(map, area, x.p1, x.p2, n, false, limit)
+    carry_many(store, x.p1, x.p2, n, false)
 }
 
 // Move: P3 registers from P1 on to those from P2 on, none if P3 is negative.
-pub fn move_(map: IntMap, area: &mut [u8], x: Row, limit: usize) -> Result<IntMap, Refusal>
-    requires { Current limit (cells area.old) map }
-    ensures { RegisterArm limit (cells area.old) (cells area.new) map x op_move result }
+pub fn move_(store: &mut Store, x: Row) -> Result<(), Refusal>
+    requires { IsCurrent store.old }
+    ensures { Changes (λ limit cs ds a r. RegisterArm limit cs ds a x op_move r) store.old store.new result }
 {
     let n = x.p3.saturating_sub(intmap::ZERO);
-    carry_many(map, area, x.p1, x.p2, n, true, limit)
+    carry_many(store, x.p1, x.p2, n, true)
 }

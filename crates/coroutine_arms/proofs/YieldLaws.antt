@@ -137,7 +137,7 @@ module _ (cs : List Cell) (from n w : ℕ) where
           go : (o : Option Listed) → slice_get rows (w - offset) ≡ o → option_map int_of (found t x.p2) ≡ yield_target (row_at rows (int_of w))
           go None q = absurd (within-some rows (w - offset) (omega (arith, len)) q)
           go (Some l) q =
-              let j : Judged l x = subst (JudgedParts l) (sym is) (have (w - offset) l q) in
+              let j : Judged l x = subst (JudgedParts l) (sym is) (have (w - offset) l q).judged in
               sym (ap yield_target (row_above w rows above ∙ q) ∙ ap (λ b. target_if b l) (yield_named_only l x j ∙ e) ∙ goes t l j)
 
       pub target_yield : x.op ≡ Yield → Targets cs from n w (Some x.p2)

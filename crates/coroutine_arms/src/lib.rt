@@ -3,20 +3,20 @@
 #![tactic(auto)]
 
 ghost use Rattle.model.specs.Operation.{op_end_coroutine, op_yield};
-ghost use Rattle.area.specs.Cells.{cells};
 ghost use Rattle.rows.specs.Judged.{SomeRows};
-ghost use Rattle.jump_arms.specs.Arms.{Ready};
+ghost use Rattle.state.specs.Stores.{cells_in, SameStore};
+ghost use Rattle.jump_arms.specs.Arms.{ReadyStore, at};
 ghost use Rattle.coroutine_arms.specs.Arms.{RowsInside, Targets, Follows, RowsArm};
 
 use opcode::Operation;
 use refusal::Refusal;
 use rows::Row;
-use state::{MemoryState, Ways};
+use state::{Store, Ways};
 
 // Where the Yield row goes that the word w names. A word below the first row's or past the last's names no row.
-fn yield_target(area: &[u8], from: usize, n: usize, w: u64) -> Option<u64>
-    requires { RowsInside (cells area.now) from n }
-    ensures { Targets (cells area.now) from n w result }
+fn yield_target(store: &Store, from: usize, n: usize, w: u64) -> Option<u64>
+    requires { RowsInside (cells_in store.now) from n }
+    ensures { Targets (cells_in store.now) from n w result }
 {
     if w < intmap::ZERO {
         return None;
@@ -25,7 +25,7 @@ fn yield_target(area: &[u8], from: usize, n: usize, w: u64) -> Option<u64>
     if n <= k {
         return None;
     }
-    let x = rows::row_at(area, from, k);
+    let x = rows::row_at(store.area, from, k);
     match x.op {
         Operation::Yield => Some(x.p2),
         _ => None,
@@ -34,60 +34,52 @@ fn yield_target(area: &[u8], from: usize, n: usize, w: u64) -> Option<u64>
 
 // EndCoroutine
 pub fn end_coroutine(
-    s: MemoryState,
-    area: &mut [u8],
+    store: &mut Store,
+    row: u64,
     x: Row,
     from: usize,
     n: usize,
-    limit: usize,
 ) -> Result<Ways, Refusal>
-    requires { Ready limit (cells area.old) s × SomeRows (cells area.old) from n }
-    ensures { RowsArm limit (cells area.old) (cells area.new) s x from n op_end_coroutine result }
+    requires { ReadyStore store.old row × SomeRows (cells_in store.old) from n }
+    ensures { SameStore store.old store.new × RowsArm store.old.limit (cells_in store.old) (cells_in store.new) (at row store.old.map) x from n op_end_coroutine result }
 {
-    let map = s.map;
     let none = Ways {
         branch: None,
         stays: None,
     };
-    let Some(w) = jump_arms::known_int(map, area, x.p1)? else {
+    let Some(w) = jump_arms::known_int(store, x.p1)? else {
         return Ok(none);
     };
-    let Some(row) = yield_target(area, from, n, w) else {
+    let Some(target) = yield_target(store, from, n, w) else {
         return Ok(none);
     };
-    jump_arms::go_on(jump_arms::remove_register(map, area, x.p1, limit), row)
+    jump_arms::remove_register(store, x.p1)?;
+    Ok(jump_arms::go_on(store, target))
 }
 
 // Where a Yield goes whose register says w: to that row, or past it if it is a Yield too.
-fn row_after_yield(area: &[u8], from: usize, n: usize, w: u64) -> u64
-    requires { RowsInside (cells area.now) from n }
-    ensures { Follows (cells area.now) from n w result }
+fn row_after_yield(store: &Store, from: usize, n: usize, w: u64) -> u64
+    requires { RowsInside (cells_in store.now) from n }
+    ensures { Follows (cells_in store.now) from n w result }
 {
-    match yield_target(area, from, n, w) {
+    match yield_target(store, from, n, w) {
         None => w,
         Some(_) => jump_arms::row_after(w),
     }
 }
 
 // Yield. The store refuses nothing that the read did not, since the register has a number already.
-pub fn yield_(
-    s: MemoryState,
-    area: &mut [u8],
-    x: Row,
-    from: usize,
-    n: usize,
-    limit: usize,
-) -> Result<Ways, Refusal>
-    requires { Ready limit (cells area.old) s × SomeRows (cells area.old) from n }
-    ensures { RowsArm limit (cells area.old) (cells area.new) s x from n op_yield result }
+pub fn yield_(store: &mut Store, row: u64, x: Row, from: usize, n: usize) -> Result<Ways, Refusal>
+    requires { ReadyStore store.old row × SomeRows (cells_in store.old) from n }
+    ensures { SameStore store.old store.new × RowsArm store.old.limit (cells_in store.old) (cells_in store.new) (at row store.old.map) x from n op_yield result }
 {
-    let map = s.map;
-    let Some(w) = jump_arms::known_int(map, area, x.p1)? else {
+    let Some(w) = jump_arms::known_int(store, x.p1)? else {
         return Ok(Ways {
             branch: None,
             stays: None,
         });
     };
-    let row = row_after_yield(area, from, n, w);
-    jump_arms::go_on(state::store_int(map, area, x.p1, s.row, limit), row)
+    let to = row_after_yield(store, from, n, w);
+    store.store_int(x.p1, row)?;
+    Ok(jump_arms::go_on(store, to))
 }

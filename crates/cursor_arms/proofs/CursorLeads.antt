@@ -14,7 +14,6 @@ use Rattle.model.specs.CursorArms.{cursor_arm}
 use Rattle.area.specs.Cells.{cell}
 use Rattle.area.specs.declared.Cell.{Cell}
 use Rattle.intmap.specs.Map.{runs_at}
-use Rattle.intmap.specs.Pack.{tag_of}
 use Rattle.intmap.specs.Signed.{int_of}
 use Rattle.intmap.specs.Store.{store_runs, stored_of, Stores, Stored}
 use Rattle.intmap.specs.declared.IntMap.{IntMap}
@@ -26,9 +25,6 @@ use Rattle.rows.specs.declared.row.Row.{Row}
 use Rattle.encoding.proofs.HeldAfter.{held_cursor}
 use Rattle.state.specs.Leads.{HoldsMap, Tells, operands, Leads}
 use Rattle.state.specs.Arms.{CursorArm}
-use Rattle.cursor_arms.specs.Cursors.{cell_of}
-use Rattle.cursor_arms.specs.declared.CursorDataType.{CursorDataType}
-use Rattle.cursor_arms.specs.declared.CursorDataType.TheVariants as cursor
 use Rattle.state.proofs.StoreLeads.{wider}
 
 -- t is what storing v gives, and v may be stored
@@ -83,10 +79,6 @@ module _ (limit : ℕ) (cs ds : List Cell) (a : IntMap) (i : ℕ) (r : Stored) w
       (λ bound m le x. record { good = tt; small = small_int bound w (omega (arith, o.above)) (omega (arith, o.below)); same = refl }) r st
 
 -- the cell of a cursor is no record's
-pub cell_plain : (p : CursorDataType) (c : Cell) → c ≡ cell_of p → tag_of c ≡ 2 → ⊥
-cell_plain (cursor.Normal k) c ce e = omega (arith, ap (λ (y : Cell). y.head) ce, e)
-cell_plain (cursor.Pseudo w) c ce e = omega (arith, ap (λ (y : Cell). y.head) ce, e)
-
 -- OpenPseudo
 module _ (limit : ℕ) (cs ds : List Cell) (a : IntMap) (x : Row) (r : Stored) where
   pub pseudo_arm : Leads limit cs ds a r (store_cursor limit (int_of x.p1) (Pseudo (int_of x.p2))) → (row : ℕ) → CursorArm limit cs ds a row x op_open_pseudo r

@@ -33,30 +33,31 @@ module _ (row : ℕ) (x : Row) (meaning : Meaning) (l : Listed) (j : Judged l x)
   unfolding cursor_arm
   delete_is o e = ap (λ u. u >>= λ c. done (update_cursor_table after_delete c m)) (ap (λ i. read_cursor i m) (sym j.p1) ∙ e)
 
-module _ (cs : List Cell) (a : IntMap) (x : Row) (r : Reading) (reads : ReadsCursor cs a x.p1 r) where
+module _ (limit : ℕ) (cs : List Cell) (a : IntMap) (x : Row) (r : Reading) (reads : ReadsCursor cs a x.p1 r) where
   as_read : (q : Reading) → r ≡ q → ReadsCursor cs a x.p1 q
   as_read q e = subst (ReadsCursor cs a x.p1) e reads
 
-  pub delete_bad : (n : Refusal) → r ≡ Err n → (limit row : ℕ) → Current limit cs a → CursorArm limit cs cs a row x op_delete (Err n)
-  delete_bad n e limit row current =
+  pub delete_bad : (n : Refusal) → r ≡ Err n → (row : ℕ) → CursorArm limit cs cs a row x op_delete (Err n)
+  delete_bad n e row =
       record {
         says = λ meaning l st j bound m le h. delete_is row x meaning l j m (refused (number_of n)) ((as_read (Err n) e).says limit bound m h);
         leaves = tt;
         frame = unchanged cs _ _;
       }
 
-  pub delete_absent : r ≡ Ok None → (limit row : ℕ) → Current limit cs a → CursorArm limit cs cs a row x op_delete (Ok a)
+  pub delete_absent : Current limit cs a → r ≡ Ok None → (row : ℕ) → CursorArm limit cs cs a row x op_delete (Ok a)
   unfolding update_cursor_table
-  delete_absent e limit row current =
+  delete_absent current e row =
       record {
         says = λ meaning l st j bound m le h. record { state = m; answer = delete_is row x meaning l j m (done None) ((as_read (Ok None) e).says limit bound m h); holds = h };
         leaves = record { base = refl; room = current.room };
         frame = unchanged cs _ _;
       }
 
-  pub delete_changed : (c : CursorDataType) → r ≡ Ok (Some c) → (ds : List Cell) → CursorTableChanged after_delete cs ds a c → (limit row : ℕ) → Current limit cs a → CursorArm limit cs ds a row x op_delete (Ok a)
-  delete_changed c e ds change limit row current =
-      record {
+  pub delete_changed : (c : CursorDataType) → r ≡ Ok (Some c) → (ds : List Cell) (b : IntMap) → b ≡ a → CursorTableChanged after_delete cs ds a c → Current limit cs a → (row : ℕ) → CursorArm limit cs ds a row x op_delete (Ok b)
+  delete_changed c e ds b same change current row =
+      subst (λ y. CursorArm limit cs ds a row x op_delete (Ok y)) (sym same)
+      (record {
         says = λ meaning l st j bound m le h.
             (let told = told_some bound c (read_cursor (int_of x.p1) m) ((as_read (Ok (Some c)) e).says limit bound m h) in
             record {
@@ -66,4 +67,4 @@ module _ (cs : List Cell) (a : IntMap) (x : Row) (r : Reading) (reads : ReadsCur
             });
         leaves = record { base = refl; room = change.room limit current.room };
         frame = record { long = change.frame.long; below = change.frame.below; above = λ j le. change.frame.above j (omega (arith, current.room.most)) };
-      }
+      })

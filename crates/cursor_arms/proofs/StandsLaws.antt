@@ -1,5 +1,4 @@
 -- What a cursor stands for, by the entry that the search finds. Assumes nothing.
-use Rattle.refusal.specs.declared.Refusal.{Refusal}
 use mathlib.Core.Path.{◌≡◌, refl, sym, ap, subst, ◌∙◌}
 use mathlib.Core.Bool.{Bool, true, false}
 use Rattle.std.specs.Prelude.{Option, None, Some, Ok, Err}
@@ -49,7 +48,7 @@ use Rattle.encoding.proofs.Standing.{stands_head, stands_rest}
 use Rattle.state.specs.Leads.{HoldsMap, Held}
 use Rattle.state.specs.Own.{entry_slot, is_flat, index_slot, place_of}
 use Rattle.state.proofs.OwnLaws.{case, entry_led, flat_told}
-use Rattle.cursor_arms.specs.Cursors.{Reading, TellsReading, ReadsCursor}
+use Rattle.cursor_arms.specs.Cursors.{Reading, TellsReading}
 use Rattle.cursor_arms.specs.StandsFor.{head_slot, table_slot, columns_slot, empty_in, emptiness_in, SlotWithin, cursor_table, IsTable, TellsTable, HasColumns, TellsColumns, emptiness_of, FindsTable, FindsColumns, FindsReading, FindsCursor, TellsEmpty}
 use Rattle.cursor_arms.specs.declared.CursorDataType.{CursorDataType}
 use Rattle.cursor_arms.specs.declared.CursorDataType.TheVariants as cursor
@@ -309,16 +308,6 @@ module _ (cs : List Cell) (a : IntMap) (is : IsMap cs a) (p : ℕ) where
       go (Ok (Some c)) is = columns_led c r is e
 
 -- ---- what is found of a cursor by its number
-
-module _ (cs : List Cell) (a : IntMap) (i : ℕ) (q : Reading) (reads : ReadsCursor cs a i q) where
-  pub found_bad : (n : Refusal) → q ≡ Err n → FindsCursor cs a i (Err n)
-  found_bad n e = record { reading = Err n; reads = subst (ReadsCursor cs a i) e reads; finds = refl }
-
-  pub found_none : q ≡ Ok None → FindsCursor cs a i (Ok None)
-  found_none e = record { reading = Ok None; reads = subst (ReadsCursor cs a i) e reads; finds = refl }
-
-  pub found_columns : (c : CursorDataType) → q ≡ Ok (Some c) → (r : Slot) → FindsColumns cs a c r → FindsCursor cs a i r
-  found_columns c e r finds = record { reading = Ok (Some c); reads = subst (ReadsCursor cs a i) e reads; finds = finds }
 
 module _ {limit bound : ℕ} {cs : List Cell} {a : IntMap} {m : MemoryState} (h : HoldsMap limit bound cs a m) (i : ℕ) (r : Slot) (found : FindsCursor cs a i r) where
   pub cursor_tells : TellsColumns cs a r (read_cursor (int_of i) m >>= λ o. cursor_columns o m)

@@ -9,7 +9,6 @@ ghost use Rattle.model.specs.Access.{store_cursor};
 ghost use Rattle.model.specs.Cursor.{set_empty};
 ghost use Rattle.model.specs.CursorArms.{empty_after_delete, after_delete};
 ghost use Rattle.model.specs.Operation.{op_open_pseudo, op_open_dup, op_delete};
-ghost use Rattle.area.specs.Cells.{cells};
 ghost use Rattle.intmap.specs.Pack.{with_nullable};
 ghost use Rattle.intmap.specs.Map.{levels};
 ghost use Rattle.intmap.specs.Runs.{size};
@@ -17,16 +16,17 @@ ghost use Rattle.intmap.specs.Signed.{int_of};
 ghost use Rattle.encoding.specs.Encode.{nullable_code};
 ghost use Rattle.encoding.specs.Decode.{nullable_in};
 ghost use Rattle.rows.specs.Parts.{Operand};
-ghost use Rattle.state.specs.Leads.{Held, Current, SomeCurrent, Leads};
+ghost use Rattle.state.specs.Leads.{Current, SomeCurrent, Leads};
 ghost use Rattle.state.specs.Arms.{CursorArm};
+ghost use Rattle.state.specs.Stores.{cells_in, IsHeld, IsCurrent, Changes, Writes};
 ghost use Rattle.cursor_arms.specs.Cursors.{cursor_in, cell_of, RowWithin, ReadsCursor};
 ghost use Rattle.cursor_arms.specs.Behind.{RunBehind};
 ghost use Rattle.cursor_arms.specs.StandsFor.{head_slot, empty_in, SlotWithin, FindsTable, FindsColumns, FindsCursor, TellsEmpty, CursorTableChanged};
 
 use area::Cell;
-use intmap::IntMap;
 use refusal::Refusal;
 use rows::Row;
+use state::Store;
 
 // What a cursor is. One on a table is told by the row that opened it, a pseudo cursor by its register's word.
 #[derive(Clone, Copy)]
@@ -46,36 +46,36 @@ fn cursor_in(c: Cell) -> CursorDataType
 }
 
 // Reads cursor i, if it is there.
-pub fn read_cursor(map: IntMap, area: &[u8], i: u64) -> Result<Option<CursorDataType>, Refusal>
-    requires { Held (cells area.now) map }
-    ensures { ReadsCursor (cells area.now) map i result }
+pub fn read_cursor(store: &Store, i: u64) -> Result<Option<CursorDataType>, Refusal>
+    requires { IsHeld store.now }
+    ensures { ReadsCursor (cells_in store.now) store.now.map i result }
 {
-    match state::get(map, area, intmap::Class::Cursors, i)? {
+    match store.get(intmap::Class::Cursors, i)? {
         None => Ok(None),
-        Some(at) => Ok(Some(cursor_in(area::cell_at(area, at)))),
+        Some(at) => Ok(Some(cursor_in(store.cell_at(at)))),
     }
 }
 
 // A place, if a record's or table's head is there. A table's always is in a state, and asking makes it one in any cells.
-fn head_at(area: &[u8], x: Option<usize>) -> Option<usize>
-    requires { SlotWithin (cells area.now) x × (length (cells area.now) ≤ 1048576) }
-    ensures { result ≡ head_slot (cells area.now) x }
+fn head_at(store: &Store, x: Option<usize>) -> Option<usize>
+    requires { SlotWithin (cells_in store.now) x × (length (cells_in store.now) ≤ 1048576) }
+    ensures { result ≡ head_slot (cells_in store.now) x }
 {
     let at = x?;
-    if intmap::tag_of(area::cell_at(area, at)) == intmap::RECORD {
+    if intmap::tag_of(store.cell_at(at)) == intmap::RECORD {
         return Some(at);
     }
     None
 }
 
 // The emptiness that the table's head at a place says. Where there is no table, the cursor is empty.
-fn empty_at(area: &[u8], x: Option<usize>) -> Option<bool>
-    requires { SlotWithin (cells area.now) x × (length (cells area.now) ≤ 1048576) }
-    ensures { result ≡ empty_in (cells area.now) x }
+fn empty_at(store: &Store, x: Option<usize>) -> Option<bool>
+    requires { SlotWithin (cells_in store.now) x × (length (cells_in store.now) ≤ 1048576) }
+    ensures { result ≡ empty_in (cells_in store.now) x }
 {
     match x {
         None => Some(true),
-        Some(at) => state::nullable_in(area::cell_at(area, at)),
+        Some(at) => state::nullable_in(store.cell_at(at)),
     }
 }
 
@@ -108,159 +108,140 @@ impl CursorDataType {
     }
 
     // Where the head of its table is, if it has one.
-    pub fn table(self, map: IntMap, area: &[u8]) -> Option<usize>
-        requires { Held (cells area.now) map × RowWithin self }
-        ensures { FindsTable (cells area.now) map self result }
+    pub fn table(self, store: &Store) -> Option<usize>
+        requires { IsHeld store.now × RowWithin self }
+        ensures { FindsTable (cells_in store.now) store.now.map self result }
     {
         match self {
-            CursorDataType::Normal(row) => state::entry_at(map, area, intmap::Class::Tables, row),
+            CursorDataType::Normal(row) => store.entry_at(intmap::Class::Tables, row),
             CursorDataType::Pseudo(_) => None,
         }
     }
 
     // Where the head of its columns is, a table's or that of a register's record, if it has columns.
-    pub fn columns(self, map: IntMap, area: &[u8]) -> Result<Option<usize>, Refusal>
-        requires { Held (cells area.now) map × RowWithin self }
-        ensures { FindsColumns (cells area.now) map self result }
+    pub fn columns(self, store: &Store) -> Result<Option<usize>, Refusal>
+        requires { IsHeld store.now × RowWithin self }
+        ensures { FindsColumns (cells_in store.now) store.now.map self result }
     {
         match self {
             CursorDataType::Normal(row) => {
-                Ok(head_at(area, state::entry_at(map, area, intmap::Class::Tables, row)))
+                Ok(head_at(store, store.entry_at(intmap::Class::Tables, row)))
             }
             CursorDataType::Pseudo(i) => {
-                let at = state::get(map, area, intmap::Class::Registers, i)?;
-                Ok(head_at(area, at))
+                let at = store.get(intmap::Class::Registers, i)?;
+                Ok(head_at(store, at))
             }
         }
     }
 
     // Whether it is empty, if that is known. Pseudo cursors have exactly one row.
-    pub fn is_empty(self, map: IntMap, area: &[u8]) -> Option<bool>
-        requires { Held (cells area.now) map × RowWithin self }
-        ensures { TellsEmpty (cells area.now) map self result }
+    pub fn is_empty(self, store: &Store) -> Option<bool>
+        requires { IsHeld store.now × RowWithin self }
+        ensures { TellsEmpty (cells_in store.now) store.now.map self result }
     {
         match self {
-            CursorDataType::Normal(row) => empty_at(
-                area,
-                state::entry_at(map, area, intmap::Class::Tables, row),
-            ),
+            CursorDataType::Normal(row) => {
+                empty_at(store, store.entry_at(intmap::Class::Tables, row))
+            }
             CursorDataType::Pseudo(_) => Some(false),
         }
     }
 
     // Sets whether its table is empty, if it has one. `delete` looks alike: one function for both would take a closure, and be no shorter.
-    pub fn set_empty(self, map: IntMap, area: &mut [u8], empty: Option<bool>)
-        requires { Held (cells area.old) map × RowWithin self }
-        ensures { CursorTableChanged (set_empty empty) (cells area.old) (cells area.new) map self }
+    pub fn set_empty(self, store: &mut Store, empty: Option<bool>)
+        requires { IsHeld store.old × RowWithin self }
+        ensures { Writes (λ cs ds a. CursorTableChanged (set_empty empty) cs ds a self) store.old store.new }
     {
-        let Some(at) = self.table(map, area) else {
+        let Some(at) = self.table(store) else {
             return;
         };
-        let c = state::with_nullable(area::cell_at(area, at), empty);
-        area::put_cell(area, at, c);
+        let c = state::with_nullable(store.cell_at(at), empty);
+        store.put_cell(at, c);
     }
 
     // Deletes a row of its table, if it has one.
-    fn delete(self, map: IntMap, area: &mut [u8])
-        requires { Held (cells area.old) map × RowWithin self }
-        ensures { CursorTableChanged after_delete (cells area.old) (cells area.new) map self }
+    fn delete(self, store: &mut Store)
+        requires { IsHeld store.old × RowWithin self }
+        ensures { Writes (λ cs ds a. CursorTableChanged after_delete cs ds a self) store.old store.new }
     {
-        let Some(at) = self.table(map, area) else {
+        let Some(at) = self.table(store) else {
             return;
         };
-        let c = after_delete(area::cell_at(area, at));
-        area::put_cell(area, at, c);
+        let c = after_delete(store.cell_at(at));
+        store.put_cell(at, c);
     }
 }
 
 // Where the head of cursor i's columns is, if it is there and has columns.
-pub fn columns_of(map: IntMap, area: &[u8], i: u64) -> Result<Option<usize>, Refusal>
-    requires { Held (cells area.now) map }
-    ensures { FindsCursor (cells area.now) map i result }
+pub fn columns_of(store: &Store, i: u64) -> Result<Option<usize>, Refusal>
+    requires { IsHeld store.now }
+    ensures { FindsCursor (cells_in store.now) store.now.map i result }
 {
-    match read_cursor(map, area, i)? {
+    match read_cursor(store, i)? {
         None => Ok(None),
-        Some(p) => p.columns(map, area),
+        Some(p) => p.columns(store),
     }
 }
 
 // Stores a cursor that reads the record in a register, whose number is an operand's word. It is no one function with the next, since a cursor that was
 // read, which may hold a larger number, meets neither contract.
-pub fn store_pseudo(
-    map: IntMap,
-    area: &mut [u8],
-    i: u64,
-    register: u64,
-    limit: usize,
-) -> Result<IntMap, Refusal>
-    requires { Current limit (cells area.old) map × Operand register }
-    ensures { Leads limit (cells area.old) (cells area.new) map result (store_cursor limit (int_of i) (Pseudo (int_of register))) }
+pub fn store_pseudo(store: &mut Store, i: u64, register: u64) -> Result<(), Refusal>
+    requires { IsCurrent store.old × Operand register }
+    ensures { Changes (λ limit cs ds a r. Leads limit cs ds a r (store_cursor limit (int_of i) (Pseudo (int_of register)))) store.old store.new result }
 {
     let c = CursorDataType::Pseudo(register).cell();
-    state::store_cell(map, area, intmap::Class::Cursors, i, c, limit)
+    store.store_cell(intmap::Class::Cursors, i, c)
 }
 
 // Stores a cursor on the table that this row opened.
-pub fn store_normal(
-    map: IntMap,
-    area: &mut [u8],
-    i: u64,
-    row: u64,
-    limit: usize,
-) -> Result<IntMap, Refusal>
-    requires { Current limit (cells area.old) map × (row ≤ 65535) }
-    ensures { Leads limit (cells area.old) (cells area.new) map result (store_cursor limit (int_of i) (Normal row)) }
+pub fn store_normal(store: &mut Store, i: u64, row: u64) -> Result<(), Refusal>
+    requires { IsCurrent store.old × (row ≤ 65535) }
+    ensures { Changes (λ limit cs ds a r. Leads limit cs ds a r (store_cursor limit (int_of i) (Normal row))) store.old store.new result }
 {
     let c = CursorDataType::Normal(row).cell();
-    state::store_cell(map, area, intmap::Class::Cursors, i, c, limit)
+    store.store_cell(intmap::Class::Cursors, i, c)
 }
 
 // Copies the run of the entry at `at` to the room behind the map, with another nullable in its head, and gives how many cells it has. A store
 // may move that entry, so what is stored of it is taken from there.
-pub fn run_behind(
-    map: IntMap,
-    area: &mut [u8],
-    at: usize,
-    nullable: Option<bool>,
-    limit: usize,
-) -> usize
-    requires { Current limit (cells area.old) map × (map.base ≤ at) × (at + size (cells area.old) levels at ≤ map.base + map.used) }
-    ensures { RunBehind limit (cells area.old) (cells area.new) map at nullable result }
+pub fn run_behind(store: &mut Store, at: usize, nullable: Option<bool>) -> usize
+    requires { IsCurrent store.old × (store.old.map.base ≤ at) × (at + size (cells_in store.old) levels at ≤ store.old.map.base + store.old.map.used) }
+    ensures { Writes (λ cs ds a. RunBehind store.old.limit cs ds a at nullable result) store.old store.new }
 {
-    let to = map.base + limit;
-    let n = intmap::copy_run(area, at, to, intmap::LEVELS);
-    let c = state::with_nullable(area::cell_at(area, to), nullable);
-    area::put_cell(area, to, c);
+    let to = store.map.base + store.limit;
+    let n = intmap::copy_run(store.area, at, to, intmap::LEVELS);
+    let c = state::with_nullable(store.cell_at(to), nullable);
+    store.put_cell(to, c);
     n
 }
 
 // OpenPseudo: cursor P1 reads register P2.
-pub fn open_pseudo(map: IntMap, area: &mut [u8], x: Row, limit: usize) -> Result<IntMap, Refusal>
-    requires { Current limit (cells area.old) map }
-    ensures { (row : ℕ) → CursorArm limit (cells area.old) (cells area.new) map row x op_open_pseudo result }
+pub fn open_pseudo(store: &mut Store, x: Row) -> Result<(), Refusal>
+    requires { IsCurrent store.old }
+    ensures { Changes (λ limit cs ds a r. (row : ℕ) → CursorArm limit cs ds a row x op_open_pseudo r) store.old store.new result }
 {
-    store_pseudo(map, area, x.p1, x.p2, limit)
+    store_pseudo(store, x.p1, x.p2)
 }
 
 // OpenDup: cursor P1 becomes what cursor P2 is, if there is one.
-pub fn open_dup(map: IntMap, area: &mut [u8], x: Row, limit: usize) -> Result<IntMap, Refusal>
-    requires { Current limit (cells area.old) map }
-    ensures { (row : ℕ) → CursorArm limit (cells area.old) (cells area.new) map row x op_open_dup result }
+pub fn open_dup(store: &mut Store, x: Row) -> Result<(), Refusal>
+    requires { IsCurrent store.old }
+    ensures { Changes (λ limit cs ds a r. (row : ℕ) → CursorArm limit cs ds a row x op_open_dup r) store.old store.new result }
 {
-    let Some(p) = read_cursor(map, area, x.p2)? else {
-        return Ok(map);
+    let Some(p) = read_cursor(store, x.p2)? else {
+        return Ok(());
     };
-    state::store_cell(map, area, intmap::Class::Cursors, x.p1, p.cell(), limit)
+    store.store_cell(intmap::Class::Cursors, x.p1, p.cell())
 }
 
 // Delete: the table of cursor P1 might be empty now.
-pub fn delete(map: IntMap, area: &mut [u8], x: Row) -> Result<IntMap, Refusal>
-    requires { SomeCurrent (cells area.old) map }
-    ensures { (limit row : ℕ) → Current limit (cells area.old) map → CursorArm limit (cells area.old) (cells area.new) map row x op_delete result }
+pub fn delete(store: &mut Store, x: Row) -> Result<(), Refusal>
+    requires { SomeCurrent (cells_in store.old) store.old.map }
+    ensures { Changes (λ _ cs ds a r. (limit row : ℕ) → Current limit cs a → CursorArm limit cs ds a row x op_delete r) store.old store.new result }
 {
-    let Some(p) = read_cursor(map, area, x.p1)? else {
-        return Ok(map);
+    let Some(p) = read_cursor(store, x.p1)? else {
+        return Ok(());
     };
-    p.delete(map, area);
-    Ok(map)
+    p.delete(store);
+    Ok(())
 }

@@ -1,8 +1,9 @@
 -- An access that changes the map, followed by a step; and the arms that store a number and then name the next row. Assumes nothing.
+use Rattle.refusal.specs.declared.Refusal.{Refusal}
 use Rattle.intmap.specs.Store.{Stored}
 use mathlib.Core.Path.{◌≡◌, refl, sym, ap, ap₂, subst, ◌∙◌}
 use mathlib.Core.Bool.{Bool, true, false}
-use Rattle.std.specs.Prelude.{None, Ok, Err, Some}
+use Rattle.std.specs.Prelude.{None, Ok, Err, Some, Result}
 use mathlib.Core.List.{List, [], ◌∷◌}
 use Prim.Native.Nat.{ℕ, ◌+◌, ◌≤◌}
 use native.Mathlib.Omega.{arith}
@@ -25,9 +26,12 @@ use Rattle.intmap.specs.declared.IntMap.{IntMap}
 use Rattle.rows.specs.Judged.{Judged}
 use Rattle.rows.specs.declared.row.Row.{Row}
 use Rattle.state.specs.Leads.{HoldsMap, Tells, Leaves, operands, Leads}
-use Rattle.state.specs.Steps.{HoldsState, Offered, TellsStep, LeavesStep, JumpArm}
+use Rattle.state.specs.Steps.{HoldsState, Offered, TellsStep, LeavesStep, JumpArm, Step}
+use Rattle.state.specs.Stores.{cells_in, SameStore, stored_in, Changes}
 use Rattle.state.specs.declared.MemoryState.{MemoryState}
-use Rattle.jump_arms.specs.Arms.{InitTo, at, step_after, branch_after}
+use Rattle.state.specs.declared.Ways.{Ways}
+use Rattle.state.specs.declared.store.Store.{Store}
+use Rattle.jump_arms.specs.Arms.{InitTo, at, on_at, branch_at, both_at, step_after, branch_after, both_after}
 use Rattle.jump_arms.proofs.StepLaws.{held_at, held_next, goes_on_lem, branches_only, zero_word, other_word}
 
 -- the state stays on its row
@@ -71,6 +75,40 @@ branches_after {limit} {ds = ds} {f = f} r w bound m le leads keeps h = branches
 pub branch_leaves : (limit : ℕ) (ds : List Cell) (s : MemoryState) (r : Stored) (w : ℕ) → Leaves limit ds s.map r → LeavesStep limit ds s (branch_after w r)
 branch_leaves limit ds s (Err k) w leaves = tt
 branch_leaves limit ds s (Ok b) w leaves = (record { above = omega (arith, leaves.base); below = omega (arith, leaves.base); room = leaves.room }, tt)
+
+-- ---- the step, of the store t that a change of it left: why it was refused, or the ways then
+
+-- a store that nothing changed
+pub same_store : {s : Store} → SameStore s s
+same_store = record { buffer = refl; limit = refl }
+
+-- a change of a store whose limit is n
+pub within : {P : ℕ → List Cell → List Cell → IntMap → Stored → Type 0} {s t : Store} {r : Result (Unit {0}) Refusal} {n : ℕ} → s.limit ≡ n → Changes P s t r → P n (cells_in s) (cells_in t) s.map (stored_in t r)
+within {P} {s} {t} {r} e changes = subst (λ n. P n (cells_in s) (cells_in t) s.map (stored_in t r)) e changes.is
+
+module _ (t : Store) {r : Result (Unit {0}) Refusal} where
+  module _ {e : Refusal} {v : Step} (was : r ≡ Err e) (is : v ≡ Err e) where
+    pub step_err : (w : ℕ) → step_after w (stored_in t r) ≡ v
+    step_err w = ap (λ r. step_after w (stored_in t r)) was ∙ sym is
+
+    pub branch_err : (w : ℕ) → branch_after w (stored_in t r) ≡ v
+    branch_err w = ap (λ r. branch_after w (stored_in t r)) was ∙ sym is
+
+    pub both_err : (b : MemoryState) (w : ℕ) → both_after b w (stored_in t r) ≡ v
+    both_err b w = ap (λ r. both_after b w (stored_in t r)) was ∙ sym is
+
+  module _ {u : Unit {0}} {v : Ways} (was : r ≡ Ok u) where
+    pub step_ok : (w : ℕ) → v ≡ on_at w t.map → step_after w (stored_in t r) ≡ Ok v
+    step_ok w is = ap (λ r. step_after w (stored_in t r)) was ∙ ap Ok (sym is)
+
+    pub branch_ok : (w : ℕ) → v ≡ branch_at w t.map → branch_after w (stored_in t r) ≡ Ok v
+    branch_ok w is = ap (λ r. branch_after w (stored_in t r)) was ∙ ap Ok (sym is)
+
+    pub both_ok : (b : MemoryState) (p w : ℕ) (a : IntMap) → v ≡ both_at b w t.map → (b.map ≡ a) × (b.row ≡ p) → both_after (at p a) w (stored_in t r) ≡ Ok v
+    both_ok b p w a is told =
+        ap (λ r. both_after (at p a) w (stored_in t r)) was ∙ ap Ok (sym (is ∙ ap₂ (λ q c. both_at (at q c) w t.map) told.1 told.0))
+
+-- ---- the arms that are such an access
 
 -- the arm is an access f to the map that keeps the row, and then goes to another row, whose word is w
 module _

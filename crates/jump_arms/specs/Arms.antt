@@ -20,8 +20,11 @@ use Rattle.rows.specs.Judged.{Judged}
 use Rattle.rows.specs.declared.row.Row.{Row}
 use Rattle.state.specs.Leads.{Current, HoldsMap, operands, Leads}
 use Rattle.state.specs.Reads.{IsInt}
-use Rattle.state.specs.Steps.{HoldsState, TellsStep, LeavesStep, Step, offered}
+use Rattle.state.specs.Steps.{HoldsState, TellsStep, LeavesStep, Step}
+use Rattle.state.specs.Stores.{cells_in}
 use Rattle.state.specs.declared.MemoryState.{MemoryState}
+use Rattle.state.specs.declared.Ways.{Ways}
+use Rattle.state.specs.declared.store.Store.{Store}
 use Rattle.jump_arms.specs.declared.Asked.{Asked}
 
 pub record Ready (limit : ℕ) (cs : List Cell) (s : MemoryState) : Type 0 where
@@ -43,19 +46,32 @@ pub record RowAfter (w r : ℕ) : Type 0 where
 abbrev pub at : ℕ → IntMap → MemoryState
 at w a = record { row = w; map = a }
 
--- an access to the map, after which the state goes on at a row
+-- what an arm asks for, of a store and the row that its state is on
+abbrev pub ReadyStore : Store → ℕ → Type 0
+ReadyStore store row = Ready store.limit (cells_in store) (at row store.map)
+
+-- the state goes on at a row; it is a branch there; and both
+abbrev pub on_at : ℕ → IntMap → Ways
+on_at w a = record { branch = None; stays = Some (at w a) }
+
+abbrev pub branch_at : ℕ → IntMap → Ways
+branch_at w a = record { branch = Some (at w a); stays = None }
+
+abbrev pub both_at : MemoryState → ℕ → IntMap → Ways
+both_at branch w a = record { branch = Some branch; stays = Some (at w a) }
+
+-- the three after an access to the map
 abbrev pub step_after : ℕ → Stored → Step
 step_after w (Err n) = Err n
-step_after w (Ok a) = offered None (Some (at w a))
+step_after w (Ok a) = Ok (on_at w a)
 
--- the same as a branch, and with a branch
 abbrev pub branch_after : ℕ → Stored → Step
 branch_after w (Err n) = Err n
-branch_after w (Ok a) = offered (Some (at w a)) None
+branch_after w (Ok a) = Ok (branch_at w a)
 
 abbrev pub both_after : MemoryState → ℕ → Stored → Step
 both_after branch w (Err n) = Err n
-both_after branch w (Ok a) = offered (Some branch) (Some (at w a))
+both_after branch w (Ok a) = Ok (both_at branch w a)
 
 -- what is read is no known number
 pub record IsUnknown (t : Tried (Option RegDataType)) : Type 0 where

@@ -7,40 +7,35 @@ ghost use Rattle.model.specs.Equality.{is_zero_int};
 ghost use Rattle.model.specs.Access.{remove_register, store_register, update_register};
 ghost use Rattle.model.specs.JumpArms.{store_if, to_default};
 ghost use Rattle.model.specs.State.{Column, Single, to_not_null};
-ghost use Rattle.area.specs.Cells.{cells};
 ghost use Rattle.intmap.specs.Map.{HasRoom};
 ghost use Rattle.intmap.specs.Signed.{int_of};
 ghost use Rattle.rows.specs.Parts.{Operand};
-ghost use Rattle.state.specs.Leads.{Held, Current, Leads};
+ghost use Rattle.state.specs.Leads.{Leads};
 ghost use Rattle.state.specs.Steps.{JumpArm};
-ghost use Rattle.jump_arms.specs.Arms.{Ready, InitTo, RowAfter, step_after, branch_after, both_after, Knows, Puts, BothArm, IfArm, Asks, changed};
+ghost use Rattle.state.specs.Stores.{cells_in, IsHeld, IsCurrent, SameStore, Changes};
+ghost use Rattle.jump_arms.specs.Arms.{ReadyStore, InitTo, RowAfter, at, on_at, branch_at, both_at, Knows, Puts, BothArm, IfArm, Asks, changed};
 
 use area::Cell;
-use intmap::IntMap;
 use refusal::Refusal;
 use rows::Row;
-use state::{MemoryState, Register, Ways};
+use state::{MemoryState, Register, Store, Ways};
 use type_info::DataType;
 
 // The word of 1.
 const ONE: u64 = 9223372036854775809;
 
 // Goto
-pub fn goto(s: MemoryState, area: &[u8], x: Row, limit: usize) -> Result<Ways, Refusal>
-    requires { Ready limit (cells area.now) s }
-    ensures { JumpArm limit (cells area.now) (cells area.now) s x op_goto result }
+pub fn goto(store: &Store, row: u64, x: Row) -> Result<Ways, Refusal>
+    requires { ReadyStore store.now row }
+    ensures { JumpArm store.now.limit (cells_in store.now) (cells_in store.now) (at row store.now.map) x op_goto result }
 {
-    let map = s.map;
-    Ok(Ways {
-        branch: None,
-        stays: Some(MemoryState { row: x.p2, map }),
-    })
+    Ok(go_on(store, x.p2))
 }
 
 // Halt
-pub fn halt(s: MemoryState, area: &[u8], x: Row, limit: usize) -> Result<Ways, Refusal>
-    requires { Ready limit (cells area.now) s }
-    ensures { JumpArm limit (cells area.now) (cells area.now) s x op_halt result }
+pub fn halt(store: &Store, row: u64, x: Row) -> Result<Ways, Refusal>
+    requires { ReadyStore store.now row }
+    ensures { JumpArm store.now.limit (cells_in store.now) (cells_in store.now) (at row store.now.map) x op_halt result }
 {
     Ok(Ways {
         branch: None,
@@ -49,60 +44,41 @@ pub fn halt(s: MemoryState, area: &[u8], x: Row, limit: usize) -> Result<Ways, R
 }
 
 // The operations that may go to P2 or to the next row
-pub fn branch(s: MemoryState, area: &[u8], x: Row, limit: usize) -> Result<Ways, Refusal>
-    requires { Ready limit (cells area.now) s }
-    ensures { JumpArm limit (cells area.now) (cells area.now) s x op_branch result }
+pub fn branch(store: &Store, row: u64, x: Row) -> Result<Ways, Refusal>
+    requires { ReadyStore store.now row }
+    ensures { JumpArm store.now.limit (cells_in store.now) (cells_in store.now) (at row store.now.map) x op_branch result }
 {
-    let map = s.map;
-    Ok(Ways {
-        branch: Some(MemoryState { row: x.p2, map }),
-        stays: Some(MemoryState {
-            row: s.row + 1,
-            map,
-        }),
-    })
+    Ok(branch_and_go(store.at(x.p2), store, row + 1))
 }
 
 // MustBeInt
-pub fn must_be_int(s: MemoryState, area: &[u8], x: Row, limit: usize) -> Result<Ways, Refusal>
-    requires { Ready limit (cells area.now) s }
-    ensures { JumpArm limit (cells area.now) (cells area.now) s x op_must_be_int result }
+pub fn must_be_int(store: &Store, row: u64, x: Row) -> Result<Ways, Refusal>
+    requires { ReadyStore store.now row }
+    ensures { JumpArm store.now.limit (cells_in store.now) (cells_in store.now) (at row store.now.map) x op_must_be_int result }
 {
-    let map = s.map;
-    let stays = Some(MemoryState {
-        row: s.row + 1,
-        map,
-    });
     if x.p2 == intmap::ZERO {
-        return Ok(Ways {
-            branch: None,
-            stays,
-        });
+        return Ok(go_on(store, row + 1));
     }
-    Ok(Ways {
-        branch: Some(MemoryState { row: x.p2, map }),
-        stays,
-    })
+    Ok(branch_and_go(store.at(x.p2), store, row + 1))
 }
 
-// What follows an access to the map: the state goes on at a row.
-pub fn go_on(x: Result<IntMap, Refusal>, row: u64) -> Result<Ways, Refusal>
-    ensures { result ≡ step_after row x }
+// The state goes on at a row.
+pub fn go_on(store: &Store, row: u64) -> Ways
+    ensures { result ≡ on_at row store.now.map }
 {
-    let map = x?;
-    Ok(Ways {
+    Ways {
         branch: None,
-        stays: Some(MemoryState { row, map }),
-    })
+        stays: Some(store.at(row)),
+    }
 }
 
 // Gosub
-pub fn gosub(s: MemoryState, area: &mut [u8], x: Row, limit: usize) -> Result<Ways, Refusal>
-    requires { Ready limit (cells area.old) s }
-    ensures { JumpArm limit (cells area.old) (cells area.new) s x op_gosub result }
+pub fn gosub(store: &mut Store, row: u64, x: Row) -> Result<Ways, Refusal>
+    requires { ReadyStore store.old row }
+    ensures { SameStore store.old store.new × JumpArm store.old.limit (cells_in store.old) (cells_in store.new) (at row store.old.map) x op_gosub result }
 {
-    let map = s.map;
-    go_on(state::store_int(map, area, x.p1, s.row, limit), x.p2)
+    store.store_int(x.p1, row)?;
+    Ok(go_on(store, x.p2))
 }
 
 // Where InitCoroutine goes: 0 in P2 stands for the next row.
@@ -117,26 +93,21 @@ pub fn init_coroutine_to(row: u64, p2: u64) -> u64
 }
 
 // InitCoroutine
-pub fn init_coroutine(
-    s: MemoryState,
-    area: &mut [u8],
-    x: Row,
-    limit: usize,
-) -> Result<Ways, Refusal>
-    requires { Ready limit (cells area.old) s }
-    ensures { JumpArm limit (cells area.old) (cells area.new) s x op_init_coroutine result }
+pub fn init_coroutine(store: &mut Store, row: u64, x: Row) -> Result<Ways, Refusal>
+    requires { ReadyStore store.old row }
+    ensures { SameStore store.old store.new × JumpArm store.old.limit (cells_in store.old) (cells_in store.new) (at row store.old.map) x op_init_coroutine result }
 {
-    let map = s.map;
-    let row = init_coroutine_to(s.row, x.p2);
-    go_on(state::store_int(map, area, x.p1, x.p3, limit), row)
+    let to = init_coroutine_to(row, x.p2);
+    store.store_int(x.p1, x.p3)?;
+    Ok(go_on(store, to))
 }
 
 // The number that register i is known to hold, if it is.
-pub fn known_int(map: IntMap, area: &[u8], i: u64) -> Result<Option<u64>, Refusal>
-    requires { Held (cells area.now) map }
-    ensures { Knows (cells area.now) map i result }
+pub fn known_int(store: &Store, i: u64) -> Result<Option<u64>, Refusal>
+    requires { IsHeld store.now }
+    ensures { Knows (cells_in store.now) store.now.map i result }
 {
-    match state::read_register(map, area, i)? {
+    match store.read_register(i)? {
         None => Ok(None),
         Some(Register::Single(_, _)) => Ok(None),
         Some(Register::Record(_)) => Ok(None),
@@ -155,135 +126,109 @@ pub fn row_after(w: u64) -> u64
 }
 
 // Removes register i.
-pub fn remove_register(
-    map: IntMap,
-    area: &mut [u8],
-    i: u64,
-    limit: usize,
-) -> Result<IntMap, Refusal>
-    requires { Current limit (cells area.old) map }
-    ensures { Leads limit (cells area.old) (cells area.new) map result (remove_register (int_of i)) }
+pub fn remove_register(store: &mut Store, i: u64) -> Result<(), Refusal>
+    requires { IsCurrent store.old }
+    ensures { Changes (λ limit cs ds a r. Leads limit cs ds a r (remove_register (int_of i))) store.old store.new result }
 {
-    map.remove_at(area, intmap::Class::Registers, i)
+    let map = store.map;
+    store.map = map.remove_at(store.area, intmap::Class::Registers, i)?;
+    Ok(())
 }
 
 // Return
-pub fn return_(s: MemoryState, area: &mut [u8], x: Row, limit: usize) -> Result<Ways, Refusal>
-    requires { Ready limit (cells area.old) s }
-    ensures { JumpArm limit (cells area.old) (cells area.new) s x op_return result }
+pub fn return_(store: &mut Store, row: u64, x: Row) -> Result<Ways, Refusal>
+    requires { ReadyStore store.old row }
+    ensures { SameStore store.old store.new × JumpArm store.old.limit (cells_in store.old) (cells_in store.new) (at row store.old.map) x op_return result }
 {
-    let map = s.map;
-    let Some(w) = known_int(map, area, x.p1)? else {
+    let Some(w) = known_int(store, x.p1)? else {
         if x.p3 == ONE {
-            return Ok(Ways {
-                branch: None,
-                stays: Some(MemoryState {
-                    row: s.row + 1,
-                    map,
-                }),
-            });
+            return Ok(go_on(store, row + 1));
         }
         return Ok(Ways {
             branch: None,
             stays: None,
         });
     };
-    go_on(remove_register(map, area, x.p1, limit), row_after(w))
+    let after = row_after(w);
+    remove_register(store, x.p1)?;
+    Ok(go_on(store, after))
 }
 
-// What follows an access to the map: a branch at a row, and nothing goes on.
-pub fn branch_at(x: Result<IntMap, Refusal>, row: u64) -> Result<Ways, Refusal>
-    ensures { result ≡ branch_after row x }
+// A branch at a row, and nothing goes on.
+pub fn branch_at(store: &Store, row: u64) -> Ways
+    ensures { result ≡ branch_at row store.now.map }
 {
-    let map = x?;
-    Ok(Ways {
-        branch: Some(MemoryState { row, map }),
+    Ways {
+        branch: Some(store.at(row)),
         stays: None,
-    })
+    }
 }
 
-// What follows an access to the map, where there is a branch: the state goes on at a row.
-pub fn branch_and_go(
-    branch: MemoryState,
-    x: Result<IntMap, Refusal>,
-    row: u64,
-) -> Result<Ways, Refusal>
-    ensures { result ≡ both_after branch row x }
+// Where there is a branch: the state goes on at a row.
+pub fn branch_and_go(branch: MemoryState, store: &Store, row: u64) -> Ways
+    ensures { result ≡ both_at branch row store.now.map }
 {
-    let map = x?;
-    Ok(Ways {
+    Ways {
         branch: Some(branch),
-        stays: Some(MemoryState { row, map }),
-    })
+        stays: Some(store.at(row)),
+    }
 }
 
 // Stores a number in register P1, where P3 is 0.
-fn store_if(
-    map: IntMap,
-    area: &mut [u8],
-    x: Row,
-    value: u64,
-    limit: usize,
-) -> Result<IntMap, Refusal>
-    requires { HasRoom (cells area.old) limit map × Operand value }
-    ensures { Puts limit (cells area.old) (cells area.new) map result (store_if (is_zero_int (int_of x.p3)) limit (int_of x.p1) (int_of value)) }
+fn store_if(store: &mut Store, x: Row, value: u64) -> Result<(), Refusal>
+    requires { HasRoom (cells_in store.old) store.old.limit store.old.map × Operand value }
+    ensures { Changes (λ limit cs ds a r. Puts limit cs ds a r (store_if (is_zero_int (int_of x.p3)) limit (int_of x.p1) (int_of value))) store.old store.new result }
 {
     if x.p3 == intmap::ZERO {
-        return map.store_cell(
-            area,
+        return store.store_plain(
             intmap::Class::Registers,
             x.p1,
             Cell {
                 head: intmap::INT,
                 payload: value,
             },
-            limit,
         );
     }
-    Ok(map)
+    Ok(())
 }
 
 // If, where the number w is known: 0 goes on, another branches.
-fn if_known(s: MemoryState, area: &mut [u8], x: Row, w: u64, limit: usize) -> Result<Ways, Refusal>
-    requires { Ready limit (cells area.old) s }
-    ensures { IfArm limit (cells area.old) (cells area.new) s x (Some (int_of w)) result }
+fn if_known(store: &mut Store, row: u64, x: Row, w: u64) -> Result<Ways, Refusal>
+    requires { ReadyStore store.old row }
+    ensures { SameStore store.old store.new × IfArm store.old.limit (cells_in store.old) (cells_in store.new) (at row store.old.map) x (Some (int_of w)) result }
 {
-    let map = s.map;
     if w == intmap::ZERO {
-        return go_on(store_if(map, area, x, intmap::ZERO, limit), s.row + 1);
+        store_if(store, x, intmap::ZERO)?;
+        return Ok(go_on(store, row + 1));
     }
-    branch_at(store_if(map, area, x, ONE, limit), x.p2)
+    store_if(store, x, ONE)?;
+    Ok(branch_at(store, x.p2))
 }
 
 // If, where no number is known: both ways. The branch has another register, so it is built in the room behind the map, and its store is judged
 // first.
-fn if_both(s: MemoryState, area: &mut [u8], x: Row, limit: usize) -> Result<Ways, Refusal>
-    requires { Ready limit (cells area.old) s }
-    ensures { IfArm limit (cells area.old) (cells area.new) s x None result }
+fn if_both(store: &mut Store, row: u64, x: Row) -> Result<Ways, Refusal>
+    requires { ReadyStore store.old row }
+    ensures { SameStore store.old store.new × IfArm store.old.limit (cells_in store.old) (cells_in store.new) (at row store.old.map) x None result }
 {
-    let map = s.map;
-    let behind = map.copy_to(area, map.base + limit);
-    let there = store_if(behind, area, x, ONE, limit)?;
-    let branch = MemoryState {
-        row: x.p2,
-        map: there,
-    };
-    branch_and_go(
-        branch,
-        store_if(map, area, x, intmap::ZERO, limit),
-        s.row + 1,
-    )
+    let map = store.map;
+    let limit = store.limit;
+    store.map = map.copy_to(store.area, map.base + limit);
+    store_if(store, x, ONE)?;
+    let branch = store.at(x.p2);
+    store.map = map;
+    store_if(store, x, intmap::ZERO)?;
+    Ok(branch_and_go(branch, store, row + 1))
 }
 
 // If
-pub fn if_(s: MemoryState, area: &mut [u8], x: Row, limit: usize) -> Result<Ways, Refusal>
-    requires { Ready limit (cells area.old) s }
-    ensures { JumpArm limit (cells area.old) (cells area.new) s x op_if result }
+pub fn if_(store: &mut Store, row: u64, x: Row) -> Result<Ways, Refusal>
+    requires { ReadyStore store.old row }
+    ensures { SameStore store.old store.new × JumpArm store.old.limit (cells_in store.old) (cells_in store.new) (at row store.old.map) x op_if result }
 {
-    let map = s.map;
-    match known_int(map, area, x.p1)? {
-        None => if_both(s, area, x, limit),
-        Some(w) => if_known(s, area, x, w, limit),
+    match known_int(store, x.p1)? {
+        None => if_both(store, row, x),
+        Some(w) => if_known(store, row, x, w),
     }
 }
 
@@ -295,11 +240,11 @@ pub struct Asked {
 }
 
 // Asks register i.
-fn ask(map: IntMap, area: &[u8], i: u64) -> Result<Asked, Refusal>
-    requires { Held (cells area.now) map }
-    ensures { Asks (cells area.now) map i result }
+fn ask(store: &Store, i: u64) -> Result<Asked, Refusal>
+    requires { IsHeld store.now }
+    ensures { Asks (cells_in store.now) store.now.map i result }
 {
-    match state::read_register(map, area, i)? {
+    match store.read_register(i)? {
         None => Ok(Asked {
             null: false,
             kind: false,
@@ -321,123 +266,99 @@ fn ask(map: IntMap, area: &[u8], i: u64) -> Result<Asked, Refusal>
 
 // Stores a plain column in register i, within the map's room alone.
 pub fn put_single(
-    map: IntMap,
-    area: &mut [u8],
+    store: &mut Store,
     i: u64,
     d: DataType,
     nullable: Option<bool>,
-    limit: usize,
-) -> Result<IntMap, Refusal>
-    requires { HasRoom (cells area.old) limit map × Held (cells area.old) map }
-    ensures { Puts limit (cells area.old) (cells area.new) map result (store_register limit (int_of i) (Column (Single d nullable))) }
+) -> Result<(), Refusal>
+    requires { HasRoom (cells_in store.old) store.old.limit store.old.map × IsHeld store.old }
+    ensures { Changes (λ limit cs ds a r. Puts limit cs ds a r (store_register limit (int_of i) (Column (Single d nullable)))) store.old store.new result }
 {
-    map.store_cell(
-        area,
-        intmap::Class::Registers,
-        i,
-        state::single(d, nullable),
-        limit,
-    )
+    store.store_plain(intmap::Class::Registers, i, state::single(d, nullable))
 }
 
 // Register i at its default, if it is there. The store refuses nothing that the read did not, since a plain column is never larger.
-fn put_default(map: IntMap, area: &mut [u8], i: u64, limit: usize) -> Result<IntMap, Refusal>
-    requires { HasRoom (cells area.old) limit map × Held (cells area.old) map }
-    ensures { Puts limit (cells area.old) (cells area.new) map result (update_register (int_of i) to_default) }
+fn put_default(store: &mut Store, i: u64) -> Result<(), Refusal>
+    requires { HasRoom (cells_in store.old) store.old.limit store.old.map × IsHeld store.old }
+    ensures { Changes (λ limit cs ds a r. Puts limit cs ds a r (update_register (int_of i) to_default)) store.old store.new result }
 {
-    match state::read_register(map, area, i)? {
-        None => Ok(map),
-        Some(_) => put_single(map, area, i, DataType::Null, None, limit),
+    match store.read_register(i)? {
+        None => Ok(()),
+        Some(_) => put_single(store, i, DataType::Null, None),
     }
 }
 
 // Register i never null, if it is a plain column; another stays as it is.
-fn put_never(map: IntMap, area: &mut [u8], i: u64, limit: usize) -> Result<IntMap, Refusal>
-    requires { HasRoom (cells area.old) limit map × Held (cells area.old) map }
-    ensures { Puts limit (cells area.old) (cells area.new) map result (update_register (int_of i) to_not_null) }
+fn put_never(store: &mut Store, i: u64) -> Result<(), Refusal>
+    requires { HasRoom (cells_in store.old) store.old.limit store.old.map × IsHeld store.old }
+    ensures { Changes (λ limit cs ds a r. Puts limit cs ds a r (update_register (int_of i) to_not_null)) store.old store.new result }
 {
-    match state::read_register(map, area, i)? {
-        None => Ok(map),
-        Some(Register::Single(d, _)) => { put_single(map, area, i, d, Some(false), limit) }
-        Some(Register::Record(_)) => Ok(map),
-        Some(Register::Int(_)) => Ok(map),
+    match store.read_register(i)? {
+        None => Ok(()),
+        Some(Register::Single(d, _)) => put_single(store, i, d, Some(false)),
+        Some(Register::Record(_)) => Ok(()),
+        Some(Register::Int(_)) => Ok(()),
     }
 }
 
 // Register i at its default if it is null, else never null.
-fn put_changed(
-    map: IntMap,
-    area: &mut [u8],
-    i: u64,
-    null: bool,
-    limit: usize,
-) -> Result<IntMap, Refusal>
-    requires { HasRoom (cells area.old) limit map × Held (cells area.old) map }
-    ensures { Puts limit (cells area.old) (cells area.new) map result (update_register (int_of i) (changed null)) }
+fn put_changed(store: &mut Store, i: u64, null: bool) -> Result<(), Refusal>
+    requires { HasRoom (cells_in store.old) store.old.limit store.old.map × IsHeld store.old }
+    ensures { Changes (λ limit cs ds a r. Puts limit cs ds a r (update_register (int_of i) (changed null))) store.old store.new result }
 {
     if null {
-        return put_default(map, area, i, limit);
+        return put_default(store, i);
     }
-    put_never(map, area, i, limit)
+    put_never(store, i)
 }
 
 // IsNull and NotNull where both ways are taken, the branch behind the map. `null` says whether the register is null at the branch.
-fn change_both(
-    s: MemoryState,
-    area: &mut [u8],
-    x: Row,
-    null: bool,
-    limit: usize,
-) -> Result<Ways, Refusal>
-    requires { Ready limit (cells area.old) s }
-    ensures { BothArm limit (cells area.old) (cells area.new) s x (update_register (int_of x.p1) (changed null)) (update_register (int_of x.p1) (changed (not null))) result }
+fn change_both(store: &mut Store, row: u64, x: Row, null: bool) -> Result<Ways, Refusal>
+    requires { ReadyStore store.old row }
+    ensures { SameStore store.old store.new × BothArm store.old.limit (cells_in store.old) (cells_in store.new) (at row store.old.map) x (update_register (int_of x.p1) (changed null)) (update_register (int_of x.p1) (changed (not null))) result }
 {
-    let map = s.map;
-    let behind = map.copy_to(area, map.base + limit);
-    let there = put_changed(behind, area, x.p1, null, limit)?;
-    let branch = MemoryState {
-        row: x.p2,
-        map: there,
-    };
-    branch_and_go(
-        branch,
-        put_changed(map, area, x.p1, !null, limit),
-        s.row + 1,
-    )
+    let map = store.map;
+    let limit = store.limit;
+    store.map = map.copy_to(store.area, map.base + limit);
+    put_changed(store, x.p1, null)?;
+    let branch = store.at(x.p2);
+    store.map = map;
+    put_changed(store, x.p1, !null)?;
+    Ok(branch_and_go(branch, store, row + 1))
 }
 
 // IsNull
-pub fn is_null(s: MemoryState, area: &mut [u8], x: Row, limit: usize) -> Result<Ways, Refusal>
-    requires { Ready limit (cells area.old) s }
-    ensures { JumpArm limit (cells area.old) (cells area.new) s x op_is_null result }
+pub fn is_null(store: &mut Store, row: u64, x: Row) -> Result<Ways, Refusal>
+    requires { ReadyStore store.old row }
+    ensures { SameStore store.old store.new × JumpArm store.old.limit (cells_in store.old) (cells_in store.new) (at row store.old.map) x op_is_null result }
 {
-    let map = s.map;
     let ends = Ways {
         branch: None,
         stays: None,
     };
-    let asked = ask(map, area, x.p1)?;
+    let asked = ask(store, x.p1)?;
     if asked.null {
-        return change_both(s, area, x, true, limit);
+        return change_both(store, row, x, true);
     }
     Ok(ends)
 }
 
 // NotNull
-pub fn not_null(s: MemoryState, area: &mut [u8], x: Row, limit: usize) -> Result<Ways, Refusal>
-    requires { Ready limit (cells area.old) s }
-    ensures { JumpArm limit (cells area.old) (cells area.new) s x op_not_null result }
+pub fn not_null(store: &mut Store, row: u64, x: Row) -> Result<Ways, Refusal>
+    requires { ReadyStore store.old row }
+    ensures { SameStore store.old store.new × JumpArm store.old.limit (cells_in store.old) (cells_in store.new) (at row store.old.map) x op_not_null result }
 {
-    let map = s.map;
-    let asked = ask(map, area, x.p1)?;
+    let asked = ask(store, x.p1)?;
     if asked.null {
         if asked.kind {
-            return change_both(s, area, x, false, limit);
+            return change_both(store, row, x, false);
         }
-        return go_on(put_default(map, area, x.p1, limit), s.row + 1);
+        put_default(store, x.p1)?;
+        return Ok(go_on(store, row + 1));
     }
     if asked.kind {
-        return branch_at(put_never(map, area, x.p1, limit), x.p2);
+        put_never(store, x.p1)?;
+        return Ok(branch_at(store, x.p2));
     }
     Ok(Ways {
         branch: None,

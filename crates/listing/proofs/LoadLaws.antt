@@ -18,10 +18,9 @@ use Rattle.model.specs.Call.{done_if, rows_of}
 use Rattle.model.proofs.TestLaws.{cases}
 use Rattle.model.proofs.ReaderLaws.{never, some_same}
 use Rattle.area.specs.Cells.{blank, cells}
-use Rattle.area.specs.declared.Cell.{Cell}
 use Rattle.area.proofs.CellLaws.{cells-kept, inside-kept}
 use Rattle.rows.specs.Rows.{parts, cell_of, row_in, IsWritten}
-use Rattle.rows.specs.Judged.{JudgedParts, Judged, HaveRows}
+use Rattle.rows.specs.Judged.{JudgedParts, Judged, HaveRows, HasRow}
 use Rattle.rows.specs.declared.row.Row.{Row}
 use Rattle.rows.proofs.RowLaws.{row_again}
 use Rattle.text.specs.Reads.{Reads}
@@ -65,14 +64,10 @@ module _ {before after : List ℕ} (from room k : ℕ) (r : Row) (p : PutWhere b
 pub room_kept : {entry now : List ℕ} {from room : ℕ} → length now ≡ length entry → Room entry from room → Room now from room
 room_kept {entry} {now} {from} {room} e r = record { inside = λ h. inside-kept entry now from room e (r.inside h) }
 
--- a cell has a row of the listing, and nothing else
-abbrev Placed : Listed → Cell → Type 0
-Placed x c = JudgedParts x (row_in c) × IsWritten c
-
 pub record Loading (t rest entry now : List ℕ) (from room k : ℕ) : Type 0 where
   pub before : List Listed
   pub read : ItemsRead take_row t rest k before
-  pub placed : (i : ℕ) (x : Listed) → i < room → slice_get before i ≡ Some x → Placed x (get_or (cells now) (from + i) blank)
+  pub placed : (i : ℕ) (x : Listed) → i < room → slice_get before i ≡ Some x → HasRow x (get_or (cells now) (from + i) blank)
   pub below : (j : ℕ) → j < from → get_or (cells now) j blank ≡ get_or (cells entry) j blank
   pub above : (j : ℕ) → from + room ≤ j → get_or (cells now) j blank ≡ get_or (cells entry) j blank
   pub bytes : length now ≡ length entry
@@ -94,14 +89,14 @@ module _ {t rest entry now : List ℕ} {from room k : ℕ} (l : Loading t rest e
     read = items_next take_row l.read h j.reads refl;
     placed = λ i x within e.
         last_or_before l.before j.given x i e
-        (λ earlier is. subst (Placed x) (sym (put_other from room k r p (from + i) (λ _ same. omega (arith, l.read.count, earlier, same)))) (l.placed i x within is))
+        (λ earlier is. subst (HasRow x) (sym (put_other from room k r p (from + i) (λ _ same. omega (arith, l.read.count, earlier, same)))) (l.placed i x within is))
         (λ here same.
         let k-is : i ≡ k = here ∙ l.read.count in
         let inside = has.inside (omega arith) in
         let there = put_here from room k r p (omega arith) (omega (arith, inside.within, cells-kept entry now l.bytes)) in
         let cell_is : get_or (cells after) (from + i) blank ≡ cell_of (parts r) = ap (λ n. get_or (cells after) (from + n) blank) k-is ∙ there in
         let row_is : row_in (get_or (cells after) (from + i) blank) ≡ parts r = ap row_in cell_is ∙ row_again (parts r) r.fits in
-        (subst (JudgedParts x) (sym row_is) (subst (λ y. Judged y r) same j.judged), cell_is ∙ ap cell_of (sym row_is)));
+        record { judged = subst (JudgedParts x) (sym row_is) (subst (λ y. Judged y r) same j.judged); written = cell_is ∙ ap cell_of (sym row_is) });
     below = λ i b. put_other from room k r p i (λ _ same. omega (arith, b, same)) ∙ l.below i b;
     above = λ i a. put_other from room k r p i (λ few same. omega (arith, a, few, same)) ∙ l.above i a;
     bytes = p.bytes ∙ l.bytes;
@@ -124,16 +119,16 @@ module _ {t rest entry now : List ℕ} {from room k : ℕ} (l : Loading t rest e
     all_read : read_items take_row t ≡ Some l.before
     all_read = items_end take_row l.read h
 
-    all_placed : (xs : List Listed) → judged 1 2048 (read_items take_row t) ≡ done xs → length xs ≤ room → (i : ℕ) (x : Listed) → slice_get xs i ≡ Some x → Placed x (get_or (cells now) (from + i) blank)
+    all_placed : (xs : List Listed) → judged 1 2048 (read_items take_row t) ≡ done xs → length xs ≤ room → (i : ℕ) (x : Listed) → slice_get xs i ≡ Some x → HasRow x (get_or (cells now) (from + i) blank)
     all_placed xs e fits i x is =
         let all : l.before ≡ xs = done-is (leb (length l.before) 2048) (sym (ap (judged 1 2048) all_read) ∙ e) in
         l.placed i x (omega (arith, slice_get_within xs i x is)) (ap (λ ys. slice_get ys i) all ∙ is)
 
     have_rows : (xs : List Listed) → judged 1 2048 (read_items take_row t) ≡ done xs → length xs ≤ room → HaveRows (cells now) from xs
-    have_rows xs e fits i x is = (all_placed xs e fits i x is).0
+    have_rows xs e fits = all_placed xs e fits
 
     all_written : (xs : List Listed) → judged 1 2048 (read_items take_row t) ≡ done xs → length xs ≤ room → (i : ℕ) → i < length xs → IsWritten (get_or (cells now) (from + i) blank)
-    all_written xs e fits i lt = let there = item_at xs i lt in (all_placed xs e fits i there.0 there.1).1
+    all_written xs e fits i lt = let there = item_at xs i lt in (all_placed xs e fits i there.0 there.1).written
 
     pub load_over : 2048 < k → Loaded t entry now from room (Err TooManyLines)
     unfolding rows_of read_listing

@@ -115,11 +115,13 @@ module _ (limit : ℕ) (cs ds : List Cell) (a : IntMap) (row from n : ℕ) (smal
       next : Inserts cs ds limit a (rekey (class_key 2 row) (span cs from n)) (Ok b)
       next = subst (λ y. Inserts cs ds limit a (rekey (class_key 2 row) (span cs from n)) y) e ins
 
-      pub next_current : IsTable limit cs from n → Current limit ds b
-      next_current is = led_current current b (table_done is.table is.stands b e)
+      -- k is the limit, as the store says it then
+      pub next_current : (k : ℕ) → k ≡ limit → IsTable limit cs from n → Current k ds b
+      next_current k ke is = subst (λ y. Current y ds b) (sym ke) (led_current current b (table_done is.table is.stands b e))
 
-      pub open_done : (es : List Cell) (r : Stored) → Leads limit ds es b r (store_cursor limit (int_of i) (Normal row)) → OpensTable limit cs es a row i from n r
-      open_done es r led =
+      pub open_done : (k : ℕ) → k ≡ limit → (es : List Cell) (r : Stored) → Leads k ds es b r (store_cursor k (int_of i) (Normal row)) → OpensTable limit cs es a row i from n r
+      open_done k ke es r then =
+          let led = subst (λ y. Leads y ds es b r (store_cursor y (int_of i) (Normal row))) ke then in
           record {
             says = λ l p t its bound m le h.
                 subst (Tells limit bound es r) (opened l p t m)

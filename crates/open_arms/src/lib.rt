@@ -9,51 +9,40 @@ ghost use Rattle.intmap.specs.Pack.{class_key};
 ghost use Rattle.intmap.specs.Entries.{span};
 ghost use Rattle.intmap.specs.Change.{rekey};
 ghost use Rattle.intmap.specs.Store.{Inserts, RunAbove};
-ghost use Rattle.state.specs.Leads.{Current};
 ghost use Rattle.state.specs.Arms.{CursorArm};
+ghost use Rattle.state.specs.Stores.{cells_in, IsCurrent, Changes};
 ghost use Rattle.open_arms.specs.Tables.{IsTable, OpensTable, PutsTable};
 
 use area::Cell;
-use intmap::IntMap;
 use refusal::Refusal;
 use rows::Row;
+use state::Store;
 use type_info::DataType;
 
 // Stores the run of n cells at `from`, behind the map, as the row's table. Behind all entries, where it belongs if it is new, nothing moves.
-fn insert_table(
-    map: IntMap,
-    area: &mut [u8],
-    row: u64,
-    from: usize,
-    n: usize,
-    limit: usize,
-) -> Result<IntMap, Refusal>
-    requires { Current limit (cells area.old) map × (row ≤ 65535) × RunAbove (cells area.old) limit map from n }
-    ensures { Inserts (cells area.old) (cells area.new) limit map (rekey (class_key 2 row) (span (cells area.old) from n)) result }
+fn insert_table(store: &mut Store, row: u64, from: usize, n: usize) -> Result<(), Refusal>
+    requires { IsCurrent store.old × (row ≤ 65535) × RunAbove (cells_in store.old) store.old.limit store.old.map from n }
+    ensures { Changes (λ limit cs ds a r. Inserts cs ds limit a (rekey (class_key 2 row) (span cs from n)) r) store.old store.new result }
 {
     let key = intmap::class_key(intmap::Class::Tables, row);
-    let found = state::place_of(map, area, intmap::Class::Tables, row);
+    let found = store.place_of(intmap::Class::Tables, row);
     if found.left == 0 {
-        return map.append_run(area, key, from, n, limit);
+        store.map = store.map.append_run(store.area, key, from, n, store.limit)?;
+        return Ok(());
     }
-    map.insert_run_at(area, found, key, from, n, limit)
+    store.map = store
+        .map
+        .insert_run_at(store.area, found, key, from, n, store.limit)?;
+    Ok(())
 }
 
 // Stores the table whose run of n cells stands at `from`, behind the map, under the row's number, and then cursor i on it.
-pub fn open_table(
-    map: IntMap,
-    area: &mut [u8],
-    row: u64,
-    i: u64,
-    from: usize,
-    n: usize,
-    limit: usize,
-) -> Result<IntMap, Refusal>
-    requires { Current limit (cells area.old) map × (row ≤ 65535) × RunAbove (cells area.old) limit map from n × IsTable limit (cells area.old) from n }
-    ensures { OpensTable limit (cells area.old) (cells area.new) map row i from n result }
+pub fn open_table(store: &mut Store, row: u64, i: u64, from: usize, n: usize) -> Result<(), Refusal>
+    requires { IsCurrent store.old × (row ≤ 65535) × RunAbove (cells_in store.old) store.old.limit store.old.map from n × IsTable store.old.limit (cells_in store.old) from n }
+    ensures { Changes (λ limit cs ds a r. OpensTable limit cs ds a row i from n r) store.old store.new result }
 {
-    let m = insert_table(map, area, row, from, n, limit)?;
-    cursor_arms::store_normal(m, area, i, row, limit)
+    insert_table(store, row, from, n)?;
+    cursor_arms::store_normal(store, i, row)
 }
 
 // Puts the run of an empty table of n columns that may be null at p.
@@ -74,25 +63,19 @@ fn put_table(area: &mut [u8], p: usize, n: usize)
     intmap::from_elem(area, p + 1, c, n);
 }
 
-// OpenEphemeral, OpenAutoindex, SorterOpen: cursor P1 on an empty table of P2 columns. More columns than `limit` are refused before any is written.
-pub fn open_ephemeral(
-    map: IntMap,
-    area: &mut [u8],
-    row: u64,
-    x: Row,
-    limit: usize,
-) -> Result<IntMap, Refusal>
-    requires { Current limit (cells area.old) map × (row ≤ 65535) × (limit ≤ 65536) }
-    ensures { CursorArm limit (cells area.old) (cells area.new) map row x op_open_ephemeral result }
+// OpenEphemeral, OpenAutoindex, SorterOpen: cursor P1 on an empty table of P2 columns. More columns than the limit are refused before any is written.
+pub fn open_ephemeral(store: &mut Store, row: u64, x: Row) -> Result<(), Refusal>
+    requires { IsCurrent store.old × (row ≤ 65535) × (store.old.limit ≤ 65536) }
+    ensures { Changes (λ limit cs ds a r. CursorArm limit cs ds a row x op_open_ephemeral r) store.old store.new result }
 {
     if x.p2 < intmap::ZERO {
         return Err(Refusal::Negative);
     }
     let n = (x.p2 - intmap::ZERO) as usize;
-    if limit <= n {
+    if store.limit <= n {
         return Err(Refusal::TooManyCells);
     }
-    let from = map.base + limit;
-    put_table(area, from, n);
-    open_table(map, area, row, x.p1, from, 1 + n, limit)
+    let from = store.map.base + store.limit;
+    put_table(store.area, from, n);
+    open_table(store, row, x.p1, from, 1 + n)
 }

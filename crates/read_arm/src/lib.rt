@@ -7,7 +7,7 @@ ghost use Rattle.std.specs.Prelude.{◌≡◌, ◌&&◌, ◌+◌, ◌≤◌, pos
 ghost use Rattle.model.specs.Equality.{eq_int};
 ghost use Rattle.area.specs.Cells.{cells};
 ghost use Rattle.intmap.specs.Signed.{int_of};
-ghost use Rattle.state.specs.Leads.{Current};
+ghost use Rattle.state.specs.Stores.{IsCurrent, Changes};
 ghost use Rattle.root_block.specs.Blocks.{IsBlocks};
 ghost use Rattle.read_arm.specs.Gathers.{block_for, at_page, at_database, Gathers, ReadsTable};
 
@@ -15,6 +15,7 @@ use area::Cell;
 use intmap::IntMap;
 use refusal::Refusal;
 use rows::Row;
+use state::Store;
 
 // Whether a record's database and page are the row's.
 fn is_for(db: u64, page: u64, x: Row) -> bool
@@ -96,24 +97,18 @@ fn opened_columns(
 }
 
 // OpenRead, OpenWrite: cursor P1 on the table of page P2 in database P3. It is not known whether it is empty.
-pub fn open_read(
-    map: IntMap,
-    area: &mut [u8],
-    blocks: &[u8],
-    row: u64,
-    x: Row,
-    limit: usize,
-) -> Result<IntMap, Refusal>
-    requires { Current limit (cells area.old) map × (row ≤ 65535) × (limit ≤ 65535) × IsBlocks blocks.now }
-    ensures { ReadsTable limit (cells area.old) (cells area.new) map blocks.now row x result }
+pub fn open_read(store: &mut Store, blocks: &[u8], row: u64, x: Row) -> Result<(), Refusal>
+    requires { IsCurrent store.old × (row ≤ 65535) × (store.old.limit ≤ 65535) × IsBlocks blocks.now }
+    ensures { Changes (λ limit cs ds a r. ReadsTable limit cs ds a blocks.now row x r) store.old store.new result }
 {
+    let limit = store.limit;
     if limit == 0 {
         return Err(Refusal::TooManyCells);
     }
-    let from = map.base + limit;
-    let m = opened_columns(area, blocks, from + 1, x, limit - 1)?;
+    let from = store.map.base + limit;
+    let m = opened_columns(store.area, blocks, from + 1, x, limit - 1)?;
     let head = intmap::pack(intmap::RECORD, 0, state::nullable_code(None), 0);
     let payload = m.len;
-    area::put_cell(area, from, Cell { head, payload });
-    open_arms::open_table(map, area, row, x.p1, from, 1 + m.used, limit)
+    store.put_cell(from, Cell { head, payload });
+    open_arms::open_table(store, row, x.p1, from, 1 + m.used)
 }

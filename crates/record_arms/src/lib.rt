@@ -10,8 +10,9 @@ ghost use Rattle.intmap.specs.Pack.{class_key};
 ghost use Rattle.intmap.specs.Runs.{IsColumn};
 ghost use Rattle.intmap.specs.Signed.{int_of};
 ghost use Rattle.encoding.specs.Heads.{as_column};
-ghost use Rattle.state.specs.Leads.{Held, Current, Leads};
+ghost use Rattle.state.specs.Leads.{Leads};
 ghost use Rattle.state.specs.Arms.{RegisterArm};
+ghost use Rattle.state.specs.Stores.{cells_in, IsHeld, IsCurrent, Changes, Writes};
 ghost use Rattle.record_arms.specs.Records.{JudgesRange, deep_at, any_deep, Flat, Puttable, PutsColumn, PutsColumns, BuildsRecord, record_from};
 ghost use Rattle.record_arms.specs.Over.{TellsSideBySide, Apart, PutsRegisters, PutsRecord, RecordOver};
 
@@ -19,7 +20,7 @@ use area::Cell;
 use intmap::IntMap;
 use refusal::Refusal;
 use rows::Row;
-use state::Registers;
+use state::{Registers, Store};
 use type_info::DataType;
 
 // Where a column goes, and the entries that its register is looked for among: `left` of them from `at` on.
@@ -60,32 +61,32 @@ fn is_deep(area: &[u8], at: usize, c: Cell, first: u64) -> bool
 }
 
 // Whether a record of the entries with keys from `first` on and below `end` nests too deep. Those from `end` on are not looked at.
-fn any_deep(map: IntMap, area: &[u8], first: u64, end: u64) -> bool
-    requires { IsMap (cells area.now) map }
-    ensures { result ≡ any_deep (cells area.now) first end map.len map.base }
+fn any_deep(store: &Store, first: u64, end: u64) -> bool
+    requires { IsMap (cells_in store.now) store.now.map }
+    ensures { result ≡ any_deep (cells_in store.now) first end store.now.map.len store.now.map.base }
 {
-    let mut at = map.base;
-    for _passed in 0..map.len {
-        let c = area::cell_at(area, at);
+    let mut at = store.map.base;
+    for _passed in 0..store.map.len {
+        let c = store.cell_at(at);
         let k = intmap::key_of(c);
         if end <= k {
             return false;
         }
-        if is_deep(area, at, c, first) {
+        if is_deep(store.area, at, c, first) {
             return true;
         }
-        at += intmap::count_from(area, at, c, intmap::LEVELS);
+        at += intmap::count_from(store.area, at, c, intmap::LEVELS);
     }
     false
 }
 
 // Whether a record of these registers nests too deep.
-fn too_deep(map: IntMap, area: &[u8], registers: Registers) -> bool
-    requires { IsMap (cells area.now) map }
-    ensures { result ≡ any_deep (cells area.now) (class_key 0 registers.first) (class_key 0 (registers.first + registers.count)) map.len map.base }
+fn too_deep(store: &Store, registers: Registers) -> bool
+    requires { IsMap (cells_in store.now) store.now.map }
+    ensures { result ≡ any_deep (cells_in store.now) (class_key 0 registers.first) (class_key 0 (registers.first + registers.count)) store.now.map.len store.now.map.base }
 {
     let first = intmap::class_key(intmap::Class::Registers, 0) + registers.first;
-    any_deep(map, area, first, first + registers.count)
+    any_deep(store, first, first + registers.count)
 }
 
 // A register's head as that of a column: a known number is an Integer that is never null.
@@ -158,21 +159,17 @@ fn put_columns(
 }
 
 // Builds the record of the registers at the beginning of the room behind the map, unless it takes more than `limit` cells.
-fn build_record(map: IntMap, area: &mut [u8], registers: Registers, limit: usize) -> Option<usize>
-    requires { Current limit (cells area.old) map × (0 < limit) × ((k : ℕ) → registers.first ≤ k → k < registers.first + registers.count → Flat k (runs_at (cells area.old) map)) }
-    ensures { BuildsRecord (cells area.old) (cells area.new) map registers.first registers.count limit result }
+fn build_record(store: &mut Store, registers: Registers) -> Option<usize>
+    requires { IsCurrent store.old × (0 < store.old.limit) × ((k : ℕ) → registers.first ≤ k → k < registers.first + registers.count → Flat k (runs_at (cells_in store.old) store.old.map)) }
+    ensures { Writes (λ cs ds a. BuildsRecord cs ds a registers.first registers.count store.old.limit result) store.old store.new }
 {
-    let p = map.base + limit;
-    let _ = put_columns(map, area, registers, p + 1, p + limit)?;
+    let map = store.map;
+    let p = map.base + store.limit;
+    let end = p + store.limit;
+    let _ = put_columns(map, store.area, registers, p + 1, end)?;
     let head = intmap::RECORD;
-    area::put_cell(
-        area,
-        p,
-        Cell {
-            head,
-            payload: registers.count,
-        },
-    );
+    let payload = registers.count;
+    store.put_cell(p, Cell { head, payload });
     Some(p)
 }
 
@@ -255,9 +252,9 @@ fn put_record(area: &mut [u8], end: usize, p: usize, q: usize, registers: Regist
 }
 
 // Puts the record of the registers over the one in register i, if that can be done where they stand. Says whether it did.
-fn record_over(map: IntMap, area: &mut [u8], registers: Registers, i: u64) -> bool
-    requires { Held (cells area.old) map }
-    ensures { RecordOver (cells area.old) (cells area.new) map registers.first registers.count i result }
+fn record_over(store: &mut Store, registers: Registers, i: u64) -> bool
+    requires { IsHeld store.old }
+    ensures { Writes (λ cs ds a. RecordOver cs ds a registers.first registers.count i result) store.old store.new }
 {
     if registers.count == 0 {
         return false;
@@ -265,64 +262,53 @@ fn record_over(map: IntMap, area: &mut [u8], registers: Registers, i: u64) -> bo
     let Ok(k) = intmap::judge_index(i) else {
         return false;
     };
-    let Some(q) = state::entry_at(map, area, intmap::Class::Registers, k) else {
+    let Some(q) = store.entry_at(intmap::Class::Registers, k) else {
         return false;
     };
-    let Some(p) = state::entry_at(map, area, intmap::Class::Registers, registers.first) else {
+    let Some(p) = store.entry_at(intmap::Class::Registers, registers.first) else {
         return false;
     };
-    put_record(area, map.base + map.used, p, q, registers)
+    let end = store.map.base + store.map.used;
+    put_record(store.area, end, p, q, registers)
 }
 
 // Stores the record of the registers in register i. Depth is judged before anything is built, and so are more than `limit` columns.
-fn store_behind(
-    map: IntMap,
-    area: &mut [u8],
-    registers: Registers,
-    i: u64,
-    limit: usize,
-) -> Result<IntMap, Refusal>
-    requires { Current limit (cells area.old) map }
-    ensures { Leads limit (cells area.old) (cells area.new) map result (record_from limit registers.count registers.first (int_of i)) }
+fn store_behind(store: &mut Store, registers: Registers, i: u64) -> Result<(), Refusal>
+    requires { IsCurrent store.old }
+    ensures { Changes (λ limit cs ds a r. Leads limit cs ds a r (record_from limit registers.count registers.first (int_of i))) store.old store.new result }
 {
     let _ = intmap::judge_index(i)?;
-    if too_deep(map, area, registers) {
+    if too_deep(store, registers) {
         return Err(Refusal::TooDeep);
     }
-    if limit as u64 <= registers.count {
+    if store.limit as u64 <= registers.count {
         return Err(Refusal::TooManyCells);
     }
-    let Some(p) = build_record(map, area, registers, limit) else {
+    let Some(p) = build_record(store, registers) else {
         return Err(Refusal::TooManyCells);
     };
-    map.store_run(area, intmap::Class::Registers, i, p, limit)
+    store.store_run(intmap::Class::Registers, i, p)
 }
 
 // The same, at once where it can be put over another.
-fn store_record(
-    map: IntMap,
-    area: &mut [u8],
-    registers: Registers,
-    i: u64,
-    limit: usize,
-) -> Result<IntMap, Refusal>
-    requires { Current limit (cells area.old) map }
-    ensures { Leads limit (cells area.old) (cells area.new) map result (record_from limit registers.count registers.first (int_of i)) }
+fn store_record(store: &mut Store, registers: Registers, i: u64) -> Result<(), Refusal>
+    requires { IsCurrent store.old }
+    ensures { Changes (λ limit cs ds a r. Leads limit cs ds a r (record_from limit registers.count registers.first (int_of i))) store.old store.new result }
 {
-    if record_over(map, area, registers, i) {
-        return Ok(map);
+    if record_over(store, registers, i) {
+        return Ok(());
     }
-    store_behind(map, area, registers, i, limit)
+    store_behind(store, registers, i)
 }
 
 // MakeRecord: register P3 becomes the record of P2 registers from P1 on.
-pub fn make_record(map: IntMap, area: &mut [u8], x: Row, limit: usize) -> Result<IntMap, Refusal>
-    requires { Current limit (cells area.old) map }
-    ensures { RegisterArm limit (cells area.old) (cells area.new) map x op_make_record result }
+pub fn make_record(store: &mut Store, x: Row) -> Result<(), Refusal>
+    requires { IsCurrent store.old }
+    ensures { Changes (λ limit cs ds a r. RegisterArm limit cs ds a x op_make_record r) store.old store.new result }
 {
     if x.p2 < intmap::ZERO {
         return Err(Refusal::Negative);
     }
     let registers = judge_range(x.p1, x.p2 - intmap::ZERO)?;
-    store_record(map, area, registers, x.p3, limit)
+    store_record(store, registers, x.p3)
 }

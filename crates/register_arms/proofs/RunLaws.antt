@@ -3,7 +3,7 @@
 use Rattle.std.specs.Prelude.{Ok, Some}
 use Rattle.intmap.specs.Store.{Stored}
 use mathlib.Core.Path.{◌≡◌, refl, sym, ap, ap₂, subst, ◌∙◌}
-use mathlib.Core.Bool.{Bool, true, false}
+use mathlib.Core.Bool.{Bool, true}
 use mathlib.Core.List.{List}
 use Prim.Native.Nat.{ℕ, zero, suc, ◌+◌, ◌-◌, ◌<◌, ◌≤◌}
 use native.Mathlib.Omega.{arith}
@@ -96,9 +96,6 @@ nulling_first limit cs a p from n current x gets e =
     record { run = run_none limit cs a from n current; current = current; low = omega (arith, g.place.0); most = omega (arith, g.place.1) }
 
 module _ {limit : ℕ} {cs ds : List Cell} {a : IntMap} {p from n d : ℕ} (nulling : Nulling limit cs ds a p from n d) {es : List Cell} {c : Cell} {r : Bool} (over : Overwrites ds es a (p + d) (from + d) c r) where
-  pub nulling_stop : r ≡ false → NullsRun limit cs es a from n d
-  nulling_stop e = subst (λ l. NullsRun limit cs l a from n d) (sym (over.no e)) nulling.run
-
   pub nulling_on : Current limit cs a → d < n → c ≡ single (datatype_code Null) (nullable_code (Some true)) 0 → r ≡ true → Nulling limit cs es a p from n (d + 1)
   nulling_on current lt ce e =
       let step : Leads limit ds es a (Ok a) (store_register limit (int_of (from + d)) (Column null)) = cell_leads (over.yes e limit nulling.current.room) (single_leads limit ds es a (from + d) (Ok a) Null (Some true) c ce) in

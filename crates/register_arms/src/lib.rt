@@ -12,6 +12,7 @@ ghost use Rattle.area.specs.Cells.{cells};
 ghost use Rattle.intmap.specs.Signed.{int_of};
 ghost use Rattle.state.specs.Leads.{Current, Leads};
 ghost use Rattle.state.specs.Arms.{RegisterArm};
+ghost use Rattle.state.specs.Stores.{IsCurrent, Changes};
 ghost use Rattle.register_arms.specs.Nulls.{NullsRun};
 ghost use Rattle.register_arms.specs.Values.{IsDatatype, IsNullable, AreNullable};
 
@@ -19,37 +20,31 @@ use intmap::IntMap;
 use opcode::{Aggregate, FunctionValue};
 use refusal::Refusal;
 use rows::Row;
-use state::Register;
+use state::{Register, Store};
 use type_info::DataType;
 
 // Integer: the number P1 in register P2.
-pub fn integer(map: IntMap, area: &mut [u8], x: Row, limit: usize) -> Result<IntMap, Refusal>
-    requires { Current limit (cells area.old) map }
-    ensures { RegisterArm limit (cells area.old) (cells area.new) map x op_integer result }
+pub fn integer(store: &mut Store, x: Row) -> Result<(), Refusal>
+    requires { IsCurrent store.old }
+    ensures { Changes (λ limit cs ds a r. RegisterArm limit cs ds a x op_integer r) store.old store.new result }
 {
-    state::store_int(map, area, x.p2, x.p1, limit)
+    store.store_int(x.p2, x.p1)
 }
 
 // The operations that store a value of a known kind in register P2.
-pub fn constant(
-    map: IntMap,
-    area: &mut [u8],
-    x: Row,
-    d: DataType,
-    limit: usize,
-) -> Result<IntMap, Refusal>
-    requires { Current limit (cells area.old) map }
-    ensures { RegisterArm limit (cells area.old) (cells area.new) map x (op_constant d) result }
+pub fn constant(store: &mut Store, x: Row, d: DataType) -> Result<(), Refusal>
+    requires { IsCurrent store.old }
+    ensures { Changes (λ limit cs ds a r. RegisterArm limit cs ds a x (op_constant d) r) store.old store.new result }
 {
-    state::store_single(map, area, x.p2, d, Some(false), limit)
+    store.store_single(x.p2, d, Some(false))
 }
 
 // Variable: a parameter may be null, and its kind is not known.
-pub fn variable(map: IntMap, area: &mut [u8], x: Row, limit: usize) -> Result<IntMap, Refusal>
-    requires { Current limit (cells area.old) map }
-    ensures { RegisterArm limit (cells area.old) (cells area.new) map x op_variable result }
+pub fn variable(store: &mut Store, x: Row) -> Result<(), Refusal>
+    requires { IsCurrent store.old }
+    ensures { Changes (λ limit cs ds a r. RegisterArm limit cs ds a x op_variable r) store.old store.new result }
 {
-    state::store_single(map, area, x.p2, DataType::Null, Some(true), limit)
+    store.store_single(x.p2, DataType::Null, Some(true))
 }
 
 // Without arguments, where P2 is 0, the value is never null.
@@ -60,29 +55,21 @@ fn nullable_by(p2: u64) -> Option<bool>
 }
 
 // Function: the value of a built-in function in register P3; an unknown function changes nothing.
-pub fn function(map: IntMap, area: &mut [u8], x: Row, limit: usize) -> Result<IntMap, Refusal>
-    requires { Current limit (cells area.old) map }
-    ensures { RegisterArm limit (cells area.old) (cells area.new) map x op_function result }
+pub fn function(store: &mut Store, x: Row) -> Result<(), Refusal>
+    requires { IsCurrent store.old }
+    ensures { Changes (λ limit cs ds a r. RegisterArm limit cs ds a x op_function r) store.old store.new result }
 {
     let Some(p4) = x.read_p4() else {
         return Err(Refusal::NotUtf8);
     };
     let Some(value) = p4.function else {
-        return Ok(map);
+        return Ok(());
     };
     match value {
-        FunctionValue::Rowid => {
-            state::store_single(map, area, x.p3, DataType::Integer, Some(false), limit)
-        }
-        FunctionValue::Text => {
-            state::store_single(map, area, x.p3, DataType::Text, nullable_by(x.p2), limit)
-        }
-        FunctionValue::Days => {
-            state::store_single(map, area, x.p3, DataType::Float, nullable_by(x.p2), limit)
-        }
-        FunctionValue::Seconds => {
-            state::store_single(map, area, x.p3, DataType::Integer, nullable_by(x.p2), limit)
-        }
+        FunctionValue::Rowid => { store.store_single(x.p3, DataType::Integer, Some(false)) }
+        FunctionValue::Text => { store.store_single(x.p3, DataType::Text, nullable_by(x.p2)) }
+        FunctionValue::Days => { store.store_single(x.p3, DataType::Float, nullable_by(x.p2)) }
+        FunctionValue::Seconds => { store.store_single(x.p3, DataType::Integer, nullable_by(x.p2)) }
     }
 }
 
@@ -142,14 +129,14 @@ pub fn operands_nullable(a: Option<Register>, b: Option<Register>) -> Option<boo
 }
 
 // The operations on two operands: the kind of the first, unless it is Null, in register P3.
-pub fn arithmetic(map: IntMap, area: &mut [u8], x: Row, limit: usize) -> Result<IntMap, Refusal>
-    requires { Current limit (cells area.old) map }
-    ensures { RegisterArm limit (cells area.old) (cells area.new) map x op_arithmetic result }
+pub fn arithmetic(store: &mut Store, x: Row) -> Result<(), Refusal>
+    requires { IsCurrent store.old }
+    ensures { Changes (λ limit cs ds a r. RegisterArm limit cs ds a x op_arithmetic r) store.old store.new result }
 {
-    let a = state::read_register(map, area, x.p1)?;
-    let b = state::read_register(map, area, x.p2)?;
+    let a = store.read_register(x.p1)?;
+    let b = store.read_register(x.p2)?;
     let d = first_datatype(map_to_datatype(a), map_to_datatype(b));
-    state::store_single(map, area, x.p3, d, operands_nullable(a, b), limit)
+    store.store_single(x.p3, d, operands_nullable(a, b))
 }
 
 // The kind of a sum.
@@ -172,78 +159,65 @@ fn sum_datatype(d: DataType) -> DataType
 }
 
 // The sum of register `from` in register `to`, if there is an operand.
-fn sum(map: IntMap, area: &mut [u8], from: u64, to: u64, limit: usize) -> Result<IntMap, Refusal>
-    requires { Current limit (cells area.old) map }
-    ensures { Leads limit (cells area.old) (cells area.new) map result (copy_to limit (int_of from) (int_of to) summed) }
+fn sum(store: &mut Store, from: u64, to: u64) -> Result<(), Refusal>
+    requires { IsCurrent store.old }
+    ensures { Changes (λ limit cs ds a r. Leads limit cs ds a r (copy_to limit (int_of from) (int_of to) summed)) store.old store.new result }
 {
-    let v = state::read_register(map, area, from)?;
+    let v = store.read_register(from)?;
     if v.is_none() {
-        return Ok(map);
+        return Ok(());
     }
     let d = sum_datatype(map_to_datatype(v));
-    state::store_single(map, area, to, d, map_to_nullable(v), limit)
+    store.store_single(to, d, map_to_nullable(v))
 }
 
 // The kind of register `from` in register `to`: another row's value is null where there is no such row.
-fn other_row(
-    map: IntMap,
-    area: &mut [u8],
-    from: u64,
-    to: u64,
-    limit: usize,
-) -> Result<IntMap, Refusal>
-    requires { Current limit (cells area.old) map }
-    ensures { Leads limit (cells area.old) (cells area.new) map result (copy_to limit (int_of from) (int_of to) from_other_row) }
+fn other_row(store: &mut Store, from: u64, to: u64) -> Result<(), Refusal>
+    requires { IsCurrent store.old }
+    ensures { Changes (λ limit cs ds a r. Leads limit cs ds a r (copy_to limit (int_of from) (int_of to) from_other_row)) store.old store.new result }
 {
-    let v = state::read_register(map, area, from)?;
+    let v = store.read_register(from)?;
     if v.is_none() {
-        return Ok(map);
+        return Ok(());
     }
-    state::store_single(map, area, to, map_to_datatype(v), Some(true), limit)
+    store.store_single(to, map_to_datatype(v), Some(true))
 }
 
 // AggStep and AggValue: what the aggregate gives in register P3. An operand may be a record.
-pub fn agg_step(map: IntMap, area: &mut [u8], x: Row, limit: usize) -> Result<IntMap, Refusal>
-    requires { Current limit (cells area.old) map }
-    ensures { RegisterArm limit (cells area.old) (cells area.new) map x op_agg_step result }
+pub fn agg_step(store: &mut Store, x: Row) -> Result<(), Refusal>
+    requires { IsCurrent store.old }
+    ensures { Changes (λ limit cs ds a r. RegisterArm limit cs ds a x op_agg_step r) store.old store.new result }
 {
     let Some(p4) = x.read_p4() else {
         return Err(Refusal::NotUtf8);
     };
     match p4.aggregate {
-        Aggregate::Integer => {
-            state::store_single(map, area, x.p3, DataType::Integer, Some(false), limit)
-        }
-        Aggregate::Real => {
-            state::store_single(map, area, x.p3, DataType::Float, Some(false), limit)
-        }
-        Aggregate::Sum => sum(map, area, x.p2, x.p3, limit),
-        Aggregate::OtherRow => other_row(map, area, x.p2, x.p3, limit),
-        Aggregate::Operand => copy_arms::copy_register(map, area, x.p2, x.p3, limit),
+        Aggregate::Integer => { store.store_single(x.p3, DataType::Integer, Some(false)) }
+        Aggregate::Real => { store.store_single(x.p3, DataType::Float, Some(false)) }
+        Aggregate::Sum => sum(store, x.p2, x.p3),
+        Aggregate::OtherRow => other_row(store, x.p2, x.p3),
+        Aggregate::Operand => copy_arms::copy_register(store, x.p2, x.p3),
     }
 }
 
 // AggFinal: an integer goes to register P1, a real to register P3; a sum and an operand stay as they are.
-pub fn agg_final(map: IntMap, area: &mut [u8], x: Row, limit: usize) -> Result<IntMap, Refusal>
-    requires { Current limit (cells area.old) map }
-    ensures { RegisterArm limit (cells area.old) (cells area.new) map x op_agg_final result }
+pub fn agg_final(store: &mut Store, x: Row) -> Result<(), Refusal>
+    requires { IsCurrent store.old }
+    ensures { Changes (λ limit cs ds a r. RegisterArm limit cs ds a x op_agg_final r) store.old store.new result }
 {
     let Some(p4) = x.read_p4() else {
         return Err(Refusal::NotUtf8);
     };
     match p4.aggregate {
-        Aggregate::Integer => {
-            state::store_single(map, area, x.p1, DataType::Integer, Some(false), limit)
-        }
-        Aggregate::Real => {
-            state::store_single(map, area, x.p3, DataType::Float, Some(false), limit)
-        }
-        Aggregate::OtherRow => other_row(map, area, x.p2, x.p3, limit),
-        Aggregate::Sum | Aggregate::Operand => Ok(map),
+        Aggregate::Integer => { store.store_single(x.p1, DataType::Integer, Some(false)) }
+        Aggregate::Real => { store.store_single(x.p3, DataType::Float, Some(false)) }
+        Aggregate::OtherRow => other_row(store, x.p2, x.p3),
+        Aggregate::Sum | Aggregate::Operand => Ok(()),
     }
 }
 
-// Null in the registers from `from` on where they stand side by side as plain cells, at most n. Gives how many.
+// Null in the registers from `from` on where they stand side by side as plain cells, at most n. Gives how many. Over the words of the map: read of
+// the store at each turn they were never faster, and slower by the place of the code.
 fn null_run(map: IntMap, area: &mut [u8], from: u64, n: u64, limit: usize) -> u64
     requires { Current limit (cells area.old) map × (from + n < 18446744073709551616) }
     ensures { NullsRun limit (cells area.old) (cells area.new) map from n result }
@@ -262,33 +236,26 @@ fn null_run(map: IntMap, area: &mut [u8], from: u64, n: u64, limit: usize) -> u6
 
 // Null in n registers from `from` on, first those that stand side by side; a refusal ends it. Each turn leaves one more register of the range
 // present, which is at least a cell, so that the turns are at most one more than the limit, however many n are.
-fn null_many(
-    map: IntMap,
-    area: &mut [u8],
-    from: u64,
-    n: u64,
-    limit: usize,
-) -> Result<IntMap, Refusal>
-    requires { Current limit (cells area.old) map × (from + n < 18446744073709551616) }
-    ensures { Leads limit (cells area.old) (cells area.new) map result (null_many limit n (int_of from)) }
+fn null_many(store: &mut Store, from: u64, n: u64) -> Result<(), Refusal>
+    requires { IsCurrent store.old × (from + n < 18446744073709551616) }
+    ensures { Changes (λ limit cs ds a r. Leads limit cs ds a r (null_many limit n (int_of from))) store.old store.new result }
 {
-    let first = null_run(map, area, from, n, limit);
-    let mut held = map;
+    let first = null_run(store.map, store.area, from, n, store.limit);
     for i in from + first..from + n {
-        held = state::store_single(held, area, i, DataType::Null, Some(true), limit)?;
+        store.store_single(i, DataType::Null, Some(true))?;
     }
-    Ok(held)
+    Ok(())
 }
 
 // Null: null in the registers from P2 to P3, or in P2 alone.
-pub fn null(map: IntMap, area: &mut [u8], x: Row, limit: usize) -> Result<IntMap, Refusal>
-    requires { Current limit (cells area.old) map }
-    ensures { RegisterArm limit (cells area.old) (cells area.new) map x op_null result }
+pub fn null(store: &mut Store, x: Row) -> Result<(), Refusal>
+    requires { IsCurrent store.old }
+    ensures { Changes (λ limit cs ds a r. RegisterArm limit cs ds a x op_null r) store.old store.new result }
 {
     if x.p2 < x.p3 {
-        return null_many(map, area, x.p2, x.p3 - x.p2 + 1, limit);
+        return null_many(store, x.p2, x.p3 - x.p2 + 1);
     }
-    null_many(map, area, x.p2, 1, limit)
+    null_many(store, x.p2, 1)
 }
 
 // The low byte of the number that the word stands for: the offset is a multiple of 256.
@@ -299,29 +266,27 @@ fn low_byte(w: u64) -> u8
 }
 
 // Cast: the kind of the affinity in P2's low byte in register P1, if something is there; whether it is null stays.
-pub fn cast(map: IntMap, area: &mut [u8], x: Row, limit: usize) -> Result<IntMap, Refusal>
-    requires { Current limit (cells area.old) map }
-    ensures { RegisterArm limit (cells area.old) (cells area.new) map x op_cast result }
+pub fn cast(store: &mut Store, x: Row) -> Result<(), Refusal>
+    requires { IsCurrent store.old }
+    ensures { Changes (λ limit cs ds a r. RegisterArm limit cs ds a x op_cast r) store.old store.new result }
 {
-    let v = state::read_register(map, area, x.p1)?;
+    let v = store.read_register(x.p1)?;
     if v.is_none() {
-        return Ok(map);
+        return Ok(());
     }
     let d = opcode::affinity_to_type(low_byte(x.p2));
-    state::store_single(map, area, x.p1, d, map_to_nullable(v), limit)
+    store.store_single(x.p1, d, map_to_nullable(v))
 }
 
 // HaltIfNull: behind it a plain column in register P3 is not null; what else is there stays.
-pub fn halt_if_null(map: IntMap, area: &mut [u8], x: Row, limit: usize) -> Result<IntMap, Refusal>
-    requires { Current limit (cells area.old) map }
-    ensures { RegisterArm limit (cells area.old) (cells area.new) map x op_halt_if_null result }
+pub fn halt_if_null(store: &mut Store, x: Row) -> Result<(), Refusal>
+    requires { IsCurrent store.old }
+    ensures { Changes (λ limit cs ds a r. RegisterArm limit cs ds a x op_halt_if_null r) store.old store.new result }
 {
-    match state::read_register(map, area, x.p3)? {
-        None => Ok(map),
-        Some(Register::Single(d, _)) => {
-            state::store_single(map, area, x.p3, d, Some(false), limit)
-        }
-        Some(Register::Record(_)) => Ok(map),
-        Some(Register::Int(_)) => Ok(map),
+    match store.read_register(x.p3)? {
+        None => Ok(()),
+        Some(Register::Single(d, _)) => { store.store_single(x.p3, d, Some(false)) }
+        Some(Register::Record(_)) => Ok(()),
+        Some(Register::Int(_)) => Ok(()),
     }
 }

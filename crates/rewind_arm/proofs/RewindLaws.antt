@@ -1,7 +1,7 @@
 -- Rewind by the emptiness of the cursor's table, and by the cursor that was read. Assumes nothing.
 use Rattle.refusal.specs.Numbers.{number_of}
 use Rattle.refusal.specs.declared.Refusal.{Refusal}
-use mathlib.Core.Path.{◌≡◌, refl, sym, ap, subst, ◌∙◌}
+use mathlib.Core.Path.{◌≡◌, refl, sym, ap, subst, ◌∙◌, ap₂}
 use mathlib.Core.Bool.{Bool, true, false, not}
 use Rattle.std.specs.Prelude.{Option, None, Some, Ok, Err}
 use mathlib.Core.List.{List, [], ◌∷◌}
@@ -30,13 +30,18 @@ use Rattle.state.specs.Leads.{Current}
 use Rattle.state.specs.Steps.{HoldsState, Offered, TellsStep, JumpArm, Step, offered}
 use Rattle.state.specs.declared.MemoryState.{MemoryState}
 use Rattle.state.proofs.LeadsLaws.{unchanged}
-use Rattle.jump_arms.specs.Arms.{at, Puts, BothArm}
+use Rattle.jump_arms.specs.Arms.{at, Puts, BothArm, both_at}
 use Rattle.jump_arms.proofs.StepLaws.{zero_word, other_word, held_at, held_next, ends_here, goes_on_lem, branches_only, lies_here}
 use Rattle.jump_arms.proofs.BothLaws.{behind_room, state_room, both_arm}
 use Rattle.cursor_arms.specs.Cursors.{Reading, ReadsCursor}
 use Rattle.cursor_arms.specs.StandsFor.{TellsEmpty, CursorTableChanged}
 use Rattle.cursor_arms.specs.declared.CursorDataType.TheVariants as cursor
 use Rattle.rewind_arm.specs.Rewinds.{RewindsTable}
+use Rattle.state.specs.declared.Ways.{Ways}
+
+-- both ways, as the code has them
+pub both_offered : {v : Ways} {b : MemoryState} {p w : ℕ} {a c d : IntMap} → v ≡ both_at b w d → (b.map ≡ c) × (b.row ≡ p) → c ≡ a → offered (Some (at p a)) (Some (at w d)) ≡ Ok v
+both_offered {w} {d} is told same = sym (ap Ok (is ∙ ap₂ (λ q m. both_at (at q m) w d) told.1 (told.0 ∙ same)))
 
 -- ---- what the definition offers, by the emptiness
 

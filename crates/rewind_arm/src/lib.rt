@@ -4,71 +4,52 @@
 
 ghost use Rattle.std.specs.Prelude.{◌≤◌, Ok};
 ghost use Rattle.model.specs.Operation.{op_rewind};
-ghost use Rattle.area.specs.Cells.{cells};
+ghost use Rattle.state.specs.Stores.{cells_in, SameStore};
 ghost use Rattle.state.specs.Steps.{JumpArm};
-ghost use Rattle.jump_arms.specs.Arms.{Ready};
+ghost use Rattle.jump_arms.specs.Arms.{at, ReadyStore};
 ghost use Rattle.rewind_arm.specs.Rewinds.{RewindsTable};
 
 use cursor_arms::CursorDataType;
 use refusal::Refusal;
 use rows::Row;
-use state::{MemoryState, Ways};
+use state::{Store, Ways};
 
 // The arm on the table that a row opened. Where it is not known whether the table is empty, the state that goes on keeps it so, and the
 // branch, in which it is empty, is built in the room behind the map.
-fn rewind_table(s: MemoryState, area: &mut [u8], x: Row, row: u64, limit: usize) -> Ways
-    requires { Ready limit (cells area.old) s × (row ≤ 65535) }
-    ensures { RewindsTable limit (cells area.old) (cells area.new) s x row (Ok result) }
+fn rewind_table(store: &mut Store, row: u64, x: Row, opened: u64) -> Ways
+    requires { ReadyStore store.old row × (opened ≤ 65535) }
+    ensures { SameStore store.old store.new × RewindsTable store.old.limit (cells_in store.old) (cells_in store.new) (at row store.old.map) x opened (Ok result) }
 {
-    let map = s.map;
-    let p = CursorDataType::Normal(row);
-    let on = Some(MemoryState {
-        row: s.row + 1,
-        map,
-    });
-    match p.is_empty(map, area) {
-        Some(false) => Ways {
-            branch: None,
-            stays: on,
-        },
-        Some(true) => {
-            let branch = Some(MemoryState { row: x.p2, map });
-            Ways {
-                branch,
-                stays: None,
-            }
-        }
+    let p = CursorDataType::Normal(opened);
+    match p.is_empty(store) {
+        Some(false) => jump_arms::go_on(store, row + 1),
+        Some(true) => jump_arms::branch_at(store, x.p2),
         None => {
-            let map = map.copy_to(area, map.base + limit);
-            p.set_empty(map, area, Some(true));
-            let branch = Some(MemoryState { row: x.p2, map });
-            Ways { branch, stays: on }
+            let map = store.map;
+            let limit = store.limit;
+            store.map = map.copy_to(store.area, map.base + limit);
+            p.set_empty(store, Some(true));
+            let branch = store.at(x.p2);
+            store.map = map;
+            jump_arms::branch_and_go(branch, store, row + 1)
         }
     }
 }
 
 // Rewind, Last, Sort, SorterSort. A pseudo cursor is never empty.
-pub fn rewind(s: MemoryState, area: &mut [u8], x: Row, limit: usize) -> Result<Ways, Refusal>
-    requires { Ready limit (cells area.old) s }
-    ensures { JumpArm limit (cells area.old) (cells area.new) s x op_rewind result }
+pub fn rewind(store: &mut Store, row: u64, x: Row) -> Result<Ways, Refusal>
+    requires { ReadyStore store.old row }
+    ensures { SameStore store.old store.new × JumpArm store.old.limit (cells_in store.old) (cells_in store.new) (at row store.old.map) x op_rewind result }
 {
-    let map = s.map;
-    let on = Ways {
-        branch: None,
-        stays: Some(MemoryState {
-            row: s.row + 1,
-            map,
-        }),
-    };
     if x.p2 == intmap::ZERO {
-        return Ok(on);
+        return Ok(jump_arms::go_on(store, row + 1));
     }
-    match cursor_arms::read_cursor(map, area, x.p1)? {
+    match cursor_arms::read_cursor(store, x.p1)? {
         None => Ok(Ways {
             branch: None,
             stays: None,
         }),
-        Some(CursorDataType::Normal(row)) => Ok(rewind_table(s, area, x, row, limit)),
-        Some(CursorDataType::Pseudo(_)) => Ok(on),
+        Some(CursorDataType::Normal(opened)) => Ok(rewind_table(store, row, x, opened)),
+        Some(CursorDataType::Pseudo(_)) => Ok(jump_arms::go_on(store, row + 1)),
     }
 }

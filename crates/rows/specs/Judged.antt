@@ -10,7 +10,7 @@ use Rattle.intmap.specs.Signed.{int_of}
 use Rattle.opcode.specs.Opcode.{IsOpcode}
 use Rattle.opcode.specs.P4.{Judges}
 use Rattle.rows.specs.Parts.{Parts, Fits}
-use Rattle.rows.specs.Rows.{parts, p4_number, p4_at, row_in}
+use Rattle.rows.specs.Rows.{parts, p4_number, p4_at, row_in, IsWritten}
 use Rattle.rows.specs.declared.row.Row.{Row}
 
 -- a row of the listing, its operands given as words
@@ -32,9 +32,14 @@ pub record JudgedParts (x : Listed) (r : Parts) : Type 0 where
 abbrev pub Judged : Listed → Row → Type 0
 Judged x r = JudgedParts x (parts r)
 
+-- a cell has a row of the listing, and is the one that is written for it
+pub record HasRow (x : Listed) (c : Cell) : Type 0 where
+  pub judged : JudgedParts x (row_in c)
+  pub written : IsWritten c
+
 -- the cells from `from` on have the listing's rows
 abbrev pub HaveRows : List Cell → ℕ → List Listed → Type 0
-HaveRows cs from rows = (i : ℕ) (x : Listed) → slice_get rows i ≡ Some x → JudgedParts x (row_in (get_or cs (from + i) blank))
+HaveRows cs from rows = (i : ℕ) (x : Listed) → slice_get rows i ≡ Some x → HasRow x (get_or cs (from + i) blank)
 
 -- the n cells from `from` on are there, and have the rows of some listing
 pub record SomeRows (cs : List Cell) (from n : ℕ) : Type 0 where

@@ -4,3 +4,4 @@ pub mod Arms
 pub mod Steps
 pub mod Own
 pub mod Over
+pub mod Stores

@@ -18,11 +18,13 @@ ghost use Rattle.state.specs.Over.{IsHead, OverEntry, OverRegister};
 ghost use Rattle.state.specs.Reads.{register_in, Reads};
 
 mod registers;
+mod store;
 
 use area::Cell;
 use intmap::{Class, Found, IntMap};
 use refusal::Refusal;
 pub use registers::Registers;
+pub use store::Store;
 use type_info::DataType;
 
 // A state: the map of its registers, cursors and tables, and the next row, where 2^63 stands for row 0. The map first: the machine reads it
@@ -463,7 +465,7 @@ fn put_plain(area: &mut [u8], p: usize, key: u64, c: Cell) -> bool
 }
 
 // Writes c over the cell of index i in a class, if there is one and it is no record's. Says whether it was.
-pub fn overwrite_own(map: IntMap, area: &mut [u8], class: Class, i: u64, c: Cell) -> bool
+fn overwrite_own(map: IntMap, area: &mut [u8], class: Class, i: u64, c: Cell) -> bool
     requires { Held (cells area.old) map × (tag_of c ≡ 2 → ⊥) }
     ensures { OverwritesOwn (cells area.old) (cells area.new) map (class_number class) i c result }
 {
@@ -479,7 +481,7 @@ pub fn overwrite_own(map: IntMap, area: &mut [u8], class: Class, i: u64, c: Cell
 
 // Puts the record at `at` of the map, with c for its head, over the one of place k in a class, if both have as many columns, of one cell each. Says
 // whether it did: then the map is as it was.
-pub fn over_entry(map: IntMap, area: &mut [u8], at: usize, c: Cell, class: Class, k: u64) -> bool
+fn over_entry(map: IntMap, area: &mut [u8], at: usize, c: Cell, class: Class, k: u64) -> bool
     requires { Held (cells area.old) map × IsHead (cells area.old) at c × (k ≤ 65535) }
     ensures { OverEntry (cells area.old) (cells area.new) map at c (class_number class) k result }
 {
@@ -490,7 +492,7 @@ pub fn over_entry(map: IntMap, area: &mut [u8], at: usize, c: Cell, class: Class
 }
 
 // The same over the record in register i.
-pub fn over_register(map: IntMap, area: &mut [u8], at: usize, c: Cell, i: u64) -> bool
+fn over_register(map: IntMap, area: &mut [u8], at: usize, c: Cell, i: u64) -> bool
     requires { Held (cells area.old) map × IsHead (cells area.old) at c }
     ensures { OverRegister (cells area.old) (cells area.new) map at c i result }
 {
@@ -504,7 +506,7 @@ pub fn over_register(map: IntMap, area: &mut [u8], at: usize, c: Cell, i: u64) -
 }
 
 // Stores a cell that is no record's under index i of a class: over its own cell, or where that belongs, or in the place of a record.
-pub fn store_cell(
+fn store_cell(
     map: IntMap,
     area: &mut [u8],
     class: Class,
@@ -621,7 +623,7 @@ fn store_register(
 }
 
 // Stores a plain column in register i.
-pub fn store_single(
+fn store_single(
     map: IntMap,
     area: &mut [u8],
     i: u64,
@@ -636,7 +638,7 @@ pub fn store_single(
 }
 
 // Stores a known number, as an operand's word, in register i.
-pub fn store_int(
+fn store_int(
     map: IntMap,
     area: &mut [u8],
     i: u64,

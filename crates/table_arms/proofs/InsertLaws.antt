@@ -67,10 +67,11 @@ module _ (limit : ℕ) (cs es ds : List Cell) (a : IntMap) (row at n key : ℕ) 
   left (Err e) st = tt
   left (Ok b) st = record { base = st.leaves.base; room = st.leaves.room }
 
-  pub stores : StoresTable limit cs ds a row at x
+  pub stores : (r : Stored) → x ≡ r → StoresTable limit cs ds a row at r
   unfolding store_at
-  stores =
-      record {
+  stores r same =
+      subst (StoresTable limit cs ds a row at) same
+      (record {
         says = λ bound m h y r.
             (let t : TableDataType = record { cols = y; is_empty = Some false } in
             let run : span es (a.base + limit) n ≡ run_table r.key t = behind.run ∙ ap (on_head (with_nullable 1)) r.run ∙ as_table r.key y in
@@ -87,7 +88,7 @@ module _ (limit : ℕ) (cs es ds : List Cell) (a : IntMap) (row at n key : ℕ) 
               below = λ j lt. st.frame.below j lt ∙ behind.frame.below j (omega arith);
               above = λ j le. st.frame.above j (omega arith) ∙ behind.frame.above j (omega arith);
             };
-      }
+      })
 
 -- the record put over the table where that stands
 module _ (limit : ℕ) (cs ds : List Cell) (a : IntMap) (row at : ℕ) (within : row ≤ 65535) (room : HasRoom cs limit a) (b c : Cell) (be : b ≡ get_or cs at blank) (ce : c ≡ with_nullable 1 b) (r : Bool) (over : OverEntry cs ds a at c 2 row r) (e : r ≡ true) where
@@ -97,10 +98,11 @@ module _ (limit : ℕ) (cs ds : List Cell) (a : IntMap) (row at : ℕ) (within :
   nulled : headed cs at c ≡ on_head (with_nullable 1) (span cs at (size cs levels at))
   nulled = ap (λ y. y ∷ span cs (at + 1) (size cs levels at - 1)) (ce ∙ ap (with_nullable 1) be) ∙ ap (on_head (with_nullable 1)) (opened cs at (size cs levels at) (size-pos cs levels at))
 
-  pub stores-over : StoresTable limit cs ds a row at (Ok a)
+  pub stores-over : (to : IntMap) → to ≡ a → StoresTable limit cs ds a row at (Ok to)
   unfolding store_at
-  stores-over =
-      record {
+  stores-over to same =
+      subst (λ y. StoresTable limit cs ds a row at (Ok y)) (sym same)
+      (record {
         says = λ bound m h y r.
             (let t : TableDataType = record { cols = y; is_empty = Some false } in
             let run : headed cs at c ≡ run_table r.key t = nulled ∙ ap (on_head (with_nullable 1)) r.run ∙ as_table r.key y in
@@ -111,7 +113,7 @@ module _ (limit : ℕ) (cs ds : List Cell) (a : IntMap) (row at : ℕ) (within :
             (held_table h row within r.key t (λ _. r.sorted)).next ds a.base a.len a.used (runs_at ds a) (sym same) refl inserted.leaves.room.used);
         leaves = record { base = refl; room = inserted.leaves.room };
         frame = wider cs ds a.base limit inserted.frame;
-      }
+      })
 
 -- ---- by cursor P1
 
@@ -194,10 +196,11 @@ module _ (limit : ℕ) (cs : List Cell) (a : IntMap) (i : ℕ) (p : Reading) (re
         frame = unchanged cs _ _;
       }
 
-  pub null_changed : (c : CursorDataType) → p ≡ Ok (Some c) → (ds : List Cell) → CursorTableChanged (set_empty (Some false)) cs ds a c → Leads limit cs ds a (Ok a) (fill_table (int_of i))
+  pub null_changed : (c : CursorDataType) → p ≡ Ok (Some c) → (ds : List Cell) (b : IntMap) → b ≡ a → CursorTableChanged (set_empty (Some false)) cs ds a c → Leads limit cs ds a (Ok b) (fill_table (int_of i))
   unfolding fill_table
-  null_changed c e ds changed =
-      record {
+  null_changed c e ds b same changed =
+      subst (λ y. Leads limit cs ds a (Ok y) (fill_table (int_of i))) (sym same)
+      (record {
         says = λ bound m le h.
             (let is = told_some bound c (read_cursor (int_of i) m) ((told (Ok (Some c)) e).says limit bound m h) in
             record {
@@ -207,7 +210,7 @@ module _ (limit : ℕ) (cs : List Cell) (a : IntMap) (i : ℕ) (p : Reading) (re
             });
         leaves = record { base = refl; room = changed.room limit current.room };
         frame = record { long = changed.frame.long; below = changed.frame.below; above = λ j le. changed.frame.above j (omega (arith, current.room.most)) };
-      }
+      })
 
 -- ---- by the value
 

@@ -3,7 +3,7 @@ use Rattle.refusal.specs.Numbers.{number_of}
 use Rattle.refusal.specs.declared.Refusal.{Refusal}
 use Rattle.intmap.specs.Get.{Slot}
 use mathlib.Core.Path.{◌≡◌, refl, sym, ap, ap₂, subst, ◌∙◌}
-use mathlib.Core.Bool.{Bool, true, false, not, true≢false}
+use mathlib.Core.Bool.{Bool, true, false}
 use Rattle.std.specs.Prelude.{Option, Ok, Err, Some, None}
 use mathlib.Core.List.{List}
 use Prim.Native.Nat.{ℕ, zero, suc, ◌+◌, ◌-◌, ◌<◌, ◌≤◌}
@@ -31,6 +31,7 @@ use Rattle.intmap.specs.Pick.{pick}
 use Rattle.intmap.specs.Runs.{size, sizes, AreColumns, Agree}
 use Rattle.intmap.specs.Signed.{int_of}
 use Rattle.intmap.specs.declared.IntMap.{IntMap}
+use Rattle.intmap.proofs.StoreLaws.{room_map}
 use Rattle.intmap.proofs.RunLaws.{size-pos, sizes_step}
 use Rattle.intmap.proofs.SameCells.{size_same, sizes_same}
 use Rattle.intmap.proofs.EntryLaws.{entries_few}
@@ -51,10 +52,6 @@ use Rattle.cursor_arms.specs.declared.CursorDataType.TheVariants as cursor
 use Rattle.cursor_arms.proofs.StandsLaws.{led_at, led_nowhere, table_tells, table_tag, head_there, HeadLed, cursor_led}
 use Rattle.cursor_arms.proofs.TableLaws.{sizes_alike, size_alike}
 use Rattle.table_arms.specs.Nulled.{AreNullable, Nulled}
-use Rattle.std.specs.Option.{option_eq}
-use Rattle.std.proofs.Math.Bool.{beq}
-use Rattle.encoding.specs.Decode.{nullable_in, nullables}
-use native.Mathlib.Decide.{ℕ_discrete}
 
 -- ---- a head
 
@@ -146,29 +143,6 @@ module _ (now after : List Cell) (left p : ℕ) (lt : 0 < left) (w : after ≡ s
       ∙ omega (arith, flat, sizes_step (size now 8) left p lt, null_one)
 
 -- those that may be null already are passed
-pub one_more : (cs : List Cell) (p k : ℕ) → AreNullable cs p k → nullable_of (get_or cs (p + k) blank) ≡ 2 → AreNullable cs p (k + 1)
-one_more cs p k all last j lt = go (ℕ_discrete j k)
-  where
-    go : Dec (j ≡ k) → nullable_of (get_or cs (p + j) blank) ≡ 2
-    go (yes e) = subst (λ i. nullable_of (get_or cs (p + i) blank) ≡ 2) (sym e) last
-    go (no ne) = all j (omega (arith, lt, ne))
-
-some_true : (n : ℕ) → not (option_eq beq (get_or nullables n None) (Some true)) ≡ false → n ≡ 2
-some_true zero e = absurd (true≢false e)
-some_true (suc zero) e = absurd (true≢false e)
-some_true (suc (suc zero)) e = refl
-some_true (suc (suc (suc n))) e = absurd (true≢false e)
-
--- the test of a cell
-pub nullable_there : (cs : List Cell) (p : ℕ) (c : Cell) (o : Option Bool) (b : Bool) → c ≡ get_or cs p blank → o ≡ nullable_in c → b ≡ not (option_eq beq o (Some true)) → b ≡ false → nullable_of (get_or cs p blank) ≡ 2
-nullable_there cs p c o b ce oe be e = some_true _ (sym (ap (λ v. not (option_eq beq v (Some true))) (oe ∙ ap (λ x. nullable_in x) ce)) ∙ sym be ∙ e)
-
-pub two_more : (cs : List Cell) (p k : ℕ) → AreNullable cs p k → nullable_of (get_or cs (p + k) blank) ≡ 2 → nullable_of (get_or cs (p + k + 1) blank) ≡ 2 → AreNullable cs p (k + 2)
-two_more cs p k all one two =
-    let next : p + k + 1 ≡ p + (k + 1) = omega arith in
-    let many : k + 1 + 1 ≡ k + 2 = omega arith in
-    subst (AreNullable cs p) many (one_more cs p (k + 1) (one_more cs p k all one) (subst (λ q. nullable_of (get_or cs q blank) ≡ 2) next two))
-
 pub skipped : (cs : List Cell) (k n p : ℕ) → k ≤ n → sizes (size cs 8) n p ≡ n → AreNullable cs p k → (on_heads (single_nullable 2) 8 cs (n - k) (p + k) ≡ on_heads (single_nullable 2) 8 cs n p) × (sizes (size cs 8) (n - k) (p + k) ≡ n - k)
 skipped cs zero n p le flat all =
     let z : n - 0 ≡ n = omega arith in
@@ -291,32 +265,35 @@ module _ (cs : List Cell) (a : IntMap) (is : IsMap cs a) (i : ℕ) (r : Slot) (f
       subst (λ (y : Cell). AreColumns cs 8 y.payload (p + 1)) (sym be)
       (record { fits = omega (arith, (cursor_led cs a is p i r found e).below, is.inside); small = is.small })
 
-module _ (cs : List Cell) (a : IntMap) (is : IsMap cs a) (x : Row) (r : Slot) (found : FindsCursor cs a x.p1 r) where
-  nulls : (ds : List Cell) (s : Slot) → r ≡ s → (limit bound : ℕ) (m : MemoryState) → HoldsMap limit bound cs a m → (meaning : Meaning) (row : ℕ) (l : Listed) → Judged l x → AfterNull limit bound cs ds a m s (cursor_arm meaning row l m op_null_row)
+module _ (limit : ℕ) (cs : List Cell) (a : IntMap) (current : Current limit cs a) (x : Row) (r : Slot) (found : FindsCursor cs a x.p1 r) where
+  is : IsMap cs a
+  is = room_map current.room
+
+  nulls : (ds : List Cell) (s : Slot) → r ≡ s → (bound : ℕ) (m : MemoryState) → HoldsMap limit bound cs a m → (meaning : Meaning) (row : ℕ) (l : Listed) → Judged l x → AfterNull limit bound cs ds a m s (cursor_arm meaning row l m op_null_row)
   unfolding cursor_arm
-  nulls ds s e limit bound m h meaning row l j =
+  nulls ds s e bound m h meaning row l j =
       subst (λ y. AfterNull limit bound cs ds a m y (read_cursor l.p1 m >>= λ o. null_columns o m)) e
       (by_reading limit bound cs ds a is m h found.reading (read_cursor l.p1 m) (subst (λ i. TellsReading bound found.reading (read_cursor i m)) j.p1 (found.reads.says limit bound m h)) r found.finds)
 
-  pub null_bad : (n : Refusal) → r ≡ Err n → (limit row : ℕ) → Current limit cs a → CursorArm limit cs cs a row x op_null_row (Err n)
-  null_bad n e limit row current =
-      record { says = λ meaning l st j bound m le h. nulls cs (Err n) e limit bound m h meaning row l j; leaves = tt; frame = unchanged cs _ _ }
+  pub null_bad : (n : Refusal) → r ≡ Err n → (row : ℕ) → CursorArm limit cs cs a row x op_null_row (Err n)
+  null_bad n e row =
+      record { says = λ meaning l st j bound m le h. nulls cs (Err n) e bound m h meaning row l j; leaves = tt; frame = unchanged cs _ _ }
 
-  pub null_absent : r ≡ (Ok None) → (limit row : ℕ) → Current limit cs a → CursorArm limit cs cs a row x op_null_row (Ok a)
-  null_absent e limit row current =
+  pub null_absent : r ≡ (Ok None) → (row : ℕ) → CursorArm limit cs cs a row x op_null_row (Ok a)
+  null_absent e row =
       record {
-        says = λ meaning l st j bound m le h. record { state = m; answer = nulls cs (Ok None) e limit bound m h meaning row l j; holds = h };
+        says = λ meaning l st j bound m le h. record { state = m; answer = nulls cs (Ok None) e bound m h meaning row l j; holds = h };
         leaves = record { base = refl; room = current.room };
         frame = unchanged cs _ _;
       }
 
   module _ (p : ℕ) (e : r ≡ Ok (Some p)) where
-    pub null_there : (ds : List Cell) (b : Cell) → b ≡ get_or cs p blank → Nulled cs ds b.payload (p + 1) → (limit row : ℕ) → Current limit cs a → CursorArm limit cs ds a row x op_null_row (Ok a)
-    null_there ds b be nulled limit row current =
+    pub null_there : (ds : List Cell) (b : Cell) → b ≡ get_or cs p blank → Nulled cs ds b.payload (p + 1) → (row : ℕ) → CursorArm limit cs ds a row x op_null_row (Ok a)
+    null_there ds b be nulled row =
         let all : ds ≡ null_heads cs p = nulled.cells ∙ ap (λ (y : Cell). on_heads (single_nullable 2) 8 cs y.payload (p + 1)) be in
         let led = cursor_led cs a is p x.p1 r found e in
         record {
-          says = λ meaning l st j bound m le h. nulls ds (Ok (Some p)) e limit bound m h meaning row l j all;
+          says = λ meaning l st j bound m le h. nulls ds (Ok (Some p)) e bound m h meaning row l j all;
           leaves = record { base = refl; room = null_leaves cs ds a is p led all limit current.room };
           frame = null_frame cs ds a is p led all limit current.room.most;
         }

@@ -10,14 +10,15 @@ ghost use Rattle.intmap.specs.Signed.{int_of};
 ghost use Rattle.encoding.specs.Heads.{single_nullable};
 ghost use Rattle.state.specs.Leads.{Current, SomeCurrent, Leads};
 ghost use Rattle.state.specs.Arms.{CursorArm};
+ghost use Rattle.state.specs.Stores.{cells_in, IsCurrent, Changes};
 ghost use Rattle.table_arms.specs.Nulled.{NulledCell, AreNullable, Nulled};
 ghost use Rattle.table_arms.specs.Inserted.{fill_table, StoresTable, InsertsRecord, InsertsFrom};
 
 use area::Cell;
 use cursor_arms::CursorDataType;
-use intmap::IntMap;
 use refusal::Refusal;
 use rows::Row;
+use state::Store;
 
 // How deep the records of a cursor's columns nest.
 const DEPTH: usize = 8;
@@ -94,123 +95,102 @@ fn null_cells(area: &mut [u8], from: usize, n: u64)
 }
 
 // NullRow: every plain column of cursor P1 may be null.
-pub fn null_row(map: IntMap, area: &mut [u8], x: Row) -> Result<IntMap, Refusal>
-    requires { SomeCurrent (cells area.old) map }
-    ensures { (limit row : ℕ) → Current limit (cells area.old) map → CursorArm limit (cells area.old) (cells area.new) map row x op_null_row result }
+pub fn null_row(store: &mut Store, x: Row) -> Result<(), Refusal>
+    requires { SomeCurrent (cells_in store.old) store.old.map }
+    ensures { Changes (λ _ cs ds a r. (limit row : ℕ) → Current limit cs a → CursorArm limit cs ds a row x op_null_row r) store.old store.new result }
 {
-    let Some(at) = cursor_arms::columns_of(map, area, x.p1)? else {
-        return Ok(map);
+    let Some(at) = cursor_arms::columns_of(store, x.p1)? else {
+        return Ok(());
     };
-    let c = area::cell_at(area, at);
-    if state::is_flat(map, area, at, c.payload) {
-        null_cells(area, at + 1, c.payload);
-        return Ok(map);
+    let c = store.cell_at(at);
+    if store.is_flat(at, c.payload) {
+        null_cells(store.area, at + 1, c.payload);
+        return Ok(());
     }
-    null_columns(area, at + 1, c.payload);
-    Ok(map)
+    null_columns(store.area, at + 1, c.payload);
+    Ok(())
 }
 
 // Stores the columns of the record at `at` of the map as the table that a row opened, which is not empty then. A store may move that record, so it
 // goes to the room behind the map first.
-fn store_behind(
-    map: IntMap,
-    area: &mut [u8],
-    row: u64,
-    at: usize,
-    limit: usize,
-) -> Result<IntMap, Refusal>
-    requires { Current limit (cells area.old) map × (map.base ≤ at) × (at + size (cells area.old) levels at ≤ map.base + map.used) × (row ≤ 65535) }
-    ensures { StoresTable limit (cells area.old) (cells area.new) map row at result }
+fn store_behind(store: &mut Store, row: u64, at: usize) -> Result<(), Refusal>
+    requires { IsCurrent store.old × (store.old.map.base ≤ at) × (at + size (cells_in store.old) levels at ≤ store.old.map.base + store.old.map.used) × (row ≤ 65535) }
+    ensures { Changes (λ limit cs ds a r. StoresTable limit cs ds a row at r) store.old store.new result }
 {
-    let n = cursor_arms::run_behind(map, area, at, Some(false), limit);
+    let map = store.map;
+    let limit = store.limit;
+    let n = cursor_arms::run_behind(store, at, Some(false));
     let key = intmap::class_key(intmap::Class::Tables, row);
-    map.insert_run(area, key, map.base + limit, n, limit)
+    store.map = map.insert_run(store.area, key, map.base + limit, n, limit)?;
+    Ok(())
 }
 
 // The same, at once where the table has as many columns, of one cell each.
-fn store_table(
-    map: IntMap,
-    area: &mut [u8],
-    row: u64,
-    at: usize,
-    limit: usize,
-) -> Result<IntMap, Refusal>
-    requires { Current limit (cells area.old) map × (map.base ≤ at) × (at + size (cells area.old) levels at ≤ map.base + map.used) × (row ≤ 65535) }
-    ensures { StoresTable limit (cells area.old) (cells area.new) map row at result }
+fn store_table(store: &mut Store, row: u64, at: usize) -> Result<(), Refusal>
+    requires { IsCurrent store.old × (store.old.map.base ≤ at) × (at + size (cells_in store.old) levels at ≤ store.old.map.base + store.old.map.used) × (row ≤ 65535) }
+    ensures { Changes (λ limit cs ds a r. StoresTable limit cs ds a row at r) store.old store.new result }
 {
-    let c = state::with_nullable(area::cell_at(area, at), Some(false));
-    if state::over_entry(map, area, at, c, intmap::Class::Tables, row) {
-        return Ok(map);
+    let c = state::with_nullable(store.cell_at(at), Some(false));
+    if store.over_entry(at, c, intmap::Class::Tables, row) {
+        return Ok(());
     }
-    store_behind(map, area, row, at, limit)
+    store_behind(store, row, at)
 }
 
 // Insert of the record at `at` of the map: it replaces the table of cursor P1, if there is one.
-fn insert_record(
-    map: IntMap,
-    area: &mut [u8],
-    x: Row,
-    at: usize,
-    limit: usize,
-) -> Result<IntMap, Refusal>
-    requires { Current limit (cells area.old) map × (map.base ≤ at) × (at + size (cells area.old) levels at ≤ map.base + map.used) }
-    ensures { InsertsRecord limit (cells area.old) (cells area.new) map x at result }
+fn insert_record(store: &mut Store, x: Row, at: usize) -> Result<(), Refusal>
+    requires { IsCurrent store.old × (store.old.map.base ≤ at) × (at + size (cells_in store.old) levels at ≤ store.old.map.base + store.old.map.used) }
+    ensures { Changes (λ limit cs ds a r. InsertsRecord limit cs ds a x at r) store.old store.new result }
 {
-    let Some(p) = cursor_arms::read_cursor(map, area, x.p1)? else {
-        return Ok(map);
+    let Some(p) = cursor_arms::read_cursor(store, x.p1)? else {
+        return Ok(());
     };
     let CursorDataType::Normal(row) = p else {
-        return Ok(map);
+        return Ok(());
     };
-    let Some(_) = p.table(map, area) else {
-        return Ok(map);
+    let Some(_) = p.table(store) else {
+        return Ok(());
     };
-    store_table(map, area, row, at, limit)
+    store_table(store, row, at)
 }
 
 // Insert of a plain Null: the table of cursor P1, if there is one, is not empty.
-fn insert_null(map: IntMap, area: &mut [u8], x: Row, limit: usize) -> Result<IntMap, Refusal>
-    requires { Current limit (cells area.old) map }
-    ensures { Leads limit (cells area.old) (cells area.new) map result (fill_table (int_of x.p1)) }
+fn insert_null(store: &mut Store, x: Row) -> Result<(), Refusal>
+    requires { IsCurrent store.old }
+    ensures { Changes (λ limit cs ds a r. Leads limit cs ds a r (fill_table (int_of x.p1))) store.old store.new result }
 {
-    let Some(p) = cursor_arms::read_cursor(map, area, x.p1)? else {
-        return Ok(map);
+    let Some(p) = cursor_arms::read_cursor(store, x.p1)? else {
+        return Ok(());
     };
-    p.set_empty(map, area, Some(false));
-    Ok(map)
+    p.set_empty(store, Some(false));
+    Ok(())
 }
 
 // Insert of the value at `at` of the map: a record, a plain Null, or another, which changes nothing.
-fn insert_from(
-    map: IntMap,
-    area: &mut [u8],
-    x: Row,
-    at: usize,
-    limit: usize,
-) -> Result<IntMap, Refusal>
-    requires { Current limit (cells area.old) map × (map.base ≤ at) × (at + size (cells area.old) levels at ≤ map.base + map.used) }
-    ensures { InsertsFrom limit (cells area.old) (cells area.new) map x at result }
+fn insert_from(store: &mut Store, x: Row, at: usize) -> Result<(), Refusal>
+    requires { IsCurrent store.old × (store.old.map.base ≤ at) × (at + size (cells_in store.old) levels at ≤ store.old.map.base + store.old.map.used) }
+    ensures { Changes (λ limit cs ds a r. InsertsFrom limit cs ds a x at r) store.old store.new result }
 {
-    let c = area::cell_at(area, at);
+    let c = store.cell_at(at);
     let tag = intmap::tag_of(c);
     if tag == intmap::RECORD {
-        return insert_record(map, area, x, at, limit);
+        return insert_record(store, x, at);
     }
     if tag == intmap::SINGLE {
         if intmap::kind_of(c) == 0 {
-            return insert_null(map, area, x, limit);
+            return insert_null(store, x);
         }
     }
-    Ok(map)
+    Ok(())
 }
 
 // Insert, IdxInsert, SorterInsert: what register P2 holds goes into the table of cursor P1.
-pub fn insert(map: IntMap, area: &mut [u8], x: Row, limit: usize) -> Result<IntMap, Refusal>
-    requires { Current limit (cells area.old) map }
-    ensures { (row : ℕ) → CursorArm limit (cells area.old) (cells area.new) map row x op_insert result }
+pub fn insert(store: &mut Store, x: Row) -> Result<(), Refusal>
+    requires { IsCurrent store.old }
+    ensures { Changes (λ limit cs ds a r. (row : ℕ) → CursorArm limit cs ds a row x op_insert r) store.old store.new result }
 {
-    let Some(at) = state::get(map, area, intmap::Class::Registers, x.p2)? else {
-        return Ok(map);
+    let Some(at) = store.get(intmap::Class::Registers, x.p2)? else {
+        return Ok(());
     };
-    insert_from(map, area, x, at, limit)
+    insert_from(store, x, at)
 }

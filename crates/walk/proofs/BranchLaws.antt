@@ -18,8 +18,7 @@ use Rattle.std.proofs.lemmas.Option.{slice_get_within}
 use Rattle.refusal.specs.declared.Refusal.{Refusal}
 use Rattle.area.specs.Cells.{blank, cells}
 use Rattle.area.specs.declared.Cell.{Cell}
-use Rattle.rows.specs.Rows.{row_in}
-use Rattle.rows.specs.Judged.{JudgedParts, HaveRows}
+use Rattle.rows.specs.Judged.{HasRow, HaveRows}
 use Rattle.state.specs.declared.MemoryState.{MemoryState}
 use Rattle.branches.specs.Entries.{Kept, states, lineages, Remembers}
 use Rattle.branches.specs.Lists.{Below, units_for, Dropped, Added as Kept-now, Pushes}
@@ -60,7 +59,7 @@ module _ (units_of : Defined → ℕ) (past : List ℕ) (m : Defined) (more : Li
 
 -- rows that stand in the same cells
 pub rows_kept : (cs ds : List Cell) (from : ℕ) (rows : List Listed) → ((i : ℕ) → i < length rows → get_or ds (from + i) blank ≡ get_or cs (from + i) blank) → HaveRows cs from rows → HaveRows ds from rows
-rows_kept cs ds from rows same have i x e = subst (λ c. JudgedParts x (row_in c)) (sym (same i (slice_get_within rows i x e))) (have i x e)
+rows_kept cs ds from rows same have i x e = subst (HasRow x) (sym (same i (slice_get_within rows i x e))) (have i x e)
 
 -- the list with other branches, where the cells below them are as they were
 module _ {p : Program} {g : Given} {blocks xs : List ℕ} {cols : Columns 2000} {w : Walk} {ls : List (Lineage Defined)} {remembered : List Defined} {space : ℕ} {counted : List ResultRow} (h : HoldsList p g blocks xs cols w ls remembered space counted) where

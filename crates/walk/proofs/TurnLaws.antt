@@ -211,7 +211,7 @@ module _ {p : Program} {g : Given} {blocks xs : List ℕ} {cols : Columns 2000} 
     listed = element_within g.rows r.row (omega (arith, r.within, r.walk.list.size))
 
     judged : (x : Parts) → x ≡ row_in (get_or (cells ys) (rows_from p + k) blank) → JudgedParts listed.element x
-    judged x e = subst (JudgedParts listed.element) (ap (λ i. row_in (get_or (cells ys) (rows_from p + i) blank)) (sym row_is) ∙ sym e) (raised_list.rows r.row listed.element listed.is)
+    judged x e = subst (JudgedParts listed.element) (ap (λ i. row_in (get_or (cells ys) (rows_from p + i) blank)) (sym row_is) ∙ sym e) (raised_list.rows r.row listed.element listed.is).judged
 
     its_row : row_at g.rows r.lineage.mem.program_i ≡ Some listed.element
     its_row = ap (row_at g.rows) (sym r.current.state.row) ∙ row_above s.row g.rows (omega (arith, r.at)) ∙ ap (slice_get g.rows) row_is ∙ listed.is

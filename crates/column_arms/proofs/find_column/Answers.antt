@@ -5,7 +5,7 @@ use Rattle.column_arms.proofs.ColumnLaws.{head_below, column_direct, run-within,
 use Rattle.column_arms.proofs.find_column.Goals as goal
 
 pub is_direct-requires : goal.is_direct-requires
-is_direct-requires c = (c.requires.2, c.requires.3, head_below _ c.args.map _ c.requires.4)
+is_direct-requires c = (c.requires.2, c.requires.3, head_below _ c.args.store.now.map _ c.requires.4)
 
 pub returns-then-is_direct : goal.returns-then-is_direct
 returns-then-is_direct c = column_direct _ _ _ _ c.requires.0 c.requires.1 c.requires.4 _ c.cell_at-head.ensures (c.is_direct.ensures c.if-is_direct.true)

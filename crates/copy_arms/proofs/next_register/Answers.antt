@@ -13,7 +13,7 @@ pub returns-then-key-gt131071 : goal.returns-then-key-gt131071
 returns-then-key-gt131071 c = next_other _ _ _ c.requires.1 _ c.class_key.ensures _ c.find-found.ensures c.if-found-eq0.false _ c.cell_at.ensures _ c.key_of-key.ensures c.if-key-gt131071.true
 
 pub overflow_sub-result : goal.overflow_sub-result
-overflow_sub-result c = omega (arith, next_above _ c.args.map _ c.requires.1 _ c.class_key.ensures _ c.find-found.ensures c.if-found-eq0.false _ c.cell_at.ensures _ c.key_of-key.ensures, c.class_key.ensures)
+overflow_sub-result c = omega (arith, next_above _ c.args.store.now.map _ c.requires.1 _ c.class_key.ensures _ c.find-found.ensures c.if-found-eq0.false _ c.cell_at.ensures _ c.key_of-key.ensures, c.class_key.ensures)
 
 pub returns : goal.returns
 returns c = next_here _ _ _ c.requires.1 _ c.class_key.ensures _ c.find-found.ensures c.if-found-eq0.false _ c.cell_at.ensures _ c.key_of-key.ensures c.if-key-gt131071.false

@@ -12,4 +12,4 @@ put_cell-requires c = let pre = c.requires in omega (arith, behind_inside pre.0 
 pub returns : goal.returns
 returns c =
     let pre = c.requires in
-    run_behind pre.0 pre.1 pre.2 c.copy_run-n.ensures _ _ _ _ c.cell_at.ensures c.with_nullable-c.ensures c.put_cell.ensures.cells
+    record { same = record { buffer = c.put_cell.ensures.same.buffer; limit = c.put_cell.ensures.same.limit }; map = c.put_cell.ensures.map; is = run_behind pre.0 pre.1 pre.2 c.copy_run-n.ensures _ _ _ _ c.cell_at.ensures c.with_nullable-c.ensures c.put_cell.ensures.is }

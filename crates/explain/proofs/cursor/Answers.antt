@@ -11,32 +11,32 @@ use Rattle.explain.proofs.NumberLaws.{cursor_number, read_number}
 use Rattle.explain.proofs.cursor.Goals as goal
 
 pub returns-in-Column : goal.returns-in-Column
-returns-in-Column c = λ from n. cursor_number (ap arm_of c.in-Column.is) (c.column.ensures _)
+returns-in-Column c = (c.column.ensures.same, λ from n. cursor_number (ap arm_of c.in-Column.is) (c.column.ensures.is _))
 
 pub returns-in-RowData : goal.returns-in-RowData
-returns-in-RowData c = λ from n. cursor_number (ap arm_of c.in-RowData.is) (c.row_data.ensures _)
+returns-in-RowData c = (c.row_data.ensures.same, λ from n. cursor_number (ap arm_of c.in-RowData.is) (c.row_data.ensures.is _))
 
 pub returns-in-Insert : goal.returns-in-Insert
-returns-in-Insert c = λ from n. cursor_number (ap arm_of c.in-Insert.is) (c.insert.ensures _)
+returns-in-Insert c = (c.insert.ensures.same, λ from n. cursor_number (ap arm_of c.in-Insert.is) (c.insert.ensures.is _))
 
 pub returns-in-Delete : goal.returns-in-Delete
-returns-in-Delete c = λ from n. cursor_number (ap arm_of c.in-Delete.is) (c.delete.ensures _ _ c.requires.0.current)
+returns-in-Delete c = (c.delete.ensures.same, λ from n. cursor_number (ap arm_of c.in-Delete.is) (c.delete.ensures.is _ _ c.requires.0.current))
 
 pub returns-in-OpenPseudo : goal.returns-in-OpenPseudo
-returns-in-OpenPseudo c = λ from n. cursor_number (ap arm_of c.in-OpenPseudo.is) (c.open_pseudo.ensures _)
+returns-in-OpenPseudo c = (c.open_pseudo.ensures.same, λ from n. cursor_number (ap arm_of c.in-OpenPseudo.is) (c.open_pseudo.ensures.is _))
 
 pub returns-in-OpenDup : goal.returns-in-OpenDup
-returns-in-OpenDup c = λ from n. cursor_number (ap arm_of c.in-OpenDup.is) (c.open_dup.ensures _)
+returns-in-OpenDup c = (c.open_dup.ensures.same, λ from n. cursor_number (ap arm_of c.in-OpenDup.is) (c.open_dup.ensures.is _))
 
 pub returns-in-OpenRead : goal.returns-in-OpenRead
-returns-in-OpenRead c = λ from n. read_number (ap arm_of c.in-OpenRead.is) c.open_read.ensures
+returns-in-OpenRead c = (c.open_read.ensures.same, λ from n. read_number (ap arm_of c.in-OpenRead.is) c.open_read.ensures.is)
 
 pub returns-in-OpenEphemeral : goal.returns-in-OpenEphemeral
-returns-in-OpenEphemeral c = λ from n. cursor_number (ap arm_of c.in-OpenEphemeral.is) c.open_ephemeral.ensures
+returns-in-OpenEphemeral c = (c.open_ephemeral.ensures.same, λ from n. cursor_number (ap arm_of c.in-OpenEphemeral.is) c.open_ephemeral.ensures.is)
 
 pub returns-in_default : goal.returns-in_default
 unfolding NotThese numbers_from
 returns-in_default c =
     let past = number_past c.args.x.op 33 8 (OpenEphemeral ∷ OpenRead ∷ OpenDup ∷ OpenPseudo ∷ Delete ∷ Insert ∷ RowData ∷ Column ∷ []) refl c.requires.3 (search rules) in
     let last : c.args.x.op ≡ NullRow = operation_is NullRow (omega (arith, past, c.requires.4)) in
-    λ from n. cursor_number (ap arm_of last) (c.null_row.ensures _ _ c.requires.0.current)
+    (c.null_row.ensures.same, λ from n. cursor_number (ap arm_of last) (c.null_row.ensures.is _ _ c.requires.0.current))

@@ -12,44 +12,44 @@ use Rattle.explain.proofs.NumberLaws.{jump_number, jump_named, rows_number}
 use Rattle.explain.proofs.jump.Goals as goal
 
 pub returns-in-Goto : goal.returns-in-Goto
-returns-in-Goto c = jump_number (ap arm_of c.in-Goto.is) c.goto.ensures
+returns-in-Goto c = (record { buffer = refl; limit = refl }, jump_number (ap arm_of c.in-Goto.is) c.goto.ensures)
 
 pub returns-in-Gosub : goal.returns-in-Gosub
-returns-in-Gosub c = jump_number (ap arm_of c.in-Gosub.is) c.gosub.ensures
+returns-in-Gosub c = (c.gosub.ensures.0, jump_number (ap arm_of c.in-Gosub.is) c.gosub.ensures.1)
 
 pub returns-in-Branch : goal.returns-in-Branch
-returns-in-Branch c = jump_number (ap arm_of c.in-Branch.is) c.branch-s.ensures
+returns-in-Branch c = (record { buffer = refl; limit = refl }, jump_number (ap arm_of c.in-Branch.is) c.branch-store.ensures)
 
 pub returns-in-IsNull : goal.returns-in-IsNull
-returns-in-IsNull c = search (rules, jump_named op_is_null IsNull refl)
+returns-in-IsNull c = (search rules, search (rules, jump_named op_is_null IsNull refl))
 
 pub returns-in-NotNull : goal.returns-in-NotNull
-returns-in-NotNull c = jump_number (ap arm_of c.in-NotNull.is) c.not_null.ensures
+returns-in-NotNull c = (c.not_null.ensures.0, jump_number (ap arm_of c.in-NotNull.is) c.not_null.ensures.1)
 
 pub returns-in-MustBeInt : goal.returns-in-MustBeInt
-returns-in-MustBeInt c = jump_number (ap arm_of c.in-MustBeInt.is) c.must_be_int.ensures
+returns-in-MustBeInt c = (record { buffer = refl; limit = refl }, jump_number (ap arm_of c.in-MustBeInt.is) c.must_be_int.ensures)
 
 pub returns-in-If : goal.returns-in-If
-returns-in-If c = jump_number (ap arm_of c.in-If.is) c.if_.ensures
+returns-in-If c = (c.if_.ensures.0, jump_number (ap arm_of c.in-If.is) c.if_.ensures.1)
 
 pub returns-in-Rewind : goal.returns-in-Rewind
-returns-in-Rewind c = jump_number (ap arm_of c.in-Rewind.is) c.rewind.ensures
+returns-in-Rewind c = (c.rewind.ensures.0, jump_number (ap arm_of c.in-Rewind.is) c.rewind.ensures.1)
 
 pub returns-in-InitCoroutine : goal.returns-in-InitCoroutine
-returns-in-InitCoroutine c = jump_number (ap arm_of c.in-InitCoroutine.is) c.init_coroutine.ensures
+returns-in-InitCoroutine c = (c.init_coroutine.ensures.0, jump_number (ap arm_of c.in-InitCoroutine.is) c.init_coroutine.ensures.1)
 
 pub returns-in-EndCoroutine : goal.returns-in-EndCoroutine
-returns-in-EndCoroutine c = rows_number (ap arm_of c.in-EndCoroutine.is) c.end_coroutine.ensures
+returns-in-EndCoroutine c = (c.end_coroutine.ensures.0, rows_number (ap arm_of c.in-EndCoroutine.is) c.end_coroutine.ensures.1)
 
 pub returns-in-Return : goal.returns-in-Return
-returns-in-Return c = jump_number (ap arm_of c.in-Return.is) c.return_.ensures
+returns-in-Return c = (c.return_.ensures.0, jump_number (ap arm_of c.in-Return.is) c.return_.ensures.1)
 
 pub returns-in-Yield : goal.returns-in-Yield
-returns-in-Yield c = rows_number (ap arm_of c.in-Yield.is) c.yield_.ensures
+returns-in-Yield c = (c.yield_.ensures.0, rows_number (ap arm_of c.in-Yield.is) c.yield_.ensures.1)
 
 pub returns-in_default : goal.returns-in_default
 unfolding NotThese numbers_from
 returns-in_default c =
     let past = number_past c.args.x.op 1 13 (Jump ∷ Yield ∷ Return ∷ EndCoroutine ∷ InitCoroutine ∷ Rewind ∷ If ∷ MustBeInt ∷ NotNull ∷ IsNull ∷ Branch ∷ Gosub ∷ Goto ∷ []) refl c.requires.2 (search rules) in
     let last : c.args.x.op ≡ Halt = operation_is Halt (omega (arith, past, c.requires.3)) in
-    search (rules, jump_named op_halt Halt refl, last)
+    (search rules, search (rules, jump_named op_halt Halt refl, last))

@@ -1,8 +1,12 @@
 -- `jump_arms::init_coroutine` stores P3 and goes on. Assumes nothing.
-use mathlib.Core.Path.{sym, subst}
+use mathlib.Core.Path.{subst}
+use Rattle.refusal.proofs.Passed.{passed}
 use Rattle.state.specs.Steps.{JumpArm}
-use Rattle.jump_arms.proofs.StoreSteps.{init_arm}
+use Rattle.jump_arms.proofs.StoreSteps.{init_arm, step_err, step_ok}
 use Rattle.jump_arms.proofs.init_coroutine.Goals as goal
 
+pub returns-in_err-store_int : goal.returns-in_err-store_int
+returns-in_err-store_int c = (c.store_int.ensures.same, subst (JumpArm _ _ _ _ _ _) (step_err c.store_int.new.self c.in_err-store_int.was (passed _ _ c.from_residual.ensures.1) _) (init_arm _ _ _ _ _ _ c.store_int.ensures.is _ c.init_coroutine_to-to.ensures))
+
 pub returns : goal.returns
-returns c = subst (JumpArm _ _ _ _ _ _) (sym c.go_on.ensures) (init_arm _ _ _ _ _ _ c.store_int.ensures _ c.init_coroutine_to-row.ensures)
+returns c = (c.store_int.ensures.same, subst (JumpArm _ _ _ _ _ _) (step_ok c.store_int.new.self c.in_ok-store_int.was _ c.go_on.ensures) (init_arm _ _ _ _ _ _ c.store_int.ensures.is _ c.init_coroutine_to-to.ensures))

@@ -22,8 +22,8 @@ pub overflow_add-at : goal.overflow_add-at
 overflow_add-at c = omega (arith, sizes_on _ _ _ _ _ (omega arith) c.count_from-at.ensures c.loop-passed.invariant.1, c.requires.small)
 
 pub loop-passed-preserved : goal.loop-passed-preserved
-loop-passed-preserved c = let more : 0 < c.args.map.len - c.loop-passed._passed = omega arith in
-    let step : c.args.map.len - (c.loop-passed._passed + 1) ≡ c.args.map.len - c.loop-passed._passed - 1 = omega arith in
+loop-passed-preserved c = let more : 0 < c.args.store.now.map.len - c.loop-passed._passed = omega arith in
+    let step : c.args.store.now.map.len - (c.loop-passed._passed + 1) ≡ c.args.store.now.map.len - c.loop-passed._passed - 1 = omega arith in
     rw step (any_on _ _ _ _ _ _ _ c.cell_at-c.ensures c.key_of-k.ensures more c.if-end-k.false (sym c.if-is_deep.false ∙ c.is_deep.ensures) _ c.count_from-at.ensures ∙ c.loop-passed.invariant.0, sizes_on _ _ _ _ _ more c.count_from-at.ensures c.loop-passed.invariant.1)
 
 pub returns-then-is_deep : goal.returns-then-is_deep

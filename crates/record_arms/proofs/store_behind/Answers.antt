@@ -8,23 +8,24 @@ use Rattle.record_arms.proofs.RecordLaws.{record_index, record_deep, record_many
 use Rattle.record_arms.proofs.store_behind.Goals as goal
 
 pub returns-in_err-judge_index : goal.returns-in_err-judge_index
-returns-in_err-judge_index c = rw (passed _ _ c.from_residual.ensures.1) (record_index _ _ _ _ _ _ c.args.registers.within _ c.judge_index.ensures _ c.in_err-judge_index.was)
+returns-in_err-judge_index c = rw (passed _ _ c.from_residual.ensures.1) (record { same = record { buffer = refl; limit = refl }; is = record_index _ _ _ _ _ _ c.args.registers.within _ c.judge_index.ensures _ c.in_err-judge_index.was })
 
 pub returns-then-too_deep : goal.returns-then-too_deep
-returns-then-too_deep c = record_deep _ _ _ _ _ _ c.args.registers.within _ c.judge_index.ensures _ c.in_ok-judge_index.was (sym c.too_deep.ensures ∙ c.if-too_deep.true)
+returns-then-too_deep c = record { same = record { buffer = refl; limit = refl }; is = record_deep _ _ _ _ _ _ c.args.registers.within _ c.judge_index.ensures _ c.in_ok-judge_index.was (sym c.too_deep.ensures ∙ c.if-too_deep.true) }
 
-pub returns-then-limit-registers : goal.returns-then-limit-registers
-returns-then-limit-registers c = record_many _ _ _ _ _ _ c.args.registers.within _ c.judge_index.ensures _ c.in_ok-judge_index.was (sym c.too_deep.ensures ∙ c.if-too_deep.false) c.if-limit-registers.true
+pub returns-then-store-registers : goal.returns-then-store-registers
+returns-then-store-registers c = record { same = record { buffer = refl; limit = refl }; is = record_many _ _ _ _ _ _ c.args.registers.within _ c.judge_index.ensures _ c.in_ok-judge_index.was (sym c.too_deep.ensures ∙ c.if-too_deep.false) c.if-store-registers.true }
 
 pub build_record-requires : goal.build_record-requires
-build_record-requires c = (c.requires, omega (arith, c.if-limit-registers.false), flat_registers _ c.args.map _ _ (sym c.too_deep.ensures ∙ c.if-too_deep.false))
+build_record-requires c = (c.requires, omega (arith, c.if-store-registers.false), flat_registers _ c.args.store.now.map _ _ (sym c.too_deep.ensures ∙ c.if-too_deep.false))
 
 pub store_run-requires : goal.store_run-requires
-store_run-requires c = let built = subst (BuildsRecord _ _ _ _ _ _) c.in-Some.is c.build_record.ensures in
-    (built_room _ _ _ _ _ _ c.args.registers.within _ c.judge_index.ensures _ c.in_ok-judge_index.was (sym c.too_deep.ensures ∙ c.if-too_deep.false) _ _ built c.requires, record { whole = refl; above = built.answer.above; fits = built_fits _ _ _ _ _ _ c.args.registers.within _ c.judge_index.ensures _ c.in_ok-judge_index.was (sym c.too_deep.ensures ∙ c.if-too_deep.false) _ _ built c.requires })
+store_run-requires c = let done = c.build_record.ensures in let built = subst (BuildsRecord _ _ _ _ _ _) c.in-Some.is done.is in
+    rw (done.same.limit, done.map) (built_room _ _ _ _ _ _ c.args.registers.within _ c.judge_index.ensures _ c.in_ok-judge_index.was (sym c.too_deep.ensures ∙ c.if-too_deep.false) _ _ built c.requires, record { whole = refl; above = built.answer.above; fits = built_fits _ _ _ _ _ _ c.args.registers.within _ c.judge_index.ensures _ c.in_ok-judge_index.was (sym c.too_deep.ensures ∙ c.if-too_deep.false) _ _ built c.requires })
 
 pub returns-in_default : goal.returns-in_default
-returns-in_default c = record_full _ _ _ _ _ _ c.args.registers.within _ c.judge_index.ensures _ c.in_ok-judge_index.was (sym c.too_deep.ensures ∙ c.if-too_deep.false) _ (subst (BuildsRecord _ _ _ _ _ _) c.in_default.is c.build_record.ensures)
+returns-in_default c = record { same = c.build_record.ensures.same; is = record_full _ _ _ _ _ _ c.args.registers.within _ c.judge_index.ensures _ c.in_ok-judge_index.was (sym c.too_deep.ensures ∙ c.if-too_deep.false) _ (subst (BuildsRecord _ _ _ _ _ _) c.in_default.is c.build_record.ensures.is) }
 
 pub returns : goal.returns
-returns c = record_stored _ _ _ _ _ _ c.args.registers.within _ c.judge_index.ensures _ c.in_ok-judge_index.was (sym c.too_deep.ensures ∙ c.if-too_deep.false) _ _ (subst (BuildsRecord _ _ _ _ _ _) c.in-Some.is c.build_record.ensures) c.requires _ _ c.store_run.ensures
+returns c = let done = c.build_record.ensures in let st = rw (done.same.limit, done.map) at c.store_run.ensures.is in
+    record { same = record { buffer = c.store_run.ensures.same.buffer ∙ done.same.buffer; limit = c.store_run.ensures.same.limit ∙ done.same.limit }; is = record_stored _ _ _ _ _ _ c.args.registers.within _ c.judge_index.ensures _ c.in_ok-judge_index.was (sym c.too_deep.ensures ∙ c.if-too_deep.false) _ _ (subst (BuildsRecord _ _ _ _ _ _) c.in-Some.is c.build_record.ensures.is) c.requires _ _ st }

@@ -2,4 +2,4 @@
 use Rattle.record_arms.proofs.store_record.Goals as goal
 
 pub returns-then-record_over : goal.returns-then-record_over
-returns-then-record_over c = c.record_over.ensures.yes c.if-record_over.true _ c.requires
+returns-then-record_over c = record { same = c.record_over.ensures.same; is = rw c.record_over.ensures.map (c.record_over.ensures.is.yes c.if-record_over.true _ c.requires) }

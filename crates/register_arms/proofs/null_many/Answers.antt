@@ -1,20 +1,24 @@
 -- What is left of `null_many`, by the invariant of Invariants.antt. Assumes nothing.
-use mathlib.Core.Path.{◌≡◌}
+use mathlib.Core.Path.{◌≡◌, refl, ap}
 use Prim.Native.Nat.{◌+◌, ◌-◌}
 use native.Mathlib.Omega.{arith}
+use Rattle.refusal.proofs.Passed.{passed}
+use Rattle.state.specs.Stores.{stored_in}
+use Rattle.copy_arms.proofs.StoreLaws.{same_then, said_of}
 use Rattle.register_arms.proofs.NullLaws.{null_ends, null_refused, null_again}
 use Rattle.register_arms.proofs.RunLaws.{run_then}
-use borrow.Author.Rules.{rules}
-use Rattle.refusal.proofs.Passed.{passed}
 use Rattle.register_arms.proofs.null_many.Goals as goal
 
-pub returns-in_err-held : goal.returns-in_err-held
-returns-in_err-held c = rw (passed _ _ c.from_residual.ensures.1) (run_then _ c.requires.0 c.null_run-first.ensures (null_refused _ _ _ _ _ _ _ _ _ c.loop-i.invariant.1 _ _ (omega (arith, c.loop-i-test.true)) c.store_single.ensures _ c.in_err-held.was))
+pub returns-in_err-store_single : goal.returns-in_err-store_single
+returns-in_err-store_single c =
+    rw (passed _ _ c.from_residual.ensures.1)
+    (record { same = same_then c.loop-i.invariant.0 c.store_single.ensures.same; is = run_then _ c.requires.0 c.null_run-first.ensures (null_refused _ _ _ _ _ _ _ _ _ c.loop-i.invariant.1 _ _ (omega (arith, c.loop-i-test.true)) (said_of c.loop-i.invariant.0.limit refl c.store_single.ensures) _ (ap (stored_in c.store_single.new.self) c.in_err-store_single.was)) })
 
 pub loop-i-preserved : goal.loop-i-preserved
 loop-i-preserved c =
     let one : c.args.from + c.args.n - (c.loop-i.i + 1) ≡ c.args.from + c.args.n - c.loop-i.i - 1 = omega arith in
-    rw one (search rules, null_again _ _ _ _ _ _ _ _ _ c.loop-i.invariant.1 _ _ (omega (arith, c.loop-i-test.true)) c.store_single.ensures _ c.in_ok-held.was)
+    let single = c.store_single.ensures in
+    rw one (same_then c.loop-i.invariant.0 single.same, null_again _ _ _ _ _ _ _ _ _ c.loop-i.invariant.1 _ _ (omega (arith, c.loop-i-test.true)) (said_of c.loop-i.invariant.0.limit refl single) _ (ap (stored_in c.store_single.new.self) c.in_ok-store_single.was))
 
 pub returns : goal.returns
-returns c = run_then _ c.requires.0 c.null_run-first.ensures (null_ends _ _ _ _ _ _ _ _ _ c.loop-i.invariant.1 (λ h. omega (arith, h, c.loop-i-test.false)))
+returns c = record { same = c.loop-i.invariant.0; is = run_then _ c.requires.0 c.null_run-first.ensures (null_ends _ _ _ _ _ _ _ _ _ c.loop-i.invariant.1 (λ h. omega (arith, h, c.loop-i-test.false))) }

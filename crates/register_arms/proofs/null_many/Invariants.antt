@@ -1,10 +1,8 @@
 -- `register_arms::null_many`: behind the first registers, what is still to come of the definition's loop is the whole. Assumes nothing.
-use mathlib.Core.Path.{◌≡◌}
 use Prim.Native.Nat.{◌+◌, ◌-◌}
-use lib.ListN.{length}
 use Rattle.register_arms.proofs.NullLaws.{Rest}
-use Rattle.area.specs.Cells.{cells}
+use Rattle.state.specs.Stores.{cells_in, SameStore}
 use Rattle.register_arms.proofs.null_many.Given as goal
 
 abbrev pub invariant-loop-i : goal.invariant-loop-i
-invariant-loop-i l = (length l.area ≡ length l.initial.area) × Rest l.limit (cells l.initial.area) (cells l.area) l.initial.held l.held (l.from + l.first) (l.n - l.first) l.i (l.from + l.n - l.i)
+invariant-loop-i l = SameStore l.fn.store l.store × Rest l.initial.store.limit (cells_in l.initial.store) (cells_in l.store) l.initial.store.map l.store.map (l.from + l.first) (l.n - l.first) l.i (l.from + l.n - l.i)

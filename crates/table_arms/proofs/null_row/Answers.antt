@@ -1,6 +1,6 @@
 -- `table_arms::null_row` reads the cursor and changes its columns. Assumes nothing.
 use Rattle.std.specs.Prelude.{Ok}
-use mathlib.Core.Path.{sym, ap, ◌∙◌}
+use mathlib.Core.Path.{refl, sym, ap, ◌∙◌}
 use native.Mathlib.Omega.{arith}
 use Rattle.refusal.proofs.Passed.{passed}
 use Rattle.intmap.proofs.StoreLaws.{room_map}
@@ -16,16 +16,16 @@ pub null_cells-requires : goal.null_cells-requires
 null_cells-requires c = let is = room_map c.requires.current.room in (columns_within _ _ is _ _ c.columns_of.ensures _ (c.in_ok-at.was ∙ ap Ok c.in-Some.is) _ c.cell_at-c.ensures, flat_there _ _ (current_held c.requires.current) _ _ c.columns_of.ensures _ (c.in_ok-at.was ∙ ap Ok c.in-Some.is) _ c.cell_at-c.ensures (sym c.is_flat.ensures ∙ c.if-is_flat.true))
 
 pub returns-then-is_flat : goal.returns-then-is_flat
-returns-then-is_flat c = null_there _ _ (room_map c.requires.current.room) _ _ c.columns_of.ensures _ (c.in_ok-at.was ∙ ap Ok c.in-Some.is) _ _ c.cell_at-c.ensures c.null_cells.ensures
+returns-then-is_flat c = record { same = record { buffer = refl; limit = refl }; is = λ limit row current. null_there limit _ _ current _ _ c.columns_of.ensures _ (c.in_ok-at.was ∙ ap Ok c.in-Some.is) _ _ c.cell_at-c.ensures c.null_cells.ensures row }
 
 pub null_columns-requires : goal.null_columns-requires
 null_columns-requires c = let is = room_map c.requires.current.room in columns_within _ _ is _ _ c.columns_of.ensures _ (c.in_ok-at.was ∙ ap Ok c.in-Some.is) _ c.cell_at-c.ensures
 
 pub returns-in_err-at : goal.returns-in_err-at
-returns-in_err-at c = rw (passed _ _ c.from_residual.ensures.1) (null_bad _ _ (room_map c.requires.current.room) _ _ c.columns_of.ensures _ c.in_err-at.was)
+returns-in_err-at c = rw (passed _ _ c.from_residual.ensures.1) (record { same = record { buffer = refl; limit = refl }; is = λ limit row current. null_bad limit _ _ current _ _ c.columns_of.ensures _ c.in_err-at.was row })
 
 pub returns-in_default : goal.returns-in_default
-returns-in_default c = null_absent _ _ (room_map c.requires.current.room) _ _ c.columns_of.ensures (c.in_ok-at.was ∙ ap Ok c.in_default.is)
+returns-in_default c = record { same = record { buffer = refl; limit = refl }; is = λ limit row current. null_absent limit _ _ current _ _ c.columns_of.ensures (c.in_ok-at.was ∙ ap Ok c.in_default.is) row }
 
 pub returns : goal.returns
-returns c = null_there _ _ (room_map c.requires.current.room) _ _ c.columns_of.ensures _ (c.in_ok-at.was ∙ ap Ok c.in-Some.is) _ _ c.cell_at-c.ensures c.null_columns.ensures
+returns c = record { same = record { buffer = refl; limit = refl }; is = λ limit row current. null_there limit _ _ current _ _ c.columns_of.ensures _ (c.in_ok-at.was ∙ ap Ok c.in-Some.is) _ _ c.cell_at-c.ensures c.null_columns.ensures row }

@@ -3,9 +3,9 @@ use mathlib.Core.Path.{sym, ap, ◌∙◌}
 use Rattle.refusal.proofs.Passed.{passed}
 use Rattle.model.specs.Walk.{done}
 use Rattle.model.specs.Access.{◌>>=◌}
-use Rattle.area.specs.Cells.{cells}
 use Rattle.cursor_arms.specs.StandsFor.{head_slot, columns_slot}
 use Rattle.state.specs.Own.{place_of}
+use Rattle.state.specs.Stores.{cells_in}
 use Rattle.cursor_arms.proofs.StandsLaws.{entry-within, register_within, finds_columns}
 use Rattle.cursor_arms.proofs.CursorDataType.columns.Goals as goal
 
@@ -20,8 +20,8 @@ returns-in-Normal c = finds_columns _ _ _ _ (ap done (c.head_at.ensures ∙ ap (
 
 pub returns-in_ok-at-in-Pseudo : goal.returns-in_ok-at-in-Pseudo
 returns-in_ok-at-in-Pseudo c =
-    finds_columns _ _ _ _ (ap done c.head_at-in-Pseudo.ensures ∙ ap (λ t. t >>= λ o. done (head_slot (cells c.args.area.now) o)) (ap place_of (sym c.in_ok-at-in-Pseudo.was) ∙ c.get.ensures.place) ∙ ap (columns_slot _ _) (sym c.in-Pseudo.is))
+    finds_columns _ _ _ _ (ap done c.head_at-in-Pseudo.ensures ∙ ap (λ t. t >>= λ o. done (head_slot (cells_in c.args.store.now) o)) (ap place_of (sym c.in_ok-at-in-Pseudo.was) ∙ c.get.ensures.place) ∙ ap (columns_slot _ _) (sym c.in-Pseudo.is))
 
 pub returns-in_err-at-in-Pseudo : goal.returns-in_err-at-in-Pseudo
 returns-in_err-at-in-Pseudo c =
-    rw (passed _ _ c.from_residual.ensures.1) (finds_columns _ _ _ _ (ap (λ t. t >>= λ o. done (head_slot (cells c.args.area.now) o)) (ap place_of (sym c.in_err-at-in-Pseudo.was) ∙ c.get.ensures.place) ∙ ap (columns_slot _ _) (sym c.in-Pseudo.is)))
+    rw (passed _ _ c.from_residual.ensures.1) (finds_columns _ _ _ _ (ap (λ t. t >>= λ o. done (head_slot (cells_in c.args.store.now) o)) (ap place_of (sym c.in_err-at-in-Pseudo.was) ∙ c.get.ensures.place) ∙ ap (columns_slot _ _) (sym c.in-Pseudo.is)))

@@ -1,0 +1,40 @@
+-- A state's map in the area as one value, lent: what is asked of it, and what a change of it gives, said of the limit, the cells before and
+-- after, and the map. Assumes nothing.
+use Rattle.std.specs.Prelude.{◌≡◌, List, ℕ, Ok, Err, Result}
+use Rattle.refusal.specs.declared.Refusal.{Refusal}
+use Rattle.area.specs.Cells.{cells}
+use Rattle.area.specs.declared.Cell.{Cell}
+use Rattle.intmap.specs.Store.{Stored}
+use Rattle.intmap.specs.declared.IntMap.{IntMap}
+use Rattle.state.specs.Leads.{Held, Current}
+use Rattle.state.specs.declared.store.Store.{Store}
+
+abbrev pub cells_in : Store → List Cell
+cells_in s = cells s.area.now
+
+abbrev pub IsHeld : Store → Type 0
+IsHeld s = Held (cells_in s) s.map
+
+abbrev pub IsCurrent : Store → Type 0
+IsCurrent s = Current s.limit (cells_in s) s.map
+
+-- the same buffer, and the same limit
+pub record SameStore (s t : Store) : Type 0 where
+  pub buffer : t.area.ghost_name ≡ s.area.ghost_name
+  pub limit : t.limit ≡ s.limit
+
+-- why a change was refused, or the map then
+abbrev pub stored_in : Store → Result (Unit {0}) Refusal → Stored
+stored_in t (Err e) = Err e
+stored_in t (Ok u) = Ok t.map
+
+-- a change that may be refused; what the map is after a refusal is not asked
+pub record Changes (P : ℕ → List Cell → List Cell → IntMap → Stored → Type 0) (s t : Store) (r : Result (Unit {0}) Refusal) : Type 0 where
+  pub same : SameStore s t
+  pub is : P s.limit (cells_in s) (cells_in t) s.map (stored_in t r)
+
+-- a change of cells that leaves the map
+pub record Writes (P : List Cell → List Cell → IntMap → Type 0) (s t : Store) : Type 0 where
+  pub same : SameStore s t
+  pub map : t.map ≡ s.map
+  pub is : P (cells_in s) (cells_in t) s.map
