@@ -29,7 +29,6 @@ use Rattle.encoding.proofs.Packing.{register_key}
 use Rattle.encoding.proofs.StateRuns.{cursors_from}
 use Rattle.state.specs.Leads.{HoldsMap}
 use Rattle.state.specs.declared.registers.Registers.{Registers}
-use Rattle.merge.specs.declared.columns.Columns.{Columns}
 use Rattle.merge.specs.Columns.{unsaid, column_byte, HasColumns, Merges}
 use Rattle.merge.specs.Entries.{merge_byte, merge_cell, head_run, merge_runs}
 use Rattle.merge.proofs.ByteLaws.{merge-nothing, register_byte_lem, merged_at, merged_length}
@@ -147,9 +146,9 @@ row-length : (row : List ColumnType) → length (result_columns row) ≡ length 
 unfolding result_columns
 row-length row = length-map row result_column
 
-pub merged_row : {N : ℕ} (cs : List Cell) (a : IntMap) (from : Registers) (before after : Columns N) (w : Found) (key : ℕ)
-    → key ≡ class_key 0 from.first → from.count ≤ length before.bytes → w ≡ seek cs levels key a.len a.base → after.bytes ≡ merge_runs key from.count (entries cs levels w.left w.at) before.bytes → after.width ≡ max before.width from.count → Merges cs a from before after
-merged_row cs a from before after w key ke fits found is wide = record { widest = wide; whole = whole; says = says }
+pub merged_row : (cs : List Cell) (a : IntMap) (from : Registers) (before after : List ℕ) (width r : ℕ) (w : Found) (key : ℕ)
+    → key ≡ class_key 0 from.first → from.count ≤ length before → w ≡ seek cs levels key a.len a.base → after ≡ merge_runs key from.count (entries cs levels w.left w.at) before → r ≡ max width from.count → Merges cs a from before after width r
+merged_row cs a from before after width r w key ke fits found is wide = record { widest = wide; whole = whole; says = says }
   where
     i : ℕ
     i = from.first
@@ -157,18 +156,18 @@ merged_row cs a from before after w key ke fits found is wide = record { widest 
     n : ℕ
     n = from.count
 
-    whole : after.bytes ≡ merge_runs (class_key 0 i) n (entries cs levels a.len a.base) before.bytes
+    whole : after ≡ merge_runs (class_key 0 i) n (entries cs levels a.len a.base) before
     whole =
-        is ∙ ap (λ f. merge_runs key n (entries cs levels f.left f.at) before.bytes) found ∙ merged_sought cs levels key n before.bytes a.len a.base
-        ∙ ap (λ k. merge_runs k n (entries cs levels a.len a.base) before.bytes) ke
+        is ∙ ap (λ f. merge_runs key n (entries cs levels f.left f.at) before) found ∙ merged_sought cs levels key n before a.len a.base
+        ∙ ap (λ k. merge_runs k n (entries cs levels a.len a.base) before) ke
 
-    says : (limit bound : ℕ) (m : MemoryState) (row : List ColumnType) (columns : List ResultColumn) → HoldsMap limit bound cs a m → read_columns n (pos i) m ≡ done row → HasColumns before.bytes before.width columns → HasColumns after.bytes after.width (merge (result_columns row) columns)
+    says : (limit bound : ℕ) (m : MemoryState) (row : List ColumnType) (columns : List ResultColumn) → HoldsMap limit bound cs a m → read_columns n (pos i) m ≡ done row → HasColumns before width columns → HasColumns after r (merge (result_columns row) columns)
     says limit bound m row columns holds read has =
         let it = row_read n i m row from.within read in record {
           wide = merged_length (result_columns row) columns ∙ ap₂ max has.wide (row-length row ∙ it.long) ∙ sym wide;
           stand = λ j.
-              ap (λ l. get_or l j 0) (whole ∙ ap (λ es. merge_runs (class_key 0 i) n es before.bytes) holds.runs)
-              ∙ byte_at limit m holds.good n i row from.within it before.bytes fits j
+              ap (λ l. get_or l j 0) (whole ∙ ap (λ es. merge_runs (class_key 0 i) n es before) holds.runs)
+              ∙ byte_at limit m holds.good n i row from.within it before fits j
               ∙ ap (λ x. merge_byte (column_byte (get_or (result_columns row) j unsaid)) x) (has.stand j)
               ∙ sym (merged_at (result_columns row) columns j);
         }

@@ -14,7 +14,6 @@ use Rattle.intmap.specs.declared.IntMap.{IntMap}
 use Rattle.encoding.specs.Encode.{nullable_code}
 use Rattle.state.specs.Leads.{HoldsMap}
 use Rattle.state.specs.declared.registers.Registers.{Registers}
-use Rattle.merge.specs.declared.columns.Columns.{Columns}
 use Rattle.merge.specs.Entries.{merge_runs}
 
 -- nothing is known of it
@@ -31,7 +30,7 @@ pub record HasColumns (bytes : List ℕ) (width : ℕ) (columns : List ResultCol
 
 -- the registers are a newer row: the map's entries are merged into the bytes, whatever these are, and of every state that the map holds, the bytes
 -- then stand for what the definition merges
-pub record Merges {N : ℕ} (cs : List Cell) (a : IntMap) (from : Registers) (before after : Columns N) : Type 0 where
-  pub widest : after.width ≡ max before.width from.count
-  pub whole : after.bytes ≡ merge_runs (class_key 0 from.first) from.count (entries cs levels a.len a.base) before.bytes
-  pub says : (limit bound : ℕ) (m : MemoryState) (row : List ColumnType) (columns : List ResultColumn) → HoldsMap limit bound cs a m → read_columns from.count (pos from.first) m ≡ done row → HasColumns before.bytes before.width columns → HasColumns after.bytes after.width (merge (result_columns row) columns)
+pub record Merges (cs : List Cell) (a : IntMap) (from : Registers) (before after : List ℕ) (width r : ℕ) : Type 0 where
+  pub widest : r ≡ max width from.count
+  pub whole : after ≡ merge_runs (class_key 0 from.first) from.count (entries cs levels a.len a.base) before
+  pub says : (limit bound : ℕ) (m : MemoryState) (row : List ColumnType) (columns : List ResultColumn) → HoldsMap limit bound cs a m → read_columns from.count (pos from.first) m ≡ done row → HasColumns before width columns → HasColumns after r (merge (result_columns row) columns)

@@ -69,6 +69,24 @@ fn merge_entries(columns: &mut [u8], area: &[u8], i: u64, n: u64, at: usize, lef
     }
 }
 
+// Merges registers as a newer row into the columns, of which there are `width` so far, and answers how many there are then. An absent register
+// says nothing, so only the entries that there are take time.
+pub fn merge_row(
+    columns: &mut [u8],
+    width: usize,
+    map: IntMap,
+    area: &[u8],
+    row: Registers,
+) -> usize
+    requires { IsMap (cells area.now) map × (row.count ≤ length columns.old) }
+    ensures { Merges (cells area.now) map row columns.old columns.new width result }
+{
+    let first = intmap::class_key(intmap::Class::Registers, 0) + row.first;
+    let found = map.find(area, first);
+    merge_entries(columns, area, first, row.count, found.at, found.left);
+    width.max(row.count as usize)
+}
+
 impl<const N: usize> Columns<N> {
     // Those of no row.
     pub fn new() -> Columns<N>
@@ -89,21 +107,12 @@ impl<const N: usize> Columns<N> {
         &self.bytes[..self.width]
     }
 
-    // Merges registers as a newer row. An absent register says nothing, so only the entries that there are take time.
+    // Merges registers as a newer row.
     pub fn merge_row(&mut self, map: IntMap, area: &[u8], row: Registers)
         requires { IsMap (cells area.now) map × (row.count ≤ N) }
-        ensures { Merges (cells area.now) map row self.old self.new }
+        ensures { Merges (cells area.now) map row self.old.bytes self.new.bytes self.old.width self.new.width }
     {
-        let first = intmap::class_key(intmap::Class::Registers, 0) + row.first;
-        let found = map.find(area, first);
-        merge_entries(
-            &mut self.bytes,
-            area,
-            first,
-            row.count,
-            found.at,
-            found.left,
-        );
-        self.width = self.width.max(row.count as usize);
+        let width = self.width;
+        self.width = merge_row(&mut self.bytes, width, map, area, row);
     }
 }

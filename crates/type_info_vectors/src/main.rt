@@ -2,6 +2,8 @@
 // The input and what must come out are made by tests/leaf_vectors.py.
 #![tactic(auto)]
 
+ghost use Rattle.std.specs.Prelude.{◌<◌};
+
 use reading::read_full;
 use std::io;
 
@@ -12,8 +14,23 @@ fn show_type(rt: &impl Print, text: &[u8]) -> io::Result<()> {
     }
 }
 
+// The value of a hexadecimal digit; of any other byte a number below 16. A crate of it for both programs that replay would be longer.
+fn digit(byte: u8) -> u8
+    ensures { result < 16 }
+{
+    if byte < b'a' {
+        return byte % 16;
+    }
+    (byte - b'a' + 10) % 16
+}
+
 fn show_utf8<R: Print + Alloc>(rt: &R, digits: &[u8]) -> io::Result<()> {
-    let bytes = hex::decode(rt.alloc(), digits).map_err(|_| io::ErrorKind::InvalidData)?;
+    let mut bytes = Vec::new(rt.alloc());
+    for pair in digits.chunks_exact(2).take(64) {
+        if let [high, low] = pair {
+            bytes.push(digit(*high) * 16 + digit(*low))?;
+        }
+    }
     println!(rt;
         "{}",
         if type_info::utf8::is_utf8(&bytes) {

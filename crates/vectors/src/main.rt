@@ -18,12 +18,12 @@
 // that the area is zero. Printed are the disagreements, how many cases each file has, and how often the entry gave each number.
 #![tactic(auto)]
 
-ghost use Rattle.std.specs.Prelude.{◌≡◌, ◌/◌, ◌%◌, length, take, drop, All, IsTrue, OnOk};
+ghost use Rattle.std.specs.Prelude.{◌≡◌, ◌<◌, ◌/◌, ◌%◌, length, take, drop, All, IsTrue, OnOk, IfSome};
 
 use std::alloc::{AllocError, Global};
 use std::fmt;
 use std::fs::File;
-use std::io::{self, Write};
+use std::io::{self, Read, Write};
 use std::rt::Files;
 
 // What the entry's number is multiplied by, and the length is added to.
@@ -54,46 +54,75 @@ const COLUMN: [&str; 2] = ["type", "null"];
 // A line of the vectors.
 #[derive(Clone, Copy)]
 enum Line<'a> {
-    Case(&'a str),
-    Row(&'a str),
-    Text(&'a str),
-    Tables(&'a str),
+    Case(&'a [u8]),
+    Row(&'a [u8]),
+    Text(&'a [u8]),
+    Tables(&'a [u8]),
     NoTables,
     Again(u64),
     Keep,
     Drop,
     Area(usize),
     Room(usize),
-    Answer(&'a str),
-    Column(&'a str),
+    Answer(&'a [u8]),
+    Column(&'a [u8]),
     Gives(u64),
     Other,
 }
 
 impl Line<'_> {
-    fn parse(line: &str) -> Line<'_> {
-        if line.starts_with(|c: char| c.is_ascii_uppercase()) {
-            return Line::Row(line);
-        }
-        match line.split_once(' ') {
-            Some(("case", name)) => Line::Case(name),
-            Some(("text", text)) => Line::Text(text),
-            Some(("tables", text)) => Line::Tables(text),
-            Some(("no", "tables")) => Line::NoTables,
-            Some(("again", times)) => Line::Again(times.parse().unwrap_or(0)),
-            Some(("area", bytes)) => Line::Area(bytes.parse().unwrap_or(0)),
-            Some(("room", bytes)) => Line::Room(bytes.parse().unwrap_or(0)),
-            Some(("answer", fields)) => Line::Answer(fields),
-            Some(("col", fields)) => Line::Column(fields),
-            Some(("gives", number)) => Line::Gives(number.parse().unwrap_or(0)),
-            Some(_) => Line::Other,
-            None => match line {
-                "keep" => Line::Keep,
-                "drop" => Line::Drop,
-                _ => Line::Other,
-            },
+    fn parse(line: &[u8]) -> Line<'_> {
+        if line.first().is_some_and(|b| b.is_ascii_uppercase()) {
+            Line::Row(line)
+        } else if line.starts_with(b"case ") {
+            Line::Case(line)
+        } else if let Some(text) = line.strip_prefix(b"text ") {
+            Line::Text(text)
+        } else if let Some(text) = line.strip_prefix(b"tables ") {
+            Line::Tables(text)
+        } else if line.starts_with(b"no tables") {
+            Line::NoTables
+        } else if let Some(times) = line.strip_prefix(b"again ") {
+            Line::Again(read_number(times))
+        } else if line.starts_with(b"keep") {
+            Line::Keep
+        } else if line.starts_with(b"drop") {
+            Line::Drop
+        } else if let Some(bytes) = line.strip_prefix(b"area ") {
+            Line::Area(read_number(bytes) as usize)
+        } else if let Some(bytes) = line.strip_prefix(b"room ") {
+            Line::Room(read_number(bytes) as usize)
+        } else if let Some(fields) = line.strip_prefix(b"answer ") {
+            Line::Answer(fields)
+        } else if let Some(fields) = line.strip_prefix(b"col ") {
+            Line::Column(fields)
+        } else if let Some(given) = line.strip_prefix(b"gives ") {
+            Line::Gives(read_number(given))
+        } else {
+            Line::Other
         }
     }
+}
+
+// The value of a hexadecimal digit; of any other byte a number below 16. A crate of it for both programs that replay would be longer.
+fn digit(byte: u8) -> u8
+    ensures { result < 16 }
+{
+    if byte < b'a' {
+        return byte % 16;
+    }
+    (byte - b'a' + 10) % 16
+}
+
+// The number that a text is, in decimal; what goes beyond ten digits is left out.
+fn read_number(text: &[u8]) -> u64 {
+    text.iter().fold(0, |n, &byte| {
+        if n < 1000000000 {
+            n * 10 + digit(byte) as u64
+        } else {
+            n
+        }
+    })
 }
 
 // How what a call left differs from what it must leave.
@@ -162,40 +191,34 @@ fn compare(
     Ok(())
 }
 
-// Writes a text in which `|` is LF.
-fn put_plain(out: &mut Vec<u8>, text: &str) -> Result<(), AllocError> {
-    out.extend(
-        text.bytes()
-            .map(|byte| if byte == b'|' { b'\n' } else { byte }),
-    )
-}
-
-// Writes what stands behind a `\`: two hexadecimal digits and a text, or else the `\` as it is.
-fn put_escaped(out: &mut Vec<u8>, piece: &str) -> Result<(), AllocError> {
-    let Some((digits, text)) = piece.split_at_checked(2) else {
-        out.push(b'\\')?;
-        return put_plain(out, piece);
-    };
-    out.push(u8::from_str_radix(digits, 16).unwrap_or(b'\\'))?;
-    put_plain(out, text)
+// The byte that a text begins with, and the text behind it: `|` is LF, and `\` and two hexadecimal digits are a byte.
+fn next_byte(text: &[u8]) -> Option<(u8, &[u8])>
+    ensures { IfSome result (λ found. length found.1.now < length text.now) }
+{
+    match text {
+        [b'|', rest @ ..] => Some((b'\n', rest)),
+        [b'\\', high, low, rest @ ..] => Some((digit(*high) * 16 + digit(*low), rest)),
+        [byte, rest @ ..] => Some((*byte, rest)),
+        [] => None,
+    }
 }
 
 // Writes a text in which `|` is LF, and `\` and two hexadecimal digits are a byte.
-fn put_raw(out: &mut Vec<u8>, text: &str) -> Result<(), AllocError> {
-    let mut pieces = text.split('\\');
-    put_plain(out, pieces.next().unwrap_or(""))?;
-    for piece in pieces {
-        put_escaped(out, piece)?;
+fn put_raw(out: &mut Vec<u8>, text: &[u8]) -> Result<(), AllocError> {
+    let mut rest = text;
+    while let Some((byte, behind)) = next_byte(rest) {
+        out.push(byte)?;
+        rest = behind;
     }
     Ok(())
 }
 
-// Writes each field on a line of its own, under its name; one that is missing is empty.
-fn put_fields(out: &mut Vec<u8>, names: &[&str], fields: &str) -> io::Result<()> {
-    let mut fields = fields.split(' ');
-    for name in names {
-        let field = fields.next().unwrap_or("");
-        writeln!(out, "{name}={field}")?;
+// Writes each field on a line of its own, under its name.
+fn put_fields(out: &mut Vec<u8>, names: &[&str], fields: &[u8]) -> io::Result<()> {
+    for (name, field) in names.iter().zip(fields.split(|b| *b == b' ')) {
+        write!(out, "{name}=")?;
+        out.extend_from_slice(field)?;
+        out.push(b'\n')?;
     }
     Ok(())
 }
@@ -219,10 +242,15 @@ impl Listing {
         }
     }
 
-    fn add_row(&mut self, fields: &str) -> io::Result<()> {
+    // A row without a P4 has an empty one.
+    fn add_row(&mut self, fields: &[u8]) -> io::Result<()> {
         writeln!(self.text, "addr={}", self.rows)?;
         self.rows = self.rows.wrapping_add(1);
-        put_fields(&mut self.text, &ROW, fields)
+        put_fields(&mut self.text, &ROW, fields)?;
+        if fields.split(|b| *b == b' ').count() < ROW.len() {
+            writeln!(self.text, "p4=")?;
+        }
+        Ok(())
     }
 
     fn keep(&mut self) {
@@ -246,7 +274,7 @@ impl Listing {
 // What the lines so far have built, what the next call is lent, and what the calls gave.
 #[derive(Drop)]
 struct Replay {
-    case: String,
+    case: Vec<u8>,
     listing: Listing,
     catalogue: Vec<u8>,
     expected: Vec<u8>,
@@ -263,7 +291,7 @@ struct Replay {
 impl Replay {
     fn new(alloc: Global) -> Result<Self, AllocError> {
         Ok(Replay {
-            case: String::new(alloc),
+            case: Vec::new(alloc),
             listing: Listing::new(alloc),
             catalogue: Vec::new(alloc),
             expected: Vec::new(alloc),
@@ -278,9 +306,9 @@ impl Replay {
         })
     }
 
-    fn begin_case(&mut self, name: &str) -> Result<(), AllocError> {
+    fn begin_case(&mut self, name: &[u8]) -> Result<(), AllocError> {
         self.case.clear();
-        self.case.push_str(name)?;
+        self.case.extend_from_slice(name)?;
         self.listing.restart();
         self.expected.clear();
         self.lent = AREA;
@@ -288,13 +316,13 @@ impl Replay {
         Ok(())
     }
 
-    fn expect(&mut self, fields: &str) -> io::Result<()> {
+    fn expect(&mut self, fields: &[u8]) -> io::Result<()> {
         self.columns = 0;
         self.expected.clear();
         put_fields(&mut self.expected, &ANSWER, fields)
     }
 
-    fn expect_column(&mut self, fields: &str) -> io::Result<()> {
+    fn expect_column(&mut self, fields: &[u8]) -> io::Result<()> {
         writeln!(self.expected, "col={}", self.columns)?;
         self.columns = self.columns.wrapping_add(1);
         put_fields(&mut self.expected, &COLUMN, fields)
@@ -353,15 +381,16 @@ impl Replay {
             Ok(()) => Ok(()),
             Err(difference) => {
                 self.disagree = self.disagree.wrapping_add(1);
-                println!(rt; "case {}: {difference}", self.case)
+                rt.write_all(&self.case)?;
+                println!(rt; ": {difference}")
             }
         }
     }
 
     // Replays the lines of a file.
-    fn lines(&mut self, rt: &impl Print, text: &str) -> io::Result<()> {
+    fn lines(&mut self, rt: &impl Print, text: &[u8]) -> io::Result<()> {
         let mut last = Line::Other;
-        for line in text.lines() {
+        for line in text.split(|b| *b == b'\n') {
             match Line::parse(line) {
                 Line::Again(times) => self.again(times, last)?,
                 Line::Gives(number) => self.gives(rt, number)?,
@@ -375,15 +404,23 @@ impl Replay {
     }
 
     // Replays a file, from an empty listing and an empty catalogue on, and prints how many cases it had.
-    fn file(&mut self, rt: &(impl Files + Print), alloc: Global, name: &str) -> io::Result<()> {
+    fn file(&mut self, rt: &(impl Files + Print), alloc: Global, name: &[u8]) -> io::Result<()> {
         let before = self.calls;
         self.listing.clear();
         self.catalogue.clear();
-        match File::open(rt, name) {
-            Err(_) => println!(rt; "{name}: missing")?,
-            Ok(file) => self.lines(rt, io::read_to_string(alloc, file)?.as_str())?,
+        match open(rt, name) {
+            None => {
+                rt.write_all(name)?;
+                println!(rt; ": missing")?;
+            }
+            Some(mut file) => {
+                let mut text = Vec::new(alloc);
+                file.read_to_end(&mut text)?;
+                self.lines(rt, &text)?;
+            }
         }
-        println!(rt; "{name}: {} cases", self.calls.wrapping_sub(before))
+        rt.write_all(name)?;
+        println!(rt; ": {} cases", self.calls.wrapping_sub(before))
     }
 
     fn print_totals(&self, rt: &impl Print) -> io::Result<()> {
@@ -394,11 +431,19 @@ impl Replay {
     }
 }
 
+// Opens the file of this name, if there is one. A name that is not UTF-8 names none.
+fn open<R: Files>(rt: &R, name: &[u8]) -> Option<R::File> {
+    let name = str::from_utf8(name).ok()?;
+    File::open(rt, name).ok()
+}
+
 fn main(rt: HostRuntime) -> io::Result<()> {
     let alloc = rt.alloc();
     let mut replay = Replay::new(alloc)?;
-    for name in rt.lines(alloc) {
-        replay.file(&rt, alloc, name?.as_str())?;
+    let mut names = Vec::new(alloc);
+    rt.stdin().read_to_end(&mut names)?;
+    for name in names.split_inclusive(|b| *b == b'\n') {
+        replay.file(&rt, alloc, name.strip_suffix(b"\n").unwrap_or(name))?;
     }
     replay.print_totals(&rt)
 }

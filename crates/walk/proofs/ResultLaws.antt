@@ -32,7 +32,7 @@ has_more : (dols : Columns 2000) (row : ℕ) (columns : List ResultColumn) (coun
 unfolding columns_of
 has_more dols row columns counted h = h
 
-module _ (p : Program) (xs : List ℕ) (cols dols : Columns 2000) (w : Walk) (s : MemoryState) (from : Registers) (merges : Merges (cells xs) s.map from cols dols) where
+module _ (p : Program) (xs : List ℕ) (cols dols : Columns 2000) (w : Walk) (s : MemoryState) (from : Registers) (merges : Merges (cells xs) s.map from cols.bytes dols.bytes cols.width dols.width) where
   -- the list then, of a state that the branch holds
   list_merged :
       {g : Given} {blocks : List ℕ} {ls : List (Lineage Defined)} {remembered : List Defined} {space : ℕ} {counted : List ResultRow} →
