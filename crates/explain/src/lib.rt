@@ -176,7 +176,9 @@ fn handle_row(
     result_row(store, row, x)
 }
 
-// The same, with the state on row `at` and its map in words: a struct that is handed over is written in words and read back in pairs.
+// The same, with the state on row `at` and its map in words: a struct that is handed over is written in words and read back in pairs. Inside the
+// walk's turn it would make the turn a call of its own, with all its registers, also for the rows that are handled in place.
+#[inline(never)]
 pub fn handle(
     at: u64,
     base: usize,
