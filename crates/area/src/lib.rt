@@ -79,7 +79,7 @@ fn move_down(area: &mut [u8], from: usize, to: usize, n: usize)
     }
 }
 
-// Copies n cells up, the last first.
+// Copies n cells up, the last first. Not one with `move_down`: it would take the order as an iterator, and its contract would be longer than both.
 fn move_up(area: &mut [u8], from: usize, to: usize, n: usize)
     requires { (from ≤ to) × Inside area.old to n }
     ensures { CellsNow area.old area.new (moved (cells area.old) from to n) }

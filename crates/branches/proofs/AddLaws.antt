@@ -1,6 +1,6 @@
 -- What `push` says: of a known state that it is dropped, of another that it is kept, where there is space. The new state lies at the top, a
 -- free link on the way of its hashes leads to it, and all others are as they were. Assumes nothing.
-use Rattle.std.proofs.Common.{◌≡◌, ℕ, ◌+◌, ◌-◌, ◌/◌, ◌%◌, ◌<◌, ◌≤◌, Bool, true, false, leb, ◌⊎◌, List, [], ◌∷◌, length, get_or, sym, refl, ap, ◌∙◌, subst, ap₂, inl, inr, arith, le-leb, None, Some, Ok, Err}
+use Rattle.std.proofs.Common.{◌≡◌, ℕ, ◌+◌, ◌-◌, ◌/◌, ◌%◌, ◌<◌, ◌≤◌, Bool, true, false, leb, ◌⊎◌, List, [], ◌∷◌, length, get_or, sym, refl, ap, ◌∙◌, subst, ap₂, inl, inr, arith, le-leb, Option, None, Some, Ok, Err}
 use native.Mathlib.Decide.{ℕ_discrete}
 use borrow.Author.Tests.{lt-leb}
 use Rattle.model.specs.Walk.{◌∈◌, verdict, known, judge}
@@ -17,16 +17,17 @@ use Rattle.intmap.proofs.StoreLaws.{few_entries}
 use Rattle.encoding.proofs.Held.{held_used}
 use Rattle.state.specs.Steps.{HoldsState}
 use Rattle.state.specs.declared.MemoryState.{MemoryState}
-use Rattle.branches.specs.Header.{half, sizes_word, hash_at, sizes_at, child, used_at, next_at, state_at}
+use Rattle.branches.specs.Header.{half, sizes_word, hash_at, sizes_at, child, used_at, next_at, state_at, link_of, place_of}
 use Rattle.branches.specs.Hash.{hash_from, hash_of}
 use Rattle.branches.specs.Entries.{Kept, states, Counted, count_cells, IsKept, Blocks, Stands, next_bits, here, OnWay, Later, Links, Waiting, Remembers}
 use Rattle.branches.specs.Lists.{units_for, Pushes}
-use Rattle.branches.specs.Search.{Ends, Searches}
+use Rattle.branches.specs.Search.{Ends, EndsAt, Searches}
 use Rattle.branches.specs.Changes.{Pushable, Savable, Saves, Linkable, Linked, Connects}
 use Rattle.branches.specs.declared.BranchList.{BranchList}
+use Rattle.branches.specs.declared.FreeLink.{FreeLink}
 use Rattle.branches.proofs.HeaderLaws.{child-same, child_alike, child-none, len_part, used_part, next_part, state_parts}
 use Rattle.branches.proofs.HashLaws.{hashes_equal}
-use Rattle.branches.proofs.BlockLaws.{end_at, Apart, blocks_low, blocks_span, blocks_apart, blocks_same, waiting_same, waiting_low}
+use Rattle.branches.proofs.BlockLaws.{end_at, Apart, blocks_low, blocks_span, blocks_apart, blocks_same, waiting_same, waiting_link, waiting_low}
 use Rattle.branches.proofs.PathLaws.{Adds, path_kept, path_more}
 use Rattle.branches.proofs.RememberLaws.{Bytes, counted-kept, SameBlock, kept_same, way_same}
 use Rattle.branches.proofs.SearchLaws.{at_equal, equal_at, known-true, known-false}
@@ -36,7 +37,7 @@ abbrev pub end_of : ℕ → BranchList → MemoryState → ℕ
 end_of n b s = b.top + 2 + s.map.used + count_cells n
 
 abbrev pub grown : ℕ → BranchList → MemoryState → BranchList
-grown n b s = record { first = b.first; top = end_of n b s; last = b.top }
+grown n b s = record { first = b.first; top = end_of n b s; last = Some b.top }
 
 abbrev pub newest : BranchList → Defined → List ℕ → Kept
 newest b m past = record { at = b.top; mem = m; past = past }
@@ -60,7 +61,7 @@ module _ (limit n counts : ℕ) (xs : List ℕ) (b : BranchList) (s : MemoryStat
         bytes = refl;
       }
 
-  module _ (at bits : ℕ) (found : Searches xs b s (Some (record { at = at; bits = bits }))) where
+  module _ (free : FreeLink) (found : Searches xs b s (Some free)) where
     unknown : (bound : ℕ) (ks ws : List Kept) (m : Defined) → Remembers limit bound n xs b ks ws → HoldsState limit bound (cells xs) s m → known eq_state m (states ks) ≡ false
     unknown bound ks ws m r held =
         known-false m ks (λ k e h. (found.says limit bound n ks ws r).none k e (equal_at limit bound n xs s m k ok.offers.map held (r.kept k e) h))
@@ -103,12 +104,13 @@ module _
     (xs us ys : List ℕ)
     (b : BranchList)
     (s : MemoryState)
-    (h at bits : ℕ)
+    (h : ℕ)
+    (free : FreeLink)
     (ok : Pushable limit n counts xs b s)
     (is : h ≡ hash_of (cells xs) s)
     (fits : end_of n b s ≤ length (cells xs))
     (saves : Saves n xs us b.top s h b.last counts)
-    (links : Connects us ys at bits b.top)
+    (links : Connects us ys free b.top)
     (small : Bytes xs)
     (less : Bytes us)
     (few : Bytes ys)
@@ -131,7 +133,7 @@ module _
       agree : Agree (cells us) (b.top + 2) (cells ys) (b.top + 2) s.map.used
       agree j lt = above (b.top + 2 + j) (omega arith)
 
-      sizes_new : sizes_at (cells ys) b.top ≡ sizes_word s.map.len s.map.used b.last
+      sizes_new : sizes_at (cells ys) b.top ≡ sizes_word s.map.len s.map.used (link_of b.last)
       sizes_new = ap (λ (c : Cell). c.payload) (above (b.top + 1) (omega arith) ∙ saves.second)
 
       hash_new : hash_at (cells ys) b.top ≡ h
@@ -146,7 +148,7 @@ module _
       used_new : used_at (cells ys) b.top ≡ s.map.used
       used_new = used_part (cells ys) b.top _ _ _ sizes_new len_most most
 
-      next_new : next_at (cells ys) b.top ≡ b.last
+      next_new : next_at (cells ys) b.top ≡ link_of b.last
       next_new = next_part (cells ys) b.top _ _ _ sizes_new len_most most
 
       state_new : state_at (cells ys) b.top ≡ record { row = s.row; map = placed (b.top + 2) s.map }
@@ -207,7 +209,7 @@ module _
                 waiting = (
                   refl,
                   omega (arith, next_new, waiting_low (cells xs) b.last b.top ws (omega (arith, r.positive, blocks_low (cells xs) n b.first b.top ks r.blocks)) (λ k e. omega (arith, (lies k (r.among k e)).1)) r.waiting),
-                  subst (λ (x : ℕ). Waiting (cells ys) x ws) (sym next_new) (waiting_same (cells xs) (cells ys) b.last ws (λ k e. ap (λ (x : ℕ). x / half) (old k (r.among k e)).sizes) r.waiting),
+                  subst (λ (x : Option ℕ). Waiting (cells ys) x ws) (sym (ap place_of next_new ∙ waiting_link (cells xs) b.last ws r.waiting)) (waiting_same (cells xs) (cells ys) b.last ws (λ k e. ap (λ (x : ℕ). x / half) (old k (r.among k e)).sizes) r.waiting),
                 );
                 among = among_cons (λ (k : Kept). k ∈ (newest b m past ∷ ks)) _ ws (inl refl) (λ k e. inr (r.among k e));
                 positive = r.positive;
@@ -217,7 +219,7 @@ module _
               }
 
     -- it is the first
-    alone : at ≡ 0 → ks ≡ [] → Remembers limit bound n ys (grown n b s) (newest b m past ∷ ks) (newest b m past ∷ ws)
+    alone : free.at ≡ None → ks ≡ [] → Remembers limit bound n ys (grown n b s) (newest b m past ∷ ks) (newest b m past ∷ ws)
     alone z e =
         let same : cells ys ≡ cells us = links.none z in
         let root : b.top ≡ b.first = subst (Blocks (cells xs) n b.first b.top) e r.blocks in
@@ -229,12 +231,12 @@ module _
         (subst (OnWay (cells ys) (newest b m past ∷ ks) b.first (hash_from (cells xs) s)) (sym root) (record { left = hash_of (cells xs) s; path = here }))
 
     -- the way of its hashes ended at a free link
-    module _ (ends : Ends (cells xs) b ks (hash_from (cells xs) s) at bits) where
+    module _ (at : ℕ) (there : free.at ≡ Some at) (ends : Ends (cells xs) b ks (hash_from (cells xs) s) at free.bits) where
       place_lies : (b.first ≤ at) × (end_at (cells xs) n at ≤ b.top)
       place_lies = subst (λ (p : ℕ). (b.first ≤ p) × (end_at (cells xs) n p ≤ b.top)) ends.reaches.stands.at (blocks_span (cells xs) n b.first b.top ks r.blocks ends.reaches.stands.kept ends.reaches.stands.among)
 
-      linked : Linked (cells us) (cells ys) at bits b.top
-      linked = links.linked (λ z. omega (arith, place_lies.0, r.positive))
+      linked : Linked (cells us) (cells ys) at free.bits b.top
+      linked = links.linked at there
 
       -- of the cells below the top one alone has changed
       low : (j : ℕ) → j < b.top → (j ≡ at + 1 → ⊥) → get_or (cells ys) j blank ≡ get_or (cells xs) j blank
@@ -258,10 +260,10 @@ module _
           }
 
       -- each link leads where it led, but the free one
-      leads_at : (p q : ℕ) → p + 2 ≤ b.top → Dec (p ≡ at) → Dec (q % 3 ≡ bits % 3) → (child (cells ys) p q ≡ child (cells xs) p q) ⊎ ((child (cells xs) p q ≡ 0) × (child (cells ys) p q ≡ b.top))
+      leads_at : (p q : ℕ) → p + 2 ≤ b.top → Dec (p ≡ at) → Dec (q % 3 ≡ free.bits % 3) → (child (cells ys) p q ≡ child (cells xs) p q) ⊎ ((child (cells xs) p q ≡ 0) × (child (cells ys) p q ≡ b.top))
       leads_at p q le (yes e) (yes f) =
           inr (
-            ap (λ (x : ℕ). child (cells xs) x q) e ∙ child_alike (cells xs) at q bits f ∙ ends.free,
+            ap (λ (x : ℕ). child (cells xs) x q) e ∙ child_alike (cells xs) at q free.bits f ∙ ends.free,
             ap (λ (x : ℕ). child (cells ys) x q) e ∙ linked.alike q f,
           )
       leads_at p q le (yes e) (no d) =
@@ -272,28 +274,32 @@ module _
       adds_link p q a ne =
           let lies = subst (λ (x : ℕ). end_at (cells xs) n x ≤ b.top) a.at (blocks_span (cells xs) n b.first b.top ks r.blocks a.kept a.among).1 in (
             subst (λ (x : ℕ). hash_at (cells ys) x ≡ hash_at (cells xs) x) a.at (ap (λ (c : Cell). c.head) (old_block a.kept a.among).head),
-            elim (leads_at p q (omega (arith, lies)) (ℕ_discrete p at) (ℕ_discrete (q % 3) (bits % 3))) [ inl e ↦ e | inr z ↦ absurd (ne z.0) ],
+            elim (leads_at p q (omega (arith, lies)) (ℕ_discrete p at) (ℕ_discrete (q % 3) (free.bits % 3))) [ inl e ↦ e | inr z ↦ absurd (ne z.0) ],
           )
 
       leads_old : (k : Kept) → k ∈ ks → (q : ℕ) → (child (cells ys) k.at q ≡ child (cells xs) k.at q) ⊎ (child (cells ys) k.at q ≡ b.top)
       leads_old k e q =
-          elim (leads_at k.at q (omega (arith, (blocks_span (cells xs) n b.first b.top ks r.blocks k e).1)) (ℕ_discrete k.at at) (ℕ_discrete (q % 3) (bits % 3))) [
+          elim (leads_at k.at q (omega (arith, (blocks_span (cells xs) n b.first b.top ks r.blocks k e).1)) (ℕ_discrete k.at at) (ℕ_discrete (q % 3) (free.bits % 3))) [
             | inl e ↦ inl e
             | inr z ↦ inr z.1
           ]
 
       way_new : OnWay (cells ys) (newest b m past ∷ ks) b.first (hash_from (cells xs) s) b.top
       way_new =
-          let to = linked.alike bits refl in
+          let to = linked.alike free.bits refl in
           let way = path_kept (cells xs) (cells ys) ks (newest b m past ∷ ks) (hash_from (cells xs) s) (λ q a. stands_more a) adds_link ends.reaches.path in
           let more = path_more (cells ys) (newest b m past ∷ ks) (hash_from (cells xs) s) way (stands_more ends.reaches.stands) (λ z. omega (arith, to, place_lies.1)) in
-          subst (OnWay (cells ys) (newest b m past ∷ ks) b.first (hash_from (cells xs) s)) to (record { left = next_bits (cells ys) (hash_from (cells xs) s) at bits; path = more })
+          subst (OnWay (cells ys) (newest b m past ∷ ks) b.first (hash_from (cells xs) s)) to (record { left = next_bits (cells ys) (hash_from (cells xs) s) at free.bits; path = more })
 
       under : Remembers limit bound n ys (grown n b s) (newest b m past ∷ ks) (newest b m past ∷ ws)
       under = assembled (λ j le. linked.elsewhere j (λ z. omega (arith, place_lies.1))) old_block adds_link leads_old way_new
 
-    pub added : Searches xs b s (Some (record { at = at; bits = bits })) → Remembers limit bound n ys (grown n b s) (newest b m past ∷ ks) (newest b m past ∷ ws)
-    added found = elim (found.says limit bound n ks ws r).place [ inl z ↦ alone z.0 z.1 | inr e ↦ under e ]
+    pub added : Searches xs b s (Some free) → Remembers limit bound n ys (grown n b s) (newest b m past ∷ ks) (newest b m past ∷ ws)
+    added found = go free.at refl (found.says limit bound n ks ws r).place
+      where
+        go : (o : Option ℕ) → free.at ≡ o → EndsAt (cells xs) b ks s o free.bits → Remembers limit bound n ys (grown n b s) (newest b m past ∷ ks) (newest b m past ∷ ws)
+        go None e place = alone e place
+        go (Some at) e place = under at e place
 
 -- ---- what the parts ask for
 module _ (limit n counts : ℕ) (xs : List ℕ) (b : BranchList) (s : MemoryState) (ok : Pushable limit n counts xs b s) where
@@ -314,39 +320,37 @@ module _ (limit n counts : ℕ) (xs : List ℕ) (b : BranchList) (s : MemoryStat
         room = fits;
       }
 
-  module _ (us : List ℕ) (h at bits : ℕ) (saves : Saves n xs us b.top s h b.last counts) (found : Searches xs b s (Some (record { at = at; bits = bits }))) where
+  module _ (us : List ℕ) (h : ℕ) (free : FreeLink) (saves : Saves n xs us b.top s h b.last counts) (found : Searches xs b s (Some free)) where
     -- where the link is
-    pub record FreeLink : Type 0 where
-      pub high : at + 2 ≤ b.top + 2
-      pub low : (at ≡ 0 → ⊥) → b.first ≤ at
-      pub free : (at ≡ 0 → ⊥) → child (cells us) at bits ≡ 0
+    pub record LinkAt (p : ℕ) : Type 0 where
+      pub high : p + 2 ≤ b.top
+      pub low : b.first ≤ p
+      pub nowhere : child (cells us) p free.bits ≡ 0
 
-    pub free_link : FreeLink
-    free_link =
+    pub link_at : (p : ℕ) → free.at ≡ Some p → LinkAt p
+    link_at p at =
         let q = ok.remembering in
         let r = q.remembers in
-        elim (found.says limit q.bound n q.all q.wait r).place [
-          | inl z ↦ record { high = omega (arith, z.0); low = λ ne. absurd (ne z.0); free = λ ne. absurd (ne z.0) }
-          | inr e ↦ let lies = blocks_span (cells xs) n b.first b.top q.all r.blocks e.reaches.stands.kept e.reaches.stands.among in
-              let at = e.reaches.stands.at in
-              record {
-                high = omega (arith, lies.1);
-                low = λ ne. omega (arith, lies.0);
-                free = λ ne. child-same (cells xs) (cells us) _ bits (saves.below.same _ (omega (arith, lies.1))) ∙ e.free;
-              }
-        ]
+        let e : Ends (cells xs) b q.all (hash_from (cells xs) s) p free.bits = subst (λ (o : Option ℕ). EndsAt (cells xs) b q.all s o free.bits) at (found.says limit q.bound n q.all q.wait r).place in
+        let lies = blocks_span (cells xs) n b.first b.top q.all r.blocks e.reaches.stands.kept e.reaches.stands.among in
+        let is = e.reaches.stands.at in
+        record {
+          high = omega (arith, lies.1);
+          low = omega (arith, lies.0);
+          nowhere = child-same (cells xs) (cells us) p free.bits (saves.below.same _ (omega (arith, lies.1))) ∙ e.free;
+        }
 
-    pub link_ready : end_of n b s ≤ length (cells xs) → Linkable us at bits b.top
+    pub link_ready : end_of n b s ≤ length (cells xs) → Linkable us free b.top
     link_ready fits =
         let len = cells-kept xs us saves.bytes in
         let small = ok.offers.map.small in
-        record { header = omega (arith, len, free_link.high); small = omega (arith, len); free = free_link.free; place = omega (arith, ok.remembering.remembers.inside) }
+        record { header = λ p e. omega (arith, len, (link_at p e).high); small = omega (arith, len); free = λ p e. (link_at p e).nowhere; place = omega (arith, ok.remembering.remembers.inside) }
 
     pub push_added :
         (ys : List ℕ) →
         h ≡ hash_of (cells xs) s →
         end_of n b s ≤ length xs / 16 →
-        Connects us ys at bits b.top →
+        Connects us ys free b.top →
         Bytes xs →
         Bytes us →
         Bytes ys →
@@ -357,20 +361,20 @@ module _ (limit n counts : ℕ) (xs : List ℕ) (b : BranchList) (s : MemoryStat
           says = λ bound ks ws m past r held counted.
               let used = held_used limit bound (cells xs) _ _ _ m held.map in
               inr (
-                judged n m ks (length (cells xs) - b.top) false true (unknown limit n counts xs b s ok at bits found bound ks ws m r held)
+                judged n m ks (length (cells xs) - b.top) false true (unknown limit n counts xs b s ok free found bound ks ws m r held)
                     (le-leb (units_for n m) (length (cells xs) - b.top) (omega (arith, used, fits))),
                 record {
                   first = refl;
                   top = omega (arith, used);
-                  remembers = added limit n counts xs us ys b s h at bits ok is fits saves links small less few bound ks ws m past r held counted found;
+                  remembers = added limit n counts xs us ys b s h free ok is fits saves links small less few bound ks ws m past r held counted found;
                 },
               );
-          below = record { long = cells-kept xs ys (links.bytes ∙ saves.bytes); same = λ j lt. kept j (inl lt) (ℕ_discrete at 0) ∙ saves.below.same j (omega (arith, low_top)) };
-          writes = (λ e. absurd (omega (arith, ap (λ (c : BranchList). c.top) e)), λ j le. kept j (inr (omega arith)) (ℕ_discrete at 0) ∙ saves.above j le);
+          below = record { long = cells-kept xs ys (links.bytes ∙ saves.bytes); same = λ j lt. kept j (inl lt) free.at refl ∙ saves.below.same j (omega (arith, low_top)) };
+          writes = (λ e. absurd (omega (arith, ap (λ (c : BranchList). c.top) e)), λ j le. kept j (inr (omega arith)) free.at refl ∙ saves.above j le);
           bytes = links.bytes ∙ saves.bytes;
         }
       where
-        kept : (j : ℕ) → (j < b.first) ⊎ (b.top + 2 ≤ j) → Dec (at ≡ 0) → get_or (cells ys) j blank ≡ get_or (cells us) j blank
-        kept j lt (yes z) = ap (λ (l : List Cell). get_or l j blank) (links.none z)
-        kept j (inl lt) (no ne) = (links.linked ne).elsewhere j (λ e. omega (arith, free_link.low ne))
-        kept j (inr le) (no ne) = (links.linked ne).elsewhere j (λ e. omega (arith, free_link.high))
+        kept : (j : ℕ) → (j < b.first) ⊎ (b.top + 2 ≤ j) → (o : Option ℕ) → free.at ≡ o → get_or (cells ys) j blank ≡ get_or (cells us) j blank
+        kept j out None e = ap (λ (l : List Cell). get_or l j blank) (links.none e)
+        kept j (inl lt) (Some p) e = (links.linked p e).elsewhere j (λ z. omega (arith, (link_at p e).low))
+        kept j (inr le) (Some p) e = (links.linked p e).elsewhere j (λ z. omega (arith, (link_at p e).high))

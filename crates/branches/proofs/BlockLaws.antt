@@ -1,9 +1,10 @@
 -- Laws of `Blocks`: each lies between `first` and `top`, two of them are one or apart, the first is at `first`. Assumes nothing.
-use Rattle.std.proofs.Common.{◌≡◌, ℕ, ◌+◌, ◌<◌, ◌≤◌, ◌⊎◌, List, [], ◌∷◌, sym, refl, ap, ◌∙◌, subst, inl, inr, arith}
+use Rattle.std.proofs.Common.{◌≡◌, ℕ, ◌+◌, ◌<◌, ◌≤◌, ◌⊎◌, List, [], ◌∷◌, sym, refl, ap, ◌∙◌, subst, inl, inr, arith, Option}
 use Rattle.model.specs.Walk.{◌∈◌}
 use Rattle.area.specs.declared.Cell.{Cell}
-use Rattle.branches.specs.Header.{used_at, next_at}
+use Rattle.branches.specs.Header.{used_at, next_at, link_of, place_of}
 use Rattle.branches.specs.Entries.{Kept, count_cells, Blocks, Stands, Waiting}
+use Rattle.branches.proofs.HeaderLaws.{place_some}
 
 -- where the one at p ends
 abbrev pub end_at : List Cell → ℕ → ℕ → ℕ
@@ -47,14 +48,19 @@ blocks_same cs ds n first top [] same b = b
 blocks_same cs ds n first top (k ∷ ks) same b = (omega (arith, same k (inl refl), b.0), blocks_same cs ds n first k.at ks (λ j e. same j (inr e)) b.1)
 
 -- and those that wait
-pub waiting_same : (cs ds : List Cell) (link : ℕ) (ws : List Kept) → ((k : Kept) → k ∈ ws → next_at ds k.at ≡ next_at cs k.at) → Waiting cs link ws → Waiting ds link ws
-waiting_same cs ds link [] same w = w
-waiting_same cs ds link (k ∷ ws) same w =
+pub waiting_same : (cs ds : List Cell) (last : Option ℕ) (ws : List Kept) → ((k : Kept) → k ∈ ws → next_at ds k.at ≡ next_at cs k.at) → Waiting cs last ws → Waiting ds last ws
+waiting_same cs ds last [] same w = w
+waiting_same cs ds last (k ∷ ws) same w =
     let e = same k (inl refl) in
-    let rest : Waiting ds (next_at cs k.at) ws = waiting_same cs ds (next_at cs k.at) ws (λ j a. same j (inr a)) w.2 in
-    (w.0, omega (arith, w.1), subst (λ x. Waiting ds x ws) (sym e) rest)
+    let rest : Waiting ds (place_of (next_at cs k.at)) ws = waiting_same cs ds (place_of (next_at cs k.at)) ws (λ j a. same j (inr a)) w.2 in
+    (w.0, omega (arith, w.1), subst (λ x. Waiting ds (place_of x) ws) (sym e) rest)
+
+-- none is at place 0, so that the link's word tells the latest
+pub waiting_link : (cs : List Cell) (last : Option ℕ) (ws : List Kept) → Waiting cs last ws → place_of (link_of last) ≡ last
+waiting_link cs last [] w = subst (λ x. place_of (link_of x) ≡ x) (sym w) refl
+waiting_link cs last (k ∷ ws) w = subst (λ x. place_of (link_of x) ≡ x) (sym w.0) (sym (place_some k.at (λ z. omega (arith, w.1, z))))
 
 -- the latest that waits lies below the top
-pub waiting_low : (cs : List Cell) (link top : ℕ) (ws : List Kept) → 0 < top → ((k : Kept) → k ∈ ws → k.at < top) → Waiting cs link ws → link < top
-waiting_low cs link top [] lt below w = omega arith
-waiting_low cs link top (k ∷ ws) lt below w = omega (arith, below k (inl refl), w.0)
+pub waiting_low : (cs : List Cell) (last : Option ℕ) (top : ℕ) (ws : List Kept) → 0 < top → ((k : Kept) → k ∈ ws → k.at < top) → Waiting cs last ws → link_of last < top
+waiting_low cs last top [] lt below w = omega (arith, ap link_of w)
+waiting_low cs last top (k ∷ ws) lt below w = omega (arith, below k (inl refl), ap link_of w.0)

@@ -1,10 +1,33 @@
--- Laws of specs/Header.antt: which link a digit picks, a link added to their word, and the parts of the sizes' word. Assumes nothing.
-use Rattle.std.proofs.Common.{◌≡◌, ℕ, ◌+◌, ◌-◌, ◌*◌, ◌/◌, ◌%◌, ◌^◌, ◌<◌, ◌≤◌, ◌⊎◌, List, get_or, sym, ap, ◌∙◌, subst, ap₂, inl, inr, mul_assoc, div-lt_iff_lt-mul, arith, pow_pos, pow-add, shr-shr}
+-- Laws of specs/Header.antt: a link and its word, which link a digit picks, a link added to their word, and the parts of the sizes' word. Assumes
+-- nothing.
+use Rattle.std.proofs.Common.{◌≡◌, ℕ, ◌+◌, ◌-◌, ◌*◌, ◌/◌, ◌%◌, ◌^◌, ◌<◌, ◌≤◌, ◌⊎◌, List, get_or, sym, refl, ap, ◌∙◌, subst, ap₂, inl, inr, mul_assoc, div-lt_iff_lt-mul, arith, pow_pos, pow-add, shr-shr, zero, suc, Bool, not, eqb, ne_eqb, None, Some}
+use Rattle.std.specs.Bool.{then_some}
+use Rattle.std.proofs.lemmas.Option.{none-some}
 use native.Mathlib.Nat.{zero-div, add-mul-div_right, add-mul-mod_self_right}
 use Rattle.area.specs.Cells.{blank}
 use Rattle.area.specs.declared.Cell.{Cell}
 use Rattle.state.specs.declared.MemoryState.{MemoryState}
-use Rattle.branches.specs.Header.{third, links_at, shift, sizes_at, child, sizes_word, len_at, used_at, next_at, state_at}
+use Rattle.branches.specs.Header.{third, links_at, shift, sizes_at, child, sizes_word, len_at, used_at, next_at, state_at, link_of, place_of}
+
+-- the word of the place that a word leads to is that word; a word leads nowhere where it is 0, and else to that place
+pub link_place : (w : ℕ) → link_of (place_of w) ≡ w
+link_place zero = refl
+link_place (suc w) = refl
+
+pub place_some : (p : ℕ) → (p ≡ 0 → ⊥) → Some p ≡ place_of p
+place_some zero ne = absurd (ne refl)
+place_some (suc p) ne = refl
+
+pub place_tested : (w : ℕ) → then_some (not (eqb w 0)) w ≡ place_of w
+place_tested zero = refl
+place_tested (suc w) = ap (λ (b : Bool). then_some (not b) (suc w)) (ne_eqb (suc w) 0 (λ z. omega (arith, z)))
+
+pub place_none : (w : ℕ) → None ≡ place_of w → w ≡ 0
+place_none w e = sym (link_place w) ∙ ap link_of (sym e)
+
+pub place_at : (w p : ℕ) → Some p ≡ place_of w → (p ≡ w) × (p ≡ 0 → ⊥)
+place_at zero p e = absurd (none-some _ (sym e))
+place_at (suc w) p e = let f : p ≡ suc w = ap link_of e in (f, λ z. omega (arith, f, z))
 
 -- a link as it is read
 pub child-read : (cs : List Cell) (p bits s : ℕ) (c : Cell) → c ≡ get_or cs (p + 1) blank → s ≡ shift bits → c.head / 2 ^ s % third ≡ child cs p bits

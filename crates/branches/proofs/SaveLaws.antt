@@ -1,6 +1,7 @@
 -- What `save`, `link` and `load` leave: a copy of a map and its counts with a header before them, a link that leads somewhere, and a copy below.
 -- Assumes nothing.
-use Rattle.std.proofs.Common.{◌≡◌, ℕ, ◌+◌, ◌*◌, ◌/◌, ◌%◌, ◌^◌, ◌<◌, ◌≤◌, ◌⊎◌, List, length, get_or, set, sym, refl, ap, ◌∙◌, subst, inl, inr, arith, get_or-set_other, get_or-set_same, shl_exact}
+use Rattle.std.proofs.Common.{◌≡◌, ℕ, ◌+◌, ◌*◌, ◌/◌, ◌%◌, ◌^◌, ◌<◌, ◌≤◌, ◌⊎◌, List, length, get_or, set, sym, refl, ap, ◌∙◌, subst, inl, inr, arith, get_or-set_other, get_or-set_same, shl_exact, Option, Some}
+use Rattle.std.proofs.lemmas.Option.{none-some}
 use native.Mathlib.Decide.{dec_lt}
 use Rattle.area.specs.Cells.{cell, blank, cells, CellsNow}
 use Rattle.area.specs.Moves.{moved}
@@ -16,10 +17,11 @@ use Rattle.intmap.proofs.MapLaws.{placed, placed_map, placed_runs, placed_room}
 use Rattle.encoding.proofs.Held.{held-copied, held_elsewhere}
 use Rattle.state.specs.Leads.{HoldsMap}
 use Rattle.state.specs.declared.MemoryState.{MemoryState}
-use Rattle.branches.specs.Header.{third, sizes_word, shift, row_at, child, used_at, state_at}
+use Rattle.branches.specs.Header.{third, sizes_word, shift, row_at, child, used_at, state_at, link_of}
 use Rattle.branches.specs.Entries.{Counted, count_cells}
 use Rattle.branches.specs.Lists.{Loads}
-use Rattle.branches.specs.Changes.{Savable, Saves, Linkable, Connects, Loadable}
+use Rattle.branches.specs.Changes.{Savable, Saves, Linkable, Linked, Connects, Loadable}
+use Rattle.branches.specs.declared.FreeLink.{FreeLink}
 use Rattle.branches.proofs.HeaderLaws.{child-read, third_there, third_other, third_fits}
 use Rattle.branches.proofs.RememberLaws.{Bytes, counted_same}
 
@@ -29,14 +31,16 @@ module _
     (xs bs ds es ys : List ℕ)
     (p : ℕ)
     (s : MemoryState)
-    (h next counts : ℕ)
+    (h : ℕ)
+    (next : Option ℕ)
+    (counts : ℕ)
     (r : IntMap)
     (ok : Savable n (cells xs) p s next counts)
     (long : length bs ≡ length xs)
     (copied : CopiedMap (cells xs) (cells bs) s.map (p + 2) r)
     (moves : CellsNow bs ds (moved (cells bs) counts (p + 2 + s.map.used) (count_cells n)))
     (one : CellsNow ds es (set (cells ds) p (cell h s.row)))
-    (two : CellsNow es ys (set (cells es) (p + 1) (cell 0 (sizes_word s.map.len s.map.used next))))
+    (two : CellsNow es ys (set (cells es) (p + 1) (cell 0 (sizes_word s.map.len s.map.used (link_of next)))))
   where
     lengths : (length (cells bs) ≡ length (cells xs)) × (length (cells ds) ≡ length (cells xs)) × (length (cells es) ≡ length (cells xs)) × (length (cells ys) ≡ length (cells xs))
     lengths = let a = cells-kept xs bs long in (a, moves.same ∙ a, one.same ∙ moves.same ∙ a, two.same ∙ one.same ∙ moves.same ∙ a)
@@ -65,7 +69,7 @@ module _
         ∙ ap (λ (l : List Cell). get_or l p blank) one.cells
         ∙ get_or-set_same (cells ds) p _ blank (omega (arith, lengths.1, ok.room))
 
-    sizes_there : get_or (cells ys) (p + 1) blank ≡ cell 0 (sizes_word s.map.len s.map.used next)
+    sizes_there : get_or (cells ys) (p + 1) blank ≡ cell 0 (sizes_word s.map.len s.map.used (link_of next))
     sizes_there =
         ap (λ (l : List Cell). get_or l (p + 1) blank) two.cells
         ∙ get_or-set_same (cells es) (p + 1) _ blank (omega (arith, lengths.2, ok.room))
@@ -100,12 +104,12 @@ apart : (bits b s : ℕ) → s ≡ shift bits → (b % 3 ≡ bits % 3 → ⊥) �
 apart bits b s is ne = elim (dec_lt (b % 3) (bits % 3)) [ yes lt ↦ inl (omega arith) | no ge ↦ inr (omega (arith, ne)) ]
 
 -- s is the bit at which the free link begins, c the cell that has it
-module _ (xs : List ℕ) (p bits q s : ℕ) (c : Cell) (ok : Linkable xs p bits q) (some : p ≡ 0 → ⊥) (read : c ≡ get_or (cells xs) (p + 1) blank) (is : s ≡ shift bits) where
+module _ (xs : List ℕ) (to : FreeLink) (p q s : ℕ) (c : Cell) (ok : Linkable xs to q) (at : to.at ≡ Some p) (read : c ≡ get_or (cells xs) (p + 1) blank) (is : s ≡ shift to.bits) where
   shifted : q * 2 ^ s % 2 ^ 64 ≡ q * 2 ^ s
   shifted = shl_exact 21 s 64 ok.place (omega arith)
 
   free : c.head / 2 ^ s % third ≡ 0
-  free = child-read (cells xs) p bits s c read is ∙ ok.free some
+  free = child-read (cells xs) p to.bits s c read is ∙ ok.free p at
 
   pub link_fits : c.head < 2 ^ 64 → c.head + q * 2 ^ s % 2 ^ 64 < 2 ^ 64
   link_fits lt = subst (λ (x : ℕ). c.head + x < 2 ^ 64) (sym shifted) (third_fits c.head q s free ok.place (omega arith) lt)
@@ -114,24 +118,27 @@ module _ (xs : List ℕ) (p bits q s : ℕ) (c : Cell) (ok : Linkable xs p bits 
     written : get_or (cells ys) (p + 1) blank ≡ cell (c.head + q * 2 ^ s) c.payload
     written =
         ap (λ (l : List Cell). get_or l (p + 1) blank) put.cells
-        ∙ get_or-set_same (cells xs) (p + 1) _ blank (omega (arith, ok.header))
+        ∙ get_or-set_same (cells xs) (p + 1) _ blank (omega (arith, ok.header p at))
         ∙ ap (λ (x : ℕ). cell (c.head + x) c.payload) shifted
 
     links_now : (b : ℕ) → child (cells ys) p b ≡ (c.head + q * 2 ^ s) / 2 ^ shift b % third
     links_now b = sym (child-read (cells ys) p b (shift b) _ (sym written) refl)
 
-    pub linked : Connects xs ys p bits q
+    linked_at : Linked (cells xs) (cells ys) p to.bits q
+    linked_at =
+        record {
+          other = λ b d. links_now b ∙ third_other c.head q s free ok.place (shift b) (apart to.bits b s is d) ∙ child-read (cells xs) p b (shift b) c read refl;
+          alike = λ b d. links_now b ∙ ap (λ (x : ℕ). (c.head + q * 2 ^ s) / 2 ^ x % third) (ap (λ (x : ℕ). 21 * x) d ∙ sym is) ∙ third_there c.head q s free ok.place;
+          sizes = ap (λ (d : Cell). d.payload) written ∙ ap (λ (d : Cell). d.payload) read;
+          elsewhere = λ j d. ap (λ (l : List Cell). get_or l j blank) put.cells ∙ get_or-set_other (cells xs) (p + 1) j _ blank d;
+          long = put.same;
+        }
+
+    pub linked : Connects xs ys to q
     linked =
         record {
-          none = λ z. absurd (some z);
-          linked = λ ne.
-              record {
-                other = λ b d. links_now b ∙ third_other c.head q s free ok.place (shift b) (apart bits b s is d) ∙ child-read (cells xs) p b (shift b) c read refl;
-                alike = λ b d. links_now b ∙ ap (λ (x : ℕ). (c.head + q * 2 ^ s) / 2 ^ x % third) (ap (λ (x : ℕ). 21 * x) d ∙ sym is) ∙ third_there c.head q s free ok.place;
-                sizes = ap (λ (d : Cell). d.payload) written ∙ ap (λ (d : Cell). d.payload) read;
-                elsewhere = λ j d. ap (λ (l : List Cell). get_or l j blank) put.cells ∙ get_or-set_other (cells xs) (p + 1) j _ blank d;
-                long = put.same;
-              };
+          none = λ z. absurd (none-some _ (sym z ∙ at));
+          linked = λ r e. subst (λ (x : ℕ). Linked (cells xs) (cells ys) x to.bits q) (ap link_of (sym at ∙ e)) linked_at;
           bytes = put.bytes;
         }
 

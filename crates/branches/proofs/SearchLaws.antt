@@ -16,11 +16,12 @@ use Rattle.encoding.specs.Encode.{runs_of}
 use Rattle.encoding.proofs.Held.{held_states}
 use Rattle.state.specs.Steps.{HoldsState}
 use Rattle.state.specs.declared.MemoryState.{MemoryState}
-use Rattle.branches.specs.Header.{row_at, child, state_at}
+use Rattle.branches.specs.Header.{row_at, child, state_at, place_of}
 use Rattle.branches.specs.Hash.{hash_from, hash_of}
 use Rattle.branches.specs.Entries.{Kept, states, IsKept, next_bits, here, OnPath, OnWay, Later, Remembers}
 use Rattle.branches.specs.Search.{HasMap, IsAt, Tests, Reaches, Searches, SomeRemembering}
 use Rattle.branches.specs.declared.BranchList.{BranchList}
+use Rattle.branches.proofs.HeaderLaws.{place_at}
 use Rattle.branches.proofs.HashLaws.{hashes_equal}
 use Rattle.branches.proofs.BlockLaws.{blocks_span, blocks_root, blocks_none}
 use Rattle.branches.proofs.PathLaws.{path_more, on_next}
@@ -124,20 +125,22 @@ module _ (xs : List ℕ) (first top : ℕ) (s : MemoryState) where
           later ks p (child (cells xs) p bits) ne
           (subst (λ (q : ℕ). (child (cells xs) q bits ≡ 0) ⊎ Later ks q (child (cells xs) q bits)) d.at (r.links d.kept d.among bits))
 
-    pub search_later : (b : BranchList) → b.first ≡ first → b.top ≡ top → SomeRemembering xs b → (next : ℕ) → next ≡ child (cells xs) p bits → (next ≡ 0 → ⊥) → p < next
-    search_later b f t some next e ne =
-        omega (arith, (link_later some.limit some.remembering.bound some.rows b some.remembering.all some.remembering.wait f t some.remembering.remembers (λ z. ne (e ∙ z))).after)
+    pub search_later : (b : BranchList) → b.first ≡ first → b.top ≡ top → SomeRemembering xs b → (next : ℕ) → Some next ≡ place_of (child (cells xs) p bits) → p < next
+    search_later b f t some next e =
+        let at = place_at _ next e in
+        omega (arith, at.0, (link_later some.limit some.remembering.bound some.rows b some.remembering.all some.remembering.wait f t some.remembering.remembers (λ z. at.1 (at.0 ∙ z))).after)
 
     module _ (test : Bool) (tests : Tests (cells xs) s p test) where
-      pub search_next : test ≡ false → (next more : ℕ) → next ≡ child (cells xs) p bits → (next ≡ 0 → ⊥) → more ≡ next_bits (cells xs) (hash_from (cells xs) s) p bits → Searching xs first top s next more
-      search_next not next more e ne g =
+      pub search_next : test ≡ false → (next more : ℕ) → Some next ≡ place_of (child (cells xs) p bits) → more ≡ next_bits (cells xs) (hash_from (cells xs) s) p bits → Searching xs first top s next more
+      search_next not next more e g =
           record {
             says = λ limit bound n b ks ws f t r.
                 let cs : List Cell = cells xs in
                 let d = so.says limit bound n b ks ws f t r in
-                let some : (child cs p bits ≡ 0 → ⊥) = λ z. ne (e ∙ z) in
+                let at = place_at _ next e in
+                let some : (child cs p bits ≡ 0 → ⊥) = λ z. at.1 (at.0 ∙ z) in
                 subst (λ (q : ℕ). Descends cs b ks s next q) (sym g)
-                (subst (λ (q : ℕ). Descends cs b ks s q (next_bits cs (hash_from cs s) p bits)) (sym e)
+                (subst (λ (q : ℕ). Descends cs b ks s q (next_bits cs (hash_from cs s) p bits)) (sym at.0)
                 (record {
                   reaches = record { stands = (link_later limit bound n b ks ws f t r some).stands; path = path_more cs ks (hash_from cs s) d.reaches.path d.reaches.stands some };
                   left = λ k m w. (on_next cs ks (hash_from cs s) (d.left k m w) (λ q. not_there cs s p test tests not (subst (IsAt cs s) (sym q) w))).1;
@@ -153,31 +156,31 @@ module _ (xs : List ℕ) (first top : ℕ) (s : MemoryState) where
                   record { kept = d.kept; among = d.among; there = subst (IsAt (cells xs) s) (sym d.at) (tests.sound is) };
             }
 
-        pub search_free : test ≡ false → 0 ≡ child (cells xs) p bits → Searches xs b s (Some (record { at = p; bits = bits }))
+        pub search_free : test ≡ false → child (cells xs) p bits ≡ 0 → Searches xs b s (Some (record { at = Some p; bits = bits }))
         search_free not free =
             record {
               says = λ limit bound n ks ws r.
                   let cs : List Cell = cells xs in
                   let d = so.says limit bound n b ks ws f t r in
                   record {
-                    none = λ k m w. (on_next cs ks (hash_from cs s) (d.left k m w) (λ q. not_there cs s p test tests not (subst (IsAt cs s) (sym q) w))).0 (sym free);
-                    place = inr (record { reaches = d.reaches; free = sym free });
+                    none = λ k m w. (on_next cs ks (hash_from cs s) (d.left k m w) (λ q. not_there cs s p test tests not (subst (IsAt cs s) (sym q) w))).0 free;
+                    place = record { reaches = d.reaches; free = free };
                   };
             }
 
 -- nothing is remembered
-pub search_none : (xs : List ℕ) (b : BranchList) (s : MemoryState) (h : ℕ) → b.top ≤ b.first → Searches xs b s (Some (record { at = 0; bits = h }))
+pub search_none : (xs : List ℕ) (b : BranchList) (s : MemoryState) (h : ℕ) → b.top ≤ b.first → Searches xs b s (Some (record { at = None; bits = h }))
 search_none xs b s h le =
     record {
       says = λ limit bound n ks ws r.
           let e = blocks_none (cells xs) n b.first b.top ks le r.blocks in
-          record { none = λ k m w. subst (λ (l : List Kept). k ∈ l) e m; place = inl (refl, e) };
+          record { none = λ k m w. subst (λ (l : List Kept). k ∈ l) e m; place = e };
     }
 
 -- the way goes no further than the top
-pub search_end : (xs : List ℕ) (b : BranchList) (s : MemoryState) (h p bits : ℕ) → SomeRemembering xs b → b.top ≤ p → (b.first < b.top → Searching xs b.first b.top s p bits) → Searches xs b s (Some (record { at = 0; bits = h }))
+pub search_end : (xs : List ℕ) (b : BranchList) (s : MemoryState) (h p bits : ℕ) → SomeRemembering xs b → b.top ≤ p → (b.first < b.top → Searching xs b.first b.top s p bits) → Searches xs b s (Some (record { at = None; bits = h }))
 search_end xs b s h p bits some le so = go (dec_lt b.first b.top)
   where
-    go : Dec (b.first < b.top) → Searches xs b s (Some (record { at = 0; bits = h }))
+    go : Dec (b.first < b.top) → Searches xs b s (Some (record { at = None; bits = h }))
     go (yes lt) = absurd (omega (arith, (search_lies xs b.first b.top s p bits (so lt) b refl refl some).high))
     go (no ge) = search_none xs b s h (omega arith)

@@ -8,10 +8,11 @@ use Rattle.area.specs.declared.Cell.{Cell}
 use Rattle.intmap.specs.Map.{runs_at, IsMap}
 use Rattle.state.specs.Steps.{HoldsState}
 use Rattle.state.specs.declared.MemoryState.{MemoryState}
-use Rattle.branches.specs.Header.{half, third, sizes_word, sizes_at, child, used_at, next_at, state_at}
+use Rattle.branches.specs.Header.{half, third, sizes_word, sizes_at, child, used_at, next_at, state_at, link_of, place_of}
 use Rattle.branches.specs.Entries.{count_cells, Remembering}
 use Rattle.branches.specs.Lists.{Offers, Below, Above, Pops}
 use Rattle.branches.specs.declared.BranchList.{BranchList}
+use Rattle.branches.specs.declared.FreeLink.{FreeLink}
 
 -- a state can be pushed, with the counts of n rows below the remembered states: cells that hold none are never offered, and each list of counts
 -- is that of some past
@@ -24,18 +25,18 @@ pub record Pushable (limit n counts : ℕ) (xs : List ℕ) (b : BranchList) (s :
   pub below : counts + count_cells n ≤ b.first
 
 -- there is room at p for the state s with the counts of n rows, which lie below p
-pub record Savable (n : ℕ) (cs : List Cell) (p : ℕ) (s : MemoryState) (next counts : ℕ) : Type 0 where
+pub record Savable (n : ℕ) (cs : List Cell) (p : ℕ) (s : MemoryState) (next : Option ℕ) (counts : ℕ) : Type 0 where
   pub map : IsMap cs s.map
   pub few : s.map.used ≤ 65535
   pub rows : n ≤ 2048
-  pub later : next < half
+  pub later : link_of next < half
   pub below : counts + count_cells n ≤ p
   pub room : p + 2 + s.map.used + count_cells n ≤ length cs
 
 -- it is there, under the hash h, with no links and `next` behind it
-pub record Saves (n : ℕ) (xs ys : List ℕ) (p : ℕ) (s : MemoryState) (h next counts : ℕ) : Type 0 where
+pub record Saves (n : ℕ) (xs ys : List ℕ) (p : ℕ) (s : MemoryState) (h : ℕ) (next : Option ℕ) (counts : ℕ) : Type 0 where
   pub first : get_or (cells ys) p blank ≡ cell h s.row
-  pub second : get_or (cells ys) (p + 1) blank ≡ cell 0 (sizes_word s.map.len s.map.used next)
+  pub second : get_or (cells ys) (p + 1) blank ≡ cell 0 (sizes_word s.map.len s.map.used (link_of next))
   pub map : IsMap (cells ys) (record { base = p + 2; len = s.map.len; used = s.map.used })
   pub runs : runs_at (cells ys) (record { base = p + 2; len = s.map.len; used = s.map.used }) ≡ runs_at (cells xs) s.map
   pub counted : (i : ℕ) → i < n → count_at ys (p + 2 + s.map.used) i ≡ count_at xs counts i
@@ -43,11 +44,11 @@ pub record Saves (n : ℕ) (xs ys : List ℕ) (p : ℕ) (s : MemoryState) (h nex
   pub above : Above (cells xs) (cells ys) (p + 2 + s.map.used + count_cells n)
   pub bytes : length ys ≡ length xs
 
--- a link of the one at p, which is free, can lead to q
-pub record Linkable (xs : List ℕ) (p bits q : ℕ) : Type 0 where
-  pub header : p + 2 ≤ length (cells xs)
+-- a link, if a state is remembered that has it, is free and can lead to q
+pub record Linkable (xs : List ℕ) (to : FreeLink) (q : ℕ) : Type 0 where
+  pub header : (p : ℕ) → to.at ≡ Some p → p + 2 ≤ length (cells xs)
   pub small : length (cells xs) ≤ 1048576
-  pub free : (p ≢ 0) → child (cells xs) p bits ≡ 0
+  pub free : (p : ℕ) → to.at ≡ Some p → child (cells xs) p to.bits ≡ 0
   pub place : q < third
 
 -- it does, and the other links, the sizes and all other cells are as they were
@@ -58,22 +59,22 @@ pub record Linked (cs ds : List Cell) (p bits q : ℕ) : Type 0 where
   pub elsewhere : (j : ℕ) → (j ≢ p + 1) → get_or ds j blank ≡ get_or cs j blank
   pub long : length ds ≡ length cs
 
--- at place 0 there is none, and nothing is changed
-pub record Connects (xs ys : List ℕ) (p bits q : ℕ) : Type 0 where
-  pub none : p ≡ 0 → cells ys ≡ cells xs
-  pub linked : (p ≢ 0) → Linked (cells xs) (cells ys) p bits q
+-- where none is remembered, nothing is changed
+pub record Connects (xs ys : List ℕ) (to : FreeLink) (q : ℕ) : Type 0 where
+  pub none : to.at ≡ None → cells ys ≡ cells xs
+  pub linked : (p : ℕ) → to.at ≡ Some p → Linked (cells xs) (cells ys) p to.bits q
   pub bytes : length ys ≡ length xs
 
 -- the latest that waits, if one does, lies inside
 pub record Latest (xs : List ℕ) (b : BranchList) : Type 0 where
-  pub header : (b.last ≢ 0) → b.last + 2 ≤ length (cells xs)
+  pub header : (p : ℕ) → b.last ≡ Some p → p + 2 ≤ length (cells xs)
   pub small : length (cells xs) ≤ 1048576
 
 -- what is popped, and the list then, is told by the link and the header of the latest alone; where states are remembered it is told of them,
 -- whatever the limit and the number of rows
 pub record PopsAny (xs : List ℕ) (b c : BranchList) (r : Option ℕ) : Type 0 where
-  pub none : b.last ≡ 0 → (r ≡ None) × (c ≡ b)
-  pub latest : (b.last ≢ 0) → (r ≡ Some b.last) × (c ≡ record { first = b.first; top = b.top; last = next_at (cells xs) b.last })
+  pub none : b.last ≡ None → (r ≡ None) × (c ≡ b)
+  pub latest : (p : ℕ) → b.last ≡ Some p → (r ≡ Some p) × (c ≡ record { first = b.first; top = b.top; last = place_of (next_at (cells xs) p) })
   pub pops : (limit n : ℕ) → Pops limit n xs b c r
 
 -- the state at p and its counts can be copied below it, to `base` and to `counts`

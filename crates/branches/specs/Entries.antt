@@ -1,7 +1,7 @@
 -- The remembered states in the area and those that wait: `BranchList` of explain.rs, `states` and `visited_branch_state`. They lie one behind the
 -- other, the latest last; each lies on the way of its own hashes in a search tree whose root is the first; those that wait are linked, the
 -- latest first. Assumes nothing.
-use Rattle.std.specs.Prelude.{◌≡◌, ℕ, ◌+◌, ◌/◌, ◌<◌, ◌≤◌, ◌⊎◌, List, [], ◌∷◌, length, ◌==◌, ◌≢◌}
+use Rattle.std.specs.Prelude.{◌≡◌, ℕ, ◌+◌, ◌/◌, ◌<◌, ◌≤◌, ◌⊎◌, List, [], ◌∷◌, length, ◌==◌, ◌≢◌, Option, None, Some}
 use Rattle.model.specs.Walk.{◌∈◌, count, Lineage}
 use Rattle.model.specs.State.{MemoryState as Defined}
 use Rattle.area.specs.Cells.{cells}
@@ -10,7 +10,7 @@ use Rattle.area.specs.declared.Cell.{Cell}
 use Rattle.intmap.specs.Map.{IsMap}
 use Rattle.intmap.specs.Pick.{pick}
 use Rattle.state.specs.Steps.{HoldsState}
-use Rattle.branches.specs.Header.{hash_at, child, used_at, next_at, state_at}
+use Rattle.branches.specs.Header.{hash_at, child, used_at, next_at, state_at, place_of}
 use Rattle.branches.specs.Hash.{hash_from, hash_of}
 use Rattle.branches.specs.declared.BranchList.{BranchList}
 
@@ -82,10 +82,10 @@ pub record Later (ks : List Kept) (p q : ℕ) : Type 0 where
 abbrev pub Links : List Cell → List Kept → ℕ → Type 0
 Links cs ks p = (bits : ℕ) → (child cs p bits ≡ 0) ⊎ Later ks p (child cs p bits)
 
--- those that wait, from a link on; what waits behind one lies before it, so that taking them up comes to an end
-abbrev pub Waiting : List Cell → ℕ → List Kept → Type 0
-Waiting cs link [] = link ≡ 0
-Waiting cs link (k ∷ ks) = (link ≡ k.at) × (next_at cs k.at < k.at) × Waiting cs (next_at cs k.at) ks
+-- those that wait, from the latest on; what waits behind one lies before it, so that taking them up comes to an end
+abbrev pub Waiting : List Cell → Option ℕ → List Kept → Type 0
+Waiting cs last [] = last ≡ None
+Waiting cs last (k ∷ ks) = (last ≡ Some k.at) × (next_at cs k.at < k.at) × Waiting cs (place_of (next_at cs k.at)) ks
 
 pub record Remembers (limit bound n : ℕ) (xs : List ℕ) (b : BranchList) (ks ws : List Kept) : Type 0 where
   pub blocks : Blocks (cells xs) n b.first b.top ks
@@ -108,4 +108,4 @@ pub record Remembering (limit n : ℕ) (xs : List ℕ) (b : BranchList) : Type 0
 
 -- none from `first` on
 abbrev pub none : ℕ → BranchList
-none first = record { first = first; top = first; last = 0 }
+none first = record { first = first; top = first; last = None }

@@ -1,7 +1,7 @@
 -- A remembered state in the area: two header cells, the cells of its map, and the cells of its lineage's handled counts. 01, "The walk":
 -- "Remembering takes 2 + cells + (rows / 16, rounded up) units of 16 bytes". The header has the state's hash and row, three links of the search
 -- tree, the entries and cells of its map, and the state that waits behind this one. A link is a cell's place; 0 stands for none. Assumes nothing.
-use Rattle.std.specs.Prelude.{ℕ, ◌+◌, ◌*◌, ◌/◌, ◌%◌, ◌^◌, List, get_or}
+use Rattle.std.specs.Prelude.{ℕ, ◌+◌, ◌*◌, ◌/◌, ◌%◌, ◌^◌, List, get_or, zero, suc, Option, None, Some}
 use Rattle.area.specs.Cells.{blank}
 use Rattle.area.specs.declared.Cell.{Cell}
 use Rattle.state.specs.declared.MemoryState.{MemoryState}
@@ -13,6 +13,15 @@ half = 4294967296
 -- a third of a word, in whole bits: 2^21
 abbrev pub third : ℕ
 third = 2097152
+
+-- a link's word, 0 for none, and where it leads
+abbrev pub link_of : Option ℕ → ℕ
+link_of None = 0
+link_of (Some p) = p
+
+abbrev pub place_of : ℕ → Option ℕ
+place_of zero = None
+place_of (suc p) = Some (suc p)
 
 -- the first header cell: hash and row
 abbrev pub hash_at : List Cell → ℕ → ℕ

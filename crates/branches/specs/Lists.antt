@@ -13,7 +13,7 @@ use Rattle.intmap.specs.Runs.{Agree}
 use Rattle.intmap.specs.Map.{runs_at, IsMap, HasRoom}
 use Rattle.state.specs.Steps.{HoldsState}
 use Rattle.state.specs.declared.MemoryState.{MemoryState}
-use Rattle.branches.specs.Header.{row_at, len_at, used_at, state_at}
+use Rattle.branches.specs.Header.{row_at, len_at, used_at, state_at, link_of}
 use Rattle.branches.specs.Entries.{Kept, states, Counted, count_cells, Remembers, IsKept}
 use Rattle.branches.specs.declared.BranchList.{BranchList}
 
@@ -81,7 +81,7 @@ pub record Taken (limit bound n : ℕ) (xs : List ℕ) (ks ws : List Kept) (b c 
   pub at : taken.at ≡ p
   pub first : c.first ≡ b.first
   pub top : c.top ≡ b.top
-  pub last : c.last < b.last
+  pub last : link_of c.last < link_of b.last
   pub remembers : Remembers limit bound n xs c ks rest
 
 abbrev pub TellsPop : ℕ → ℕ → ℕ → List ℕ → List Kept → List Kept → BranchList → BranchList → Option ℕ → Type 0

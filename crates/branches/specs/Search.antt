@@ -1,6 +1,6 @@
 -- Where a state is looked for among the remembered ones: from the root down the way of its hashes, until it is met or a link leads nowhere.
 -- Assumes nothing.
-use Rattle.std.specs.Prelude.{◌≡◌, ℕ, ◌+◌, ◌≤◌, Bool, true, ◌⊎◌, List, [], length, Option, None, Some}
+use Rattle.std.specs.Prelude.{◌≡◌, ℕ, ◌+◌, ◌≤◌, Bool, true, List, [], length, Option, None, Some}
 use Rattle.model.specs.Walk.{◌∈◌}
 use Rattle.area.specs.Cells.{cells}
 use Rattle.area.specs.declared.Cell.{Cell}
@@ -44,13 +44,18 @@ pub record Ends (cs : List Cell) (b : BranchList) (ks : List Kept) (f : ℕ → 
   pub reaches : Reaches cs b ks f p bits
   pub free : child cs p bits ≡ 0
 
-pub record Unknown (cs : List Cell) (b : BranchList) (ks : List Kept) (s : MemoryState) (p bits : ℕ) : Type 0 where
+-- of the one at a place, or of none where none is remembered
+abbrev pub EndsAt : List Cell → BranchList → List Kept → MemoryState → Option ℕ → ℕ → Type 0
+EndsAt cs b ks s None bits = ks ≡ []
+EndsAt cs b ks s (Some p) bits = Ends cs b ks (hash_from cs s) p bits
+
+pub record Unknown (cs : List Cell) (b : BranchList) (ks : List Kept) (s : MemoryState) (free : FreeLink) : Type 0 where
   pub none : (k : Kept) → k ∈ ks → IsAt cs s k.at → ⊥
-  pub place : ((p ≡ 0) × (ks ≡ [])) ⊎ Ends cs b ks (hash_from cs s) p bits
+  pub place : EndsAt cs b ks s free.at free.bits
 
 abbrev pub TellsSearch : List Cell → BranchList → List Kept → MemoryState → Option FreeLink → Type 0
 TellsSearch cs b ks s None = Known cs ks s
-TellsSearch cs b ks s (Some free) = Unknown cs b ks s free.at free.bits
+TellsSearch cs b ks s (Some free) = Unknown cs b ks s free
 
 pub record Searches (xs : List ℕ) (b : BranchList) (s : MemoryState) (r : Option FreeLink) : Type 0 where
   pub says : (limit bound n : ℕ) (ks ws : List Kept) → Remembers limit bound n xs b ks ws → TellsSearch (cells xs) b ks s r

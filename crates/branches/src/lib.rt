@@ -5,7 +5,7 @@
 ghost use Rattle.std.specs.Prelude.{◌≡◌, Some};
 ghost use Rattle.area.specs.Cells.{cells, Inside};
 ghost use Rattle.intmap.specs.Map.{IsMap};
-ghost use Rattle.branches.specs.Header.{shift, child, row_at, state_at};
+ghost use Rattle.branches.specs.Header.{shift, child, row_at, state_at, link_of, place_of};
 ghost use Rattle.branches.specs.Hash.{mix, fold, hash_from, hash_of};
 ghost use Rattle.branches.specs.Entries.{next_bits, none};
 ghost use Rattle.branches.specs.Lists.{Pushes, Loads};
@@ -23,12 +23,12 @@ const HALF: u64 = 4294967296;
 // A third of a word, in whole bits: 2^21. A place is less, since an area has at most 1,048,576 cells.
 const THIRD: u64 = 2097152;
 
-// Where the remembered states begin, where they end, and the latest that waits (0 where none does, as in the links of the area, which are words).
+// Where the remembered states begin, where they end, and the latest that waits, if one does.
 #[derive(Clone, Copy)]
 pub struct BranchList {
     pub first: usize,
     pub top: usize,
-    pub last: usize,
+    pub last: Option<usize>,
 }
 
 // Where the current lineage's handled counts are, of how many rows, and how many cells a state may have.
@@ -39,11 +39,10 @@ pub struct Layout {
     pub limit: usize,
 }
 
-// The free link that would lead to a state that is not known: of the state at this place (0 where none is remembered, as in the area), by the last
-// digit of these bits.
+// The free link that would lead to a state that is not known: of the state at this place, if one is remembered, by the last digit of these bits.
 #[derive(Clone, Copy)]
 struct FreeLink {
-    at: usize,
+    at: Option<usize>,
     bits: u64,
 }
 
@@ -103,6 +102,20 @@ fn state_at(area: &[u8], p: usize) -> MemoryState
     }
 }
 
+// The word of a link in the area: the place that it leads to, or 0 where it leads nowhere.
+fn link_of(place: Option<usize>) -> u64
+    ensures { result ≡ link_of place }
+{
+    place.unwrap_or(0) as u64
+}
+
+// The place that a link of the area leads to.
+fn place_of(link: u64) -> Option<usize>
+    ensures { result ≡ place_of link }
+{
+    (link != 0).then_some(link as usize)
+}
+
 // At which bit of their word one of the three links begins: the one that the last digit of the bits, to the base 3, chooses.
 fn shift(bits: u64) -> u64
     ensures { result ≡ shift bits }
@@ -111,12 +124,12 @@ fn shift(bits: u64) -> u64
 }
 
 // Where the link of the state at p leads, by the last digit of the bits.
-fn child(area: &[u8], p: usize, bits: u64) -> usize
+fn child(area: &[u8], p: usize, bits: u64) -> Option<usize>
     requires { Inside area.now p 2 }
-    ensures { result ≡ child (cells area.now) p bits }
+    ensures { result ≡ place_of (child (cells area.now) p bits) }
 {
     let c = area::cell_at(area, p + 1);
-    ((c.head >> shift(bits)) % THIRD) as usize
+    place_of((c.head >> shift(bits)) % THIRD)
 }
 
 // Whether the state at p is s, which has this hash.
@@ -151,7 +164,15 @@ fn next_bits(area: &[u8], p: usize, s: MemoryState, h: u64, bits: u64) -> u64
 }
 
 // Copies a state with its counts to p, under its hash, with `next` behind it among those that wait.
-fn save(area: &mut [u8], p: usize, s: MemoryState, h: u64, next: usize, counts: usize, n: usize)
+fn save(
+    area: &mut [u8],
+    p: usize,
+    s: MemoryState,
+    h: u64,
+    next: Option<usize>,
+    counts: usize,
+    n: usize,
+)
     requires { Savable n (cells area.old) p s next counts }
     ensures { Saves n area.old area.new p s h next counts }
 {
@@ -174,26 +195,26 @@ fn save(area: &mut [u8], p: usize, s: MemoryState, h: u64, next: usize, counts: 
         p + 1,
         Cell {
             head: 0,
-            payload: len + 65536 * (used as u64) + HALF * (next as u64),
+            payload: len + 65536 * (used as u64) + HALF * link_of(next),
         },
     );
 }
 
-// Makes the free link of the state at p, by the last digit of the bits, lead to q. At 0 there is none.
-fn link(area: &mut [u8], p: usize, bits: u64, q: usize)
-    requires { Linkable area.old p bits q }
-    ensures { Connects area.old area.new p bits q }
+// Makes a free link lead to q, where a state is remembered that has it.
+fn link(area: &mut [u8], free: FreeLink, q: usize)
+    requires { Linkable area.old free q }
+    ensures { Connects area.old area.new free q }
 {
-    if p == 0 {
+    let Some(p) = free.at else {
         return;
-    }
+    };
     let c = area::cell_at(area, p + 1);
     let to = q as u64;
     area::put_cell(
         area,
         p + 1,
         Cell {
-            head: c.head + (to << shift(bits)),
+            head: c.head + (to << shift(free.bits)),
             payload: c.payload,
         },
     );
@@ -220,19 +241,18 @@ impl BranchList {
         let top = self.top;
         let mut p = self.first;
         let mut bits = h;
-        // A `while`: the next place is read from the area, and no range counts it.
+        // A `while`: `successors` would take the next place before this one is tested, with one hash more where the state is known.
         while p < top {
             if is_at(area, p, s, h) {
                 return None;
             }
-            let next = child(area, p, bits);
-            if next == 0 {
-                return Some(FreeLink { at: p, bits });
-            }
+            let Some(next) = child(area, p, bits) else {
+                return Some(FreeLink { at: Some(p), bits });
+            };
             bits = next_bits(area, p, s, h, bits);
             p = next;
         }
-        Some(FreeLink { at: 0, bits: h })
+        Some(FreeLink { at: None, bits: h })
     }
 
     // Adds a state that is not known at the top, behind the link that is free.
@@ -253,9 +273,9 @@ impl BranchList {
             return Err(Refusal::NoSpace);
         }
         save(area, top, s, h, self.last, layout.counts, layout.rows);
-        link(area, free.at, free.bits, top);
+        link(area, free, top);
         self.top = end;
-        self.last = top;
+        self.last = Some(top);
         Ok(())
     }
 
@@ -278,7 +298,7 @@ impl BranchList {
         BranchList {
             first,
             top: first,
-            last: 0,
+            last: None,
         }
     }
 
@@ -287,12 +307,9 @@ impl BranchList {
         requires { Latest area.now self.old }
         ensures { PopsAny area.now self.old self.new result }
     {
-        let last = self.last;
-        if last == 0 {
-            return None;
-        }
+        let last = self.last?;
         let c = area::cell_at(area, last + 1);
-        self.last = (c.payload / HALF) as usize;
+        self.last = place_of(c.payload / HALF);
         Some(last)
     }
 }

@@ -37,8 +37,7 @@ fn is_declared(t: &[u8]) -> bool
 fn declared<'a>(reader: &mut Reader<'a>) -> Option<&'a [u8]>
     ensures { Reads (take_field (ascii "type=") read_declared) reader.old.rest.now reader.new.rest.now (option_copied result) }
 {
-    let t = reader.value(b"type=")?;
-    if is_declared(t) { Some(t) } else { None }
+    reader.value(b"type=").filter(|t| is_declared(t))
 }
 
 // The flag of the record.
@@ -69,9 +68,9 @@ pub fn read_record<'a>(reader: &mut Reader<'a>) -> Option<Record<'a>>
 pub fn count_records(catalogue: &[u8]) -> Result<usize, Refusal>
     ensures { counted_as result ≡ length_of (records_of catalogue.now) }
 {
-    // A record begins where the one before it ended, so no iterator gives them.
     let mut reader = Reader { rest: catalogue };
     let mut k: usize = 0;
+    // A `while`: `from_fn` over the reader has no end that is known, so that a `for` over it would need a `take` of the text's length.
     while !reader.rest.is_empty() {
         read_record(&mut reader).ok_or(Refusal::IllFormedCatalogue)?;
         k += 1;

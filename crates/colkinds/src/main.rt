@@ -2,7 +2,7 @@
 // Both files are in the folder that the program runs in; one that is missing is empty.
 #![tactic(auto)]
 
-ghost use Rattle.std.specs.Prelude.{◌%◌, ◌≤◌, length, IfOk, IfSome};
+ghost use Rattle.std.specs.Prelude.{◌≤◌, length, IfOk, IfSome};
 
 use reading::read_full;
 use refusal::Refusal;
@@ -31,27 +31,17 @@ fn read_file<'a>(rt: &impl Files, name: &str, buf: &'a mut [u8]) -> io::Result<O
     Ok(Some(&buf[..len]))
 }
 
-fn print_refusal(rt: &impl Print, number: u64) -> io::Result<()> {
-    println!(rt; "refused={number}")
-}
-
-// The call's result is number × 4,294,967,296 + length, and the number is 0 where there is an answer.
-fn print_result(rt: &impl Print, res: u64, answer: &[u8]) -> io::Result<()>
-    requires { res % 4294967296 ≤ length answer.now }
-{
-    let number = res / 4294967296;
-    if number != 0 {
-        return print_refusal(rt, number);
-    }
-    let n = (res % 4294967296) as usize;
-    rt.write_all(&answer[..n])
+fn print_refusal(rt: &impl Print, refusal: Refusal) -> io::Result<()> {
+    println!(rt; "refused={}", refusal.number())
 }
 
 fn print_kinds(rt: &impl Print, listing: &[u8], catalogue: &[u8]) -> io::Result<()> {
     let mut area = [0u8; 65536];
     let mut answer = [0u8; 65536];
-    let result = column_kinds::column_kinds(listing, catalogue, &mut area, &mut answer);
-    print_result(rt, result, &answer)
+    match column_kinds::describe_columns(listing, catalogue, &mut area, &mut answer) {
+        Ok(length) => rt.write_all(&answer[..length]),
+        Err(refusal) => print_refusal(rt, refusal),
+    }
 }
 
 fn main(rt: HostRuntime) -> io::Result<()> {
@@ -61,6 +51,6 @@ fn main(rt: HostRuntime) -> io::Result<()> {
     let records = read_file(&rt, "catalog.txt", &mut catalogue)?;
     match (rows, records) {
         (Some(rows), Some(records)) => print_kinds(&rt, rows, records),
-        _ => print_refusal(&rt, Refusal::TooManyLines.number()),
+        _ => print_refusal(&rt, Refusal::TooManyLines),
     }
 }

@@ -11,7 +11,7 @@ use Rattle.model.specs.Walk.{Tried, refused, done}
 use Rattle.model.specs.Row.{Row as Listed}
 use Rattle.model.specs.IntMap.{get}
 use Rattle.model.specs.State.{ColumnType, Record, Columns, end, entries, Column, MemoryState, default}
-use Rattle.model.specs.Cells.{column_depth}
+use Rattle.model.specs.Cells.{column_depth, register_depth}
 use Rattle.model.specs.Access.{◌>>=◌, read_cursor, store_register}
 use Rattle.model.specs.Cursor.{cursor_columns}
 use Rattle.model.specs.CursorArms.{column_of, cursor_arm}
@@ -28,28 +28,29 @@ use Rattle.intmap.specs.Pack.{tag_of}
 use Rattle.intmap.specs.Runs.{size}
 use Rattle.intmap.specs.Signed.{int_of}
 use Rattle.intmap.specs.declared.IntMap.{IntMap}
-use Rattle.intmap.proofs.EntryLaws.{opened}
-use Rattle.intmap.proofs.RunLaws.{size-pos, size_record}
-use Rattle.encoding.specs.Encode.{run_column, run_columns}
+use Rattle.intmap.proofs.RunLaws.{size_record}
+use Rattle.encoding.specs.Encode.{run_column, run_columns, run_register}
 use Rattle.rows.specs.Judged.{Judged}
 use Rattle.rows.specs.declared.row.Row.{Row}
 use Rattle.state.specs.Leads.{Current, HoldsMap, Tells, Leads}
 use Rattle.state.specs.Arms.{Standard, CursorArm}
 use Rattle.state.proofs.LeadsLaws.{unchanged}
+use Rattle.state.proofs.OverLaws.{headed_here}
 use Rattle.cursor_arms.specs.StandsFor.{TellsColumns, FindsCursor}
 use Rattle.cursor_arms.proofs.StandsLaws.{cursor_led, cursor_tells}
-use Rattle.column_arms.specs.Columns.{ColumnsAt, FindsColumn, StoresRun, store_column, store_row, LeadsWith}
+use Rattle.copy_arms.specs.Copies.{StoresFrom}
+use Rattle.column_arms.specs.Columns.{ColumnsAt, FindsColumn, store_column, store_row, LeadsWith}
 use Rattle.column_arms.proofs.ColumnLaws.{behind_size}
 
 -- ---- what is stored where nothing was written over
 
 module _ {limit : ℕ} {cs es : List Cell} (same : es ≡ cs) (a : IntMap) (at : ℕ) (c : Cell) where
-  pub still_stored : {ds : List Cell} {j : ℕ} {r : Stored} → StoresRun limit es ds a at c j r → StoresRun limit cs ds a at c j r
-  still_stored {ds} {j} {r} st = subst (λ l. StoresRun limit l ds a at c j r) same st
+  pub still_stored : {ds : List Cell} {j : ℕ} {r : Stored} → StoresFrom limit es ds a at c j r → StoresFrom limit cs ds a at c j r
+  still_stored {ds} {j} {r} st = subst (λ l. StoresFrom limit l ds a at c j r) same st
 
 -- ---- one of the columns behind a head
 
-module _ (limit : ℕ) (cs : List Cell) (a : IntMap) (at : ℕ) (current : Current limit cs a) (above : a.base ≤ at) (below : at + size cs levels at ≤ a.base + a.used) where
+module _ (limit : ℕ) (cs : List Cell) (a : IntMap) (at : ℕ) where
   -- a column that was found
   module _ (k : ℕ) (s : Slot) (finds : FindsColumn cs at k s) (q : ℕ) (f : s ≡ Ok (Some q)) where
     found : FindsColumn cs at k (Ok (Some q))
@@ -77,14 +78,14 @@ module _ (limit : ℕ) (cs : List Cell) (a : IntMap) (at : ℕ) (current : Curre
             frame = st.frame;
           }
 
-      pub column_there : (q : ℕ) → s ≡ Ok (Some q) → (c : Cell) → c ≡ get_or cs q blank → (ds : List Cell) (r : Stored) → StoresRun limit cs ds a q c j r → LeadsWith limit cs ds a at r (store_column limit (int_of i) (int_of j))
+      pub column_there : (q : ℕ) → s ≡ Ok (Some q) → (c : Cell) → c ≡ get_or cs q blank → (ds : List Cell) (r : Stored) → StoresFrom limit cs ds a q c j r → LeadsWith limit cs ds a at r (store_column limit (int_of i) (int_of j))
+      unfolding run_register register_depth
       column_there q f c ce ds r st =
           record {
             says = λ bound m le h y behind.
                 (let v = (found k s finds q f).says y behind in
                 subst (Tells limit bound ds r) (is_column m y (Some v.column) v.answer)
-                (st.says bound m h k v.column (omega (arith, v.depth)) v.sorted
-                (ap (λ (b : Cell). b ∷ span cs (q + 1) (size cs levels q - 1)) ce ∙ opened cs q (size cs levels q) (size-pos cs levels q) ∙ v.run)));
+                (st.says bound m h k (Column v.column) (omega (arith, v.depth)) v.sorted tt (headed_here cs q c ce ∙ v.run)));
             leaves = st.leaves;
             frame = st.frame;
           }
@@ -98,11 +99,11 @@ module _ (limit : ℕ) (cs : List Cell) (a : IntMap) (p j : ℕ) (tag : tag_of (
       let long : size cs levels p - 1 ≡ length (run_columns y) = omega (arith, behind_size cs p y behind tag) in
       ap₂ (λ (n : ℕ) (l : List Cell). cell 2 n ∷ l) (ap (λ (b : Cell). b.payload) ce ∙ behind.number) (ap (span cs (p + 1)) long ∙ behind.stands)
 
-  pub row_there : (c : Cell) → c ≡ get_or cs p blank → (ds : List Cell) (r : Stored) → StoresRun limit cs ds a p (cell 2 c.payload) j r → LeadsWith limit cs ds a p r (store_row limit (int_of j))
-  unfolding store_row SortedColumn column_depth
+  pub row_there : (c : Cell) → c ≡ get_or cs p blank → (ds : List Cell) (r : Stored) → StoresFrom limit cs ds a p (cell 2 c.payload) j r → LeadsWith limit cs ds a p r (store_row limit (int_of j))
+  unfolding store_row SortedColumn run_register register_depth column_depth
   row_there c ce ds r st =
       record {
-        says = λ bound m le h y behind. st.says bound m h 0 (Record y) (omega (arith, behind.depth)) behind.sorted (row_run y behind c ce);
+        says = λ bound m le h y behind. st.says bound m h 0 (Column (Record y)) (omega (arith, behind.depth)) behind.sorted tt (row_run y behind c ce);
         leaves = st.leaves;
         frame = st.frame;
       }
@@ -151,14 +152,13 @@ module _ (limit : ℕ) (cs : List Cell) (a : IntMap) (x : Row) (current : Curren
 
   -- a head lies within the map, and so does its run
   module _ (p : ℕ) (e : s ≡ Ok (Some p)) where
-    pub head_above : a.base ≤ p
-    head_above = (cursor_led cs a arm_map p x.p1 s found e).above
-
     pub head_tag : tag_of (get_or cs p blank) ≡ 2
     head_tag = (cursor_led cs a arm_map p x.p1 s found e).tag
 
-    pub head_below : p + size cs levels p ≤ a.base + a.used
-    head_below = omega (arith, (cursor_led cs a arm_map p x.p1 s found e).below, size_record cs 9 p (get_or cs p blank) refl (omega arith) head_tag)
+    pub head_run : (a.base ≤ p) × (p + size cs levels p ≤ a.base + a.used)
+    head_run =
+        let led = cursor_led cs a arm_map p x.p1 s found e in
+        (led.above, omega (arith, led.below, size_record cs 9 p (get_or cs p blank) refl (omega arith) led.tag))
 
   module _ (o : CursorOperation) (f : Option Columns → MemoryState → Tried MemoryState) (goes : (row : ℕ) → GoesOn limit row x o f) where
     told : (t : Slot) → s ≡ t → (bound : ℕ) (m : MemoryState) → HoldsMap limit bound cs a m → TellsColumns cs a t (read_cursor (int_of x.p1) m >>= λ c. cursor_columns c m)

@@ -19,24 +19,24 @@ use Rattle.model.proofs.IntMap.{rising_get}
 use Rattle.area.specs.Cells.{blank}
 use Rattle.area.specs.declared.Cell.{Cell}
 use Rattle.intmap.specs.Entries.{span, entries, total}
-use Rattle.intmap.specs.Find.{seek}
+use Rattle.intmap.specs.Find.{seek_place, seek_found, seek}
 use Rattle.intmap.specs.Map.{levels}
 use Rattle.intmap.specs.Pack.{tag_of, key_of}
 use Rattle.intmap.specs.Runs.{size, sizes, IsColumn, AreColumns}
 use Rattle.intmap.specs.Swap.{lookup}
-use Rattle.intmap.specs.declared.Found.{Found}
+use Rattle.intmap.specs.declared.Place.{Place}
 use Rattle.intmap.specs.declared.IntMap.{IntMap}
 use Rattle.intmap.proofs.EntryLaws.{length-span, total-sizes, entries_few}
-use Rattle.intmap.proofs.FindLaws.{found_within, found-whole}
+use Rattle.intmap.proofs.FindLaws.{answered_ok, found_within, found-whole}
 use Rattle.intmap.proofs.RunLaws.{size-pos, size-single, size_record}
-use Rattle.intmap.proofs.Swapped.{seek_some, seek_none}
+use Rattle.intmap.proofs.Swapped.{seek_some, seek_ok, seek_err}
 use Rattle.encoding.specs.Encode.{run_column, column_runs, run_columns}
 use Rattle.encoding.specs.Holds.{Stands}
 use Rattle.encoding.proofs.Lengths.{length-flatten, count_runs}
 use Rattle.encoding.proofs.Standing.{entries_stand, column_whole, columns_whole}
 use Rattle.encoding.proofs.StateRuns.{get_column}
 use Rattle.encoding.proofs.Flat.{Rise, rise_columns, direct, flat_sizes}
-use Rattle.state.specs.Own.{is_flat}
+use Rattle.state.specs.Own.{InMap, is_flat}
 use Rattle.state.proofs.OwnLaws.{flat_told}
 use Rattle.column_arms.specs.Columns.{columns_in, counted, ColumnsAt, DirectAt, IsColumnAt, FindsColumn}
 use Rattle.column_arms.proofs.WholeLaws.{counted_parts, counted_one, whole_size, counted_column}
@@ -142,29 +142,26 @@ module _ (cs : List Cell) (p : ℕ) (is : IsColumn cs levels p) (tag : tag_of (g
   pub columns_behind : AreColumns cs 8 c.payload (p + 1)
   columns_behind = record { fits = omega (arith, behind, is.fits); small = is.small }
 
-  module _ (key : ℕ) (w : Found) (we : w ≡ seek cs 8 key c.payload (p + 1)) where
-    sought : w ≡ seek cs 8 key (get_or cs p blank).payload (p + 1)
-    sought = we ∙ ap (λ (y : Cell). seek cs 8 key y.payload (p + 1)) ce
+  module _ (key : ℕ) (w : Place) where
+    sought : seek cs 8 key c.payload (p + 1) ≡ seek cs 8 key (get_or cs p blank).payload (p + 1)
+    sought = ap (λ (y : Cell). seek cs 8 key y.payload (p + 1)) ce
 
-    pub column_none : w.present ≡ false → FindsColumn cs p key (Ok None)
+    pub column_none : Err w ≡ seek cs 8 key c.payload (p + 1) → FindsColumn cs p key (Ok None)
     column_none t =
         record {
-          says = λ x at. nowhere cs p x at key (seek_none cs 8 key (get_or cs p blank).payload (p + 1) (ap (λ (v : Found). v.present) (sym sought) ∙ t));
+          says = λ x at. nowhere cs p x at key (seek_err cs 8 key (get_or cs p blank).payload (p + 1) w (t ∙ sought));
           within = tt;
         }
 
-    module _ (t : w.present ≡ true) where
+    module _ (t : Ok w ≡ seek cs 8 key c.payload (p + 1)) where
       within : (p < w.at) × (w.at + size cs 8 w.at ≤ p + size cs levels p)
-      within = (omega (arith, (found_within cs 8 key c.payload (p + 1) w we).0), omega (arith, found-whole cs 8 key c.payload (p + 1) w we t, behind))
+      within = (omega (arith, (found_within cs 8 key c.payload (p + 1) w (answered_ok cs 8 key c.payload (p + 1) w t).0).0), omega (arith, found-whole cs 8 key c.payload (p + 1) w t, behind))
 
       pub found_column : IsColumn cs 8 w.at
       found_column = record { fits = omega (arith, within.1, is.fits); small = is.small }
 
       stands : (x : Columns) → ColumnsAt cs p x → StandsAt cs key w.at (get key (column_entries x))
-      stands x at =
-          there cs p x at key w.at
-          (seek_some cs 8 key (get_or cs p blank).payload (p + 1) (ap (λ (v : Found). v.present) (sym sought) ∙ t)
-          ∙ ap (λ (v : Found). Some (span cs v.at (size cs 8 v.at))) (sym sought))
+      stands x at = there cs p x at key w.at (seek_ok cs 8 key (get_or cs p blank).payload (p + 1) w (t ∙ sought))
 
       column_there : size cs levels w.at ≤ size cs 8 w.at → FindsColumn cs p key (Ok (Some w.at))
       column_there le = record { says = λ x at. is_there cs key w.at _ (stands x at); within = (within.0, omega (arith, within.1)) }
@@ -206,10 +203,10 @@ module _ (cs : List Cell) (a : IntMap) (p key : ℕ) (is : IsColumn cs levels p)
       flat_sizes x at.depth at.sorted cs (p + 1) n (a.base + a.used) at.stands at.number (omega (arith, behind_size cs p x at tag, inside))
       (subst (λ k. (p + 1 + k ≡ a.base + a.used) ⊎ (65536 ≤ key_of (get_or cs (p + 1 + k) blank))) same_n (flat_told cs a p c.payload near.flat).1)
 
-  sought_there : (x : Columns) → ColumnsAt cs p x → ((seek cs 8 key n (p + 1)).at ≡ q) × ((seek cs 8 key n (p + 1)).present ≡ true)
+  sought_there : (x : Columns) → ColumnsAt cs p x → ((seek_place cs 8 key n (p + 1)).at ≡ q) × (seek_found cs 8 key n (p + 1) ≡ true)
   sought_there x at =
       let found = direct cs 8 n (p + 1) 0 key (one_each x at) (subst (Rise 0) (sym (behind_runs cs p x at)) (rise_columns x 0 at.sorted)) (omega (arith, near.below, same_n)) in
-      subst (λ k. ((seek cs 8 k n (p + 1)).at ≡ q) × ((seek cs 8 k n (p + 1)).present ≡ true)) near.is (found.at, found.present)
+      subst (λ k. ((seek_place cs 8 k n (p + 1)).at ≡ q) × (seek_found cs 8 k n (p + 1) ≡ true)) near.is (found.at, found.present)
 
   pub column_direct : FindsColumn cs p key (Ok (Some q))
   column_direct =
@@ -227,5 +224,5 @@ pub direct_at : (cs : List Cell) (a : IntMap) (p n key : ℕ) → key < n → is
 direct_at cs a p n key lt flat c ce t te plain r re e =
     record { below = lt; flat = flat; plain = λ q. plain (te ∙ ap (λ y. tag_of y) ce ∙ q); is = eqb-true (key_of (get_or cs (p + 1 + key) blank)) key (ap (λ y. eqb (key_of y) key) (sym ce) ∙ sym re ∙ e) }
 
-pub head_below : (cs : List Cell) (a : IntMap) (p : ℕ) → p + size cs levels p ≤ a.base + a.used → p < a.base + a.used
-head_below cs a p h = omega (arith, h, size-pos cs levels p)
+pub first_in : (cs : List Cell) (a : IntMap) (p : ℕ) → (a.base ≤ p) × (p + size cs levels p ≤ a.base + a.used) → InMap a p
+first_in cs a p run = (run.0, omega (arith, run.1, size-pos cs levels p))

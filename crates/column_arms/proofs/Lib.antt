@@ -1,4 +1,4 @@
 pub mod WholeLaws
 pub mod ColumnLaws
-pub mod RunLaws
+pub mod EmptyLaws
 pub mod ArmLaws

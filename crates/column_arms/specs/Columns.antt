@@ -2,7 +2,7 @@
 -- Assumes nothing.
 use Rattle.intmap.specs.Store.{Stored}
 use Rattle.intmap.specs.Get.{Slot}
-use Rattle.std.specs.Prelude.{◌≡◌, true, List, [], ◌∷◌, ℕ, ◌+◌, ◌-◌, ◌<◌, ◌≤◌, eqb, ℤ, get_or, Option, None, Some, Ok, Err}
+use Rattle.std.specs.Prelude.{◌≡◌, true, List, [], ◌∷◌, ℕ, ◌+◌, ◌<◌, ◌≤◌, eqb, ℤ, get_or, Option, None, Some, Ok, Err}
 use Rattle.model.specs.Walk.{Tried}
 use Rattle.model.specs.IntMap.{get}
 use Rattle.model.specs.State.{ColumnType, Record, Columns, end, entries, Column, MemoryState}
@@ -18,7 +18,6 @@ use Rattle.intmap.specs.Map.{levels, Frame}
 use Rattle.intmap.specs.Pack.{tag_of, key_of}
 use Rattle.intmap.specs.Pick.{pick}
 use Rattle.intmap.specs.Runs.{size}
-use Rattle.intmap.specs.Signed.{int_of}
 use Rattle.intmap.specs.declared.IntMap.{IntMap}
 use Rattle.encoding.specs.Encode.{count, run_column, run_columns}
 use Rattle.encoding.specs.Holds.{Stands}
@@ -76,13 +75,6 @@ pub record FindsColumn (cs : List Cell) (p key : ℕ) (r : Slot) : Type 0 where
   pub within : ColumnWithin cs p r
 
 -- ---- stores
-
--- the run at `at` with c for its head, of as many columns, is stored in register j: of every column whose run it is, the answer is that of the
--- definition's store
-pub record StoresRun (limit : ℕ) (cs ds : List Cell) (a : IntMap) (at : ℕ) (c : Cell) (j : ℕ) (r : Stored) : Type 0 where
-  pub says : (bound : ℕ) (m : MemoryState) → HoldsMap limit bound cs a m → (key : ℕ) (v : ColumnType) → column_depth v ≤ 9 → SortedColumn v → c ∷ span cs (at + 1) (size cs levels at - 1) ≡ run_column key v → Tells limit bound ds r (store_register limit (int_of j) (Column v) m)
-  pub leaves : Leaves limit ds a r
-  pub frame : Frame cs ds a.base (limit + limit)
 
 -- what Column and RowData do with a cursor's columns
 unfoldable pub store_column : ℕ → ℤ → ℤ → Option Columns → MemoryState → Tried MemoryState

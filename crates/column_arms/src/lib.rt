@@ -10,13 +10,13 @@ ghost use Rattle.area.specs.Cells.{cells, blank};
 ghost use Rattle.intmap.specs.Entries.{span};
 ghost use Rattle.intmap.specs.Map.{levels, IsMap};
 ghost use Rattle.intmap.specs.Pack.{tag_of};
-ghost use Rattle.intmap.specs.Runs.{size, IsColumn};
+ghost use Rattle.intmap.specs.Runs.{IsColumn};
 ghost use Rattle.intmap.specs.Signed.{int_of};
 ghost use Rattle.state.specs.Leads.{Leads};
-ghost use Rattle.state.specs.Own.{OverwritesOwn};
+ghost use Rattle.state.specs.Own.{InMap, OverwritesOwn};
 ghost use Rattle.state.specs.Arms.{CursorArm};
-ghost use Rattle.state.specs.Stores.{cells_in, IsHeld, IsCurrent, Changes, Writes};
-ghost use Rattle.column_arms.specs.Columns.{columns_in, counted, DirectAt, FindsColumn, StoresRun, store_column, LeadsWith};
+ghost use Rattle.state.specs.Stores.{cells_in, IsHeld, IsCurrent, HasRun, Changes, Writes};
+ghost use Rattle.column_arms.specs.Columns.{columns_in, counted, DirectAt, FindsColumn, store_column, LeadsWith};
 
 use area::Cell;
 use refusal::Refusal;
@@ -53,7 +53,7 @@ fn is_whole(area: &[u8], at: usize, n: usize) -> bool
 // Whether the column of a key is at its distance from the head at `at`, which has n columns: where each has one cell, the one there that has the
 // key is it.
 fn is_direct(store: &Store, at: usize, n: u64, key: u64) -> bool
-    requires { IsMap (cells_in store.now) store.now.map × (store.now.map.base ≤ at) × (at < store.now.map.base + store.now.map.used) }
+    requires { IsMap (cells_in store.now) store.now.map × InMap store.now.map at }
     ensures { result ≡ true → DirectAt (cells_in store.now) store.now.map at n key }
 {
     if n <= key {
@@ -72,19 +72,18 @@ fn is_direct(store: &Store, at: usize, n: u64, key: u64) -> bool
 // Looks for a key among the columns behind the head at `at`. The head's run is counted in LEVELS levels, so its columns in one fewer. In a state
 // none goes deeper, and in other cells a record that may is refused.
 fn find_column(store: &Store, at: usize, key: u64) -> Result<Option<usize>, Refusal>
-    requires { IsColumn (cells_in store.now) levels at × (tag_of (get_or (cells_in store.now) at blank) ≡ 2) × IsMap (cells_in store.now) store.now.map × (store.now.map.base ≤ at) × (at + size (cells_in store.now) levels at ≤ store.now.map.base + store.now.map.used) }
+    requires { IsColumn (cells_in store.now) levels at × (tag_of (get_or (cells_in store.now) at blank) ≡ 2) × IsMap (cells_in store.now) store.now.map × HasRun store.now at }
     ensures { FindsColumn (cells_in store.now) at key result }
 {
     let head = store.cell_at(at);
     if is_direct(store, at, head.payload, key) {
         return Ok(Some(at + 1 + key as usize));
     }
-    let found = intmap::find_from(store.area, at + 1, head.payload, key, intmap::LEVELS - 1);
-    let q = found.at;
-    let there = found.present;
-    if !there {
+    let Ok(place) = intmap::find_from(store.area, at + 1, head.payload, key, intmap::LEVELS - 1)
+    else {
         return Ok(None);
-    }
+    };
+    let q = place.at;
     let c = store.cell_at(q);
     if intmap::tag_of(c) != intmap::RECORD {
         return Ok(Some(q));
@@ -94,32 +93,6 @@ fn find_column(store: &Store, at: usize, key: u64) -> Result<Option<usize>, Refu
         return Ok(Some(q));
     }
     Err(Refusal::TooDeep)
-}
-
-// Stores the run at `at` of the map in register j, with c for its head. A cell alone is stored as it is. A store may move a longer run, so that
-// goes to the room behind the map first.
-fn store_behind(store: &mut Store, at: usize, c: Cell, j: u64) -> Result<(), Refusal>
-    requires { IsCurrent store.old × (store.old.map.base ≤ at) × (at + size (cells_in store.old) levels at ≤ store.old.map.base + store.old.map.used) × (tag_of c ≡ tag_of (get_or (cells_in store.old) at blank)) × (c.payload ≡ (get_or (cells_in store.old) at blank).payload) }
-    ensures { Changes (λ limit cs ds a r. StoresRun limit cs ds a at c j r) store.old store.new result }
-{
-    if intmap::tag_of(c) != intmap::RECORD {
-        return store.store_cell(intmap::Class::Registers, j, c);
-    }
-    let to = store.map.base + store.limit;
-    cursor_arms::run_behind(store, at, None);
-    store.put_cell(to, c);
-    store.store_run(intmap::Class::Registers, j, to)
-}
-
-// The same, at once where both are records of as many columns, of one cell each.
-fn store_from(store: &mut Store, at: usize, c: Cell, j: u64) -> Result<(), Refusal>
-    requires { IsCurrent store.old × (store.old.map.base ≤ at) × (at + size (cells_in store.old) levels at ≤ store.old.map.base + store.old.map.used) × (tag_of c ≡ tag_of (get_or (cells_in store.old) at blank)) × (c.payload ≡ (get_or (cells_in store.old) at blank).payload) }
-    ensures { Changes (λ limit cs ds a r. StoresRun limit cs ds a at c j r) store.old store.new result }
-{
-    if store.over_register(at, c, j) {
-        return Ok(());
-    }
-    store_behind(store, at, c, j)
 }
 
 // Stores the cell c over register j's own, if neither is a record's. Says whether it was.
@@ -143,14 +116,13 @@ fn store_empty(store: &mut Store, j: u64) -> Result<(), Refusal>
         return Err(Refusal::TooManyCells);
     }
     let to = store.map.base + store.limit;
-    let head = intmap::RECORD;
-    store.put_cell(to, Cell { head, payload: 0 });
+    store.put_cell(to, state::columns_head(0, None));
     store.store_run(intmap::Class::Registers, j, to)
 }
 
 // Stores column i of those behind the head at `at` in register j, or the default, if it is absent.
 fn store_column(store: &mut Store, at: usize, i: u64, j: u64) -> Result<(), Refusal>
-    requires { IsCurrent store.old × (store.old.map.base ≤ at) × (at + size (cells_in store.old) levels at ≤ store.old.map.base + store.old.map.used) × (tag_of (get_or (cells_in store.old) at blank) ≡ 2) }
+    requires { IsCurrent store.old × HasRun store.old at × (tag_of (get_or (cells_in store.old) at blank) ≡ 2) }
     ensures { Changes (λ limit cs ds a r. LeadsWith limit cs ds a at r (store_column limit (int_of i) (int_of j))) store.old store.new result }
 {
     let k = intmap::judge_index(i)?;
@@ -161,7 +133,7 @@ fn store_column(store: &mut Store, at: usize, i: u64, j: u64) -> Result<(), Refu
     if store_over(store, c, j) {
         return Ok(());
     }
-    store_from(store, q, c, j)
+    copy_arms::store_from(store, q, c, j)
 }
 
 // Column: register P3 becomes column P2 of cursor P1. P2 is looked at only where there are columns.
@@ -183,8 +155,6 @@ pub fn row_data(store: &mut Store, x: Row) -> Result<(), Refusal>
     let Some(at) = cursor_arms::columns_of(store, x.p1)? else {
         return store_empty(store, x.p2);
     };
-    let c = store.cell_at(at);
-    let head = intmap::RECORD;
-    let payload = c.payload;
-    store_from(store, at, Cell { head, payload }, x.p2)
+    let n = store.cell_at(at).payload;
+    copy_arms::store_from(store, at, state::columns_head(n, None), x.p2)
 }

@@ -8,7 +8,7 @@ use mathlib.Core.List.{List, []}
 use Prim.Native.Nat.{ℕ, ◌+◌, ◌*◌, ◌/◌, ◌<◌, ◌≤◌}
 use native.Mathlib.Omega.{arith}
 use lib.Dec.{leb, ltb}
-use lib.ListN.{length, take, get_or, replicate, length-replicate}
+use lib.ListN.{length, take, drop, get_or, replicate, length-replicate, length-append}
 use borrow.Author.Tests.{leb-true, ltb-true, ltb-false}
 use Rattle.std.specs.Prelude.{Result}
 use Rattle.std.proofs.lemmas.List.{get_or-take, get_or_past}
@@ -28,6 +28,7 @@ use Rattle.model.specs.CatalogueText.{read_catalogue}
 use Rattle.model.specs.ListingText.{read_listing}
 use Rattle.model.specs.Meaning.{standard}
 use Rattle.model.specs.Run.{walk_listing}
+use Rattle.model.specs.AnswerText.{print_answer}
 use Rattle.model.specs.Call.{or_refused, done_if, rows_of, records_of, area_fits, print_into, outcome, leave, call}
 use Rattle.model.specs.CallClaims.{CallClaims}
 use Rattle.model.proofs.CallTheorems.{call_claims}
@@ -43,7 +44,7 @@ use Rattle.walk.proofs.BranchLaws.{rows_kept}
 use Rattle.walk.specs.Walks.{Counts}
 use Rattle.walk.specs.declared.Walk.{Walk}
 use Rattle.column_kinds.specs.Inner.{serves, RowRoom, Prepared, TellsWalk, WalksRows, Writable, WritesWalk, MayWalk, Catalogued, AnswersRows, CallsInner}
-use Rattle.column_kinds.specs.Calls.{Calls}
+use Rattle.column_kinds.specs.Calls.{Calls, packed, Describes}
 use Rattle.model.proofs.Tried.{done-same}
 
 -- ---- what was tried
@@ -293,18 +294,16 @@ module _ (listing catalogue area ys answer answer_then : List ℕ) (q : Result �
     zeros : zs ≡ replicate (length area) 0
     zeros = cleared ∙ ap (λ k. replicate k 0) inner.bytes
 
-    pub calls_refused : (k : Refusal) (n : ℕ) → n ≡ number_of k → q ≡ Err k → Calls listing catalogue area zs answer answer_then (n * 4294967296)
-    calls_refused k n ne e =
-        let is : record { number = n; size = 0; answer = answer_then } ≡ call listing catalogue (length area) answer = ap (λ i. record { number = i; size = 0; answer = answer_then }) ne ∙ ap (called_of answer_then) (sym e) ∙ inner.is in
-        record { result = no_size n ∙ ap (λ c. c.number * 4294967296 + c.size) is; bytes = ap (λ c. c.answer) is; zero = zeros; claims = claims }
-      where
-        no_size : (i : ℕ) → i * 4294967296 ≡ i * 4294967296 + 0
-        no_size i = omega arith
+    calls_of : (r : Result ℕ Refusal) → called_of answer_then r ≡ call listing catalogue (length area) answer → packed r ≡ (called_of answer_then r).number * 4294967296 + (called_of answer_then r).size → answer_then ≡ (called_of answer_then r).answer → Calls listing catalogue area zs answer answer_then (packed r)
+    calls_of r is e kept = record { result = e ∙ ap (λ c. c.number * 4294967296 + c.size) is; bytes = kept ∙ ap (λ c. c.answer) is; zero = zeros; claims = claims }
 
-    pub calls_answered : (n : ℕ) → q ≡ Ok n → Calls listing catalogue area zs answer answer_then n
-    calls_answered n e =
-        let is : record { number = 0; size = n; answer = answer_then } ≡ call listing catalogue (length area) answer = ap (called_of answer_then) (sym e) ∙ inner.is in
-        record { result = no_number n ∙ ap (λ c. c.number * 4294967296 + c.size) is; bytes = ap (λ c. c.answer) is; zero = zeros; claims = claims }
+    pub describes : Describes listing catalogue area zs answer answer_then q
+    describes = by q inner.is
       where
-        no_number : (i : ℕ) → i ≡ 0 * 4294967296 + i
-        no_number i = omega arith
+        by : (r : Result ℕ Refusal) → called_of answer_then r ≡ call listing catalogue (length area) answer → Describes listing catalogue area zs answer answer_then r
+        by (Err k) is = record { calls = calls_of (Err k) is (omega arith) refl; number = ap (λ c. c.number) is; room = tt }
+        by (Ok n) is =
+            let answered = claims.answered (sym (ap (λ c. c.number) is)) in
+            let text = print_answer (answer_of answered.notes) in
+            let long : length answer_then ≡ length text + length (drop (length text) answer) = ap length (ap (λ c. c.answer) is ∙ answered.bytes) ∙ length-append text (drop (length text) answer) in
+            record { calls = calls_of (Ok n) is (omega arith) refl; number = ap (λ c. c.number) is; room = omega (arith, ap (λ c. c.size) is, answered.size, long) }

@@ -2,7 +2,7 @@
 #![tactic(auto)]
 
 ghost use Rattle.std.specs.Prelude.{◌≡◌, ◌≤◌};
-ghost use Rattle.column_kinds.specs.Calls.{Calls};
+ghost use Rattle.column_kinds.specs.Calls.{Calls, Describes};
 ghost use Rattle.column_kinds.specs.Inner.{serves, RowRoom, Prepared, WalksRows, Writable, WritesWalk, MayWalk, Catalogued, AnswersRows, CallsInner};
 ghost use Rattle.root_block.specs.Build.{Indexable};
 
@@ -11,6 +11,7 @@ use counters::Counters;
 use intmap::IntMap;
 use merge::Columns;
 use refusal::Refusal;
+use root_block::Blocks;
 use state::MemoryState;
 use walk::{Program, Walk};
 
@@ -45,11 +46,11 @@ fn row_room(bytes: usize) -> usize
 fn walk_rows(
     area: &mut [u8],
     columns: &mut Columns<2000>,
-    blocks: &[u8],
+    blocks: Blocks<'_>,
     n: usize,
 ) -> Result<Walk, Refusal>
-    requires { Prepared blocks.now area.old columns.old n }
-    ensures { WalksRows blocks.now area.old area.new columns.new n result }
+    requires { Prepared blocks.bytes.now area.old columns.old n }
+    ensures { WalksRows blocks.entry.bytes.now area.old area.new columns.new n result }
 {
     let mut w = Walk {
         gas: GAS,
@@ -85,19 +86,20 @@ fn write_walk(
     answer::write_answer(answer, columns.as_slice(), &w.counts)
 }
 
-// The walk over n rows that are in the area, and its answer. The catalogue's columns go into the blocks first.
+// The walk over n rows that are in the area, and its answer. The bytes are made the blocks of the catalogue's columns first.
 fn answer_rows(
     catalogue: &[u8],
-    blocks: &mut [u8],
+    bytes: &mut [u8],
     work: &mut [u8],
     answer: &mut [u8],
     n: usize,
 ) -> Result<usize, Refusal>
-    requires { MayWalk work.old n × Indexable catalogue.now blocks.old }
+    requires { MayWalk work.old n × Indexable catalogue.now bytes.old }
     ensures { AnswersRows catalogue.now work.old work.new answer.old answer.new n result }
 {
     area::clear_counts(work, 2 * LIMIT + n, n);
-    root_block::root_block_columns(catalogue, blocks);
+    root_block::root_block_columns(catalogue, bytes);
+    let blocks = Blocks { bytes };
     let mut columns = Columns::new();
     let x = walk_rows(work, &mut columns, blocks, n);
     write_walk(answer, &columns, x)
@@ -144,13 +146,26 @@ fn call(
     Err(Refusal::AreaSize)
 }
 
-// The entry. Its number is 0 or a refusal; the result is number × 4,294,967,296 + length.
-pub fn column_kinds(listing: &[u8], catalogue: &[u8], area: &mut [u8], answer: &mut [u8]) -> u64
-    ensures { Calls listing.now catalogue.now area.old area.new answer.old answer.new result }
+// Writes what the columns of a listing are into `answer`, and says how long that is, or why the call is refused: the call for Rattle. The area is
+// zero afterwards.
+pub fn describe_columns(
+    listing: &[u8],
+    catalogue: &[u8],
+    area: &mut [u8],
+    answer: &mut [u8],
+) -> Result<usize, Refusal>
+    ensures { Describes listing.now catalogue.now area.old area.new answer.old answer.new result }
 {
     let answered = call(listing, catalogue, area, answer);
     area::clear(area);
-    match answered {
+    answered
+}
+
+// The same in one number, which C takes: 0 or that of a refusal, × 4,294,967,296, + length.
+pub fn column_kinds(listing: &[u8], catalogue: &[u8], area: &mut [u8], answer: &mut [u8]) -> u64
+    ensures { Calls listing.now catalogue.now area.old area.new answer.old answer.new result }
+{
+    match describe_columns(listing, catalogue, area, answer) {
         Err(refusal) => refusal.number() * 4294967296,
         Ok(length) => length as u64,
     }

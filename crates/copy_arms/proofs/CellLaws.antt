@@ -23,19 +23,20 @@ use Rattle.area.specs.Cells.{blank}
 use Rattle.area.specs.declared.Cell.{Cell}
 use Rattle.intmap.specs.Change.{rekey}
 use Rattle.intmap.specs.Entries.{span}
-use Rattle.intmap.specs.Find.{seek}
+use Rattle.intmap.specs.declared.Place.{Place}
 use Rattle.intmap.specs.Map.{levels, IsMap, Frame}
 use Rattle.intmap.specs.Pack.{tag_of, with_key, class_key}
 use Rattle.intmap.specs.Runs.{size}
 use Rattle.intmap.specs.Signed.{offset, int_of}
 use Rattle.intmap.specs.declared.IntMap.{IntMap}
 use Rattle.intmap.specs.Alike.{Alike}
-use Rattle.intmap.proofs.FindLaws.{seek_from}
+use Rattle.intmap.proofs.FindLaws.{answered_ok}
 use Rattle.intmap.proofs.Overwritten.{alike, alike_then, alike_room, alike_map}
 use Rattle.intmap.proofs.PackLaws.{keyed_tag, keyed_key}
 use Rattle.intmap.proofs.RunLaws.{size-single}
 use Rattle.intmap.proofs.SignedLaws.{index_within}
-use Rattle.intmap.proofs.Swapped.{seek_some}
+use Rattle.intmap.proofs.StoreLaws.{found_in}
+use Rattle.intmap.proofs.Swapped.{seek_ok}
 use Rattle.encoding.specs.Encode.{single, run_column, run_register}
 use Rattle.encoding.specs.Holds.{Stands, SmallRegister, HeldNext}
 use Rattle.encoding.proofs.Dense.{register_rekey}
@@ -69,8 +70,8 @@ module _ {limit bound : ℕ} {cs : List Cell} {a : IntMap} {m : MemoryState} (h 
   judged : index (int_of (offset + k)) ≡ done k
   judged = index_within (offset + k) (omega arith) (omega (arith, alone.small)) ∙ ap done (omega arith)
 
-  pub there : Value (λ v. GoodRegister v × SmallRegister bound v) (run_register (class_key 0 k)) (span cs (seek cs 9 (class_key 0 k) a.len a.base).at (size cs 9 (seek cs 9 (class_key 0 k) a.len a.base).at)) (done (get k m.r))
-  there = (told_register_at h k alone.small).present _ (ap done (seek_some cs 9 key a.len a.base found.present))
+  pub there : Value (λ v. GoodRegister v × SmallRegister bound v) (run_register (class_key 0 k)) (span cs p (size cs 9 p)) (done (get k m.r))
+  there = (told_register_at h k alone.small).present _ (ap done (seek_ok cs 9 key a.len a.base _ found.is))
 
   abbrev pub value : RegDataType
   value = there.value
@@ -86,7 +87,7 @@ module _ {limit bound : ℕ} {cs : List Cell} {a : IntMap} {m : MemoryState} (h 
   one = sym (size-single cs 9 p (get_or cs p blank) refl alone.plain)
 
   pub value_run : run_register (class_key 0 k) value ≡ get_or cs p blank ∷ []
-  value_run = sym there.is ∙ ap (λ x. span cs x (size cs 9 x)) found.at ∙ ap (span cs p) one ∙ one_span cs p
+  value_run = sym there.is ∙ ap (span cs p) one ∙ one_span cs p
 
   -- a value of one cell stored there
   module _ (v : RegDataType) (c : Cell) (other : ℕ) (good : GoodRegister v) (small : SmallRegister bound v) (run : run_register other v ≡ c ∷ []) (ds : List Cell) (e : ds ≡ set cs p (with_key (class_key 0 k) c)) where
@@ -126,7 +127,7 @@ module _ {limit bound : ℕ} {cs : List Cell} {a : IntMap} {m : MemoryState} (h 
     stored_there =
         subst (HeldNext limit bound ds a.base a.len a.used) (update_stored h.good (int_of (offset + k)) (λ u. v) value value_read never_larger)
         (held_register_changed h (int_of (offset + k)) k judged value (done-same there.answer) bound (λ u. v) change ds
-        (subst (λ x. Replaced cs ds x (run_register key v)) (sym found.at) replaced))
+        (subst (λ x. Replaced cs ds x (run_register key v)) (ap (λ (x : Place). x.at) (answered_ok cs levels key a.len a.base _ found.is).0) replaced))
 
 -- ---- what is written
 
@@ -137,7 +138,7 @@ module _ {cs : List Cell} {a : IntMap} (is : IsMap cs a) {p k : ℕ} (alone : Al
 
   written_frame : (limit : ℕ) → Current limit cs a → Frame cs ds a.base (limit + limit)
   written_frame limit current =
-      let low : a.base ≤ p = omega (arith, found.at, seek_from cs levels (class_key 0 k) a.len a.base) in
+      let low : a.base ≤ p = (found_in cs a (class_key 0 k) is _ found.is).0 in
       record {
         long = ap length e ∙ length-set cs p (with_key (class_key 0 k) c);
         below = λ j lt. ap (λ l. get_or l j blank) e ∙ get_or-set_other cs p j (with_key (class_key 0 k) c) blank (omega arith);

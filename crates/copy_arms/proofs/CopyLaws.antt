@@ -1,137 +1,49 @@
--- A run that is stored from the room behind the map is the definition's store of its value; a register that is copied or moved, one or many of
--- them, where absent ones are passed over; and the definition's arms in the words of a judged row. Assumes nothing.
+-- A register that is copied or moved, one or many of them, where absent ones are passed over; and the definition's arms in the words of a judged
+-- row. Assumes nothing.
 use Rattle.refusal.specs.Numbers.{number_of}
 use Rattle.refusal.specs.declared.Refusal.{Refusal}
-use mathlib.Core.Path.{◌≡◌, refl, sym, ap, ap₂, subst, ◌∙◌}
+use mathlib.Core.Path.{◌≡◌, refl, sym, ap, subst, ◌∙◌}
 use mathlib.Core.Bool.{Bool, true, false}
 use Rattle.std.specs.Prelude.{Option, None, Some, Ok, Err}
-use mathlib.Core.List.{List, [], ◌∷◌}
+use mathlib.Core.List.{List}
 use Prim.Native.Nat.{ℕ, zero, suc, ◌+◌, ◌-◌, ◌<◌, ◌≤◌}
 use native.Mathlib.Omega.{arith}
-use lib.ListN.{length, get_or}
+use lib.ListN.{get_or}
 use lib.IntN.{ℤ, suc_ℤ}
 use Rattle.model.specs.Walk.{Tried, refused, done}
 use Rattle.model.specs.Row.{Row as Listed}
 use Rattle.model.specs.State.{RegDataType, Column, MemoryState, null}
 use Rattle.model.specs.Offer.{turns}
 use Rattle.model.specs.Access.{◌>>=◌, read_register, store_register}
-use Rattle.model.specs.Cells.{register_depth}
 use Rattle.model.specs.Good.{GoodRegister}
 use Rattle.model.specs.Meaning.{Meaning}
 use Rattle.model.specs.Operation.{op_copy_one, op_copy, op_move}
 use Rattle.model.specs.RegisterArms.{copy_to, copy_many, move_some, move_many, register_arm}
-use Rattle.area.specs.Moves.{moved}
 use Rattle.area.specs.Cells.{blank}
 use Rattle.area.specs.declared.Cell.{Cell}
-use Rattle.intmap.specs.Pack.{tag_of, class_key}
-use Rattle.intmap.specs.Runs.{size, Agree}
-use Rattle.intmap.specs.Depth.{nesting}
+use Rattle.intmap.specs.Pack.{class_key}
+use Rattle.intmap.specs.Runs.{size}
 use Rattle.intmap.specs.Entries.{span}
-use Rattle.intmap.specs.Map.{levels, runs_at, Frame, HasRoom}
+use Rattle.intmap.specs.Map.{levels}
 use Rattle.intmap.specs.Signed.{int_of}
-use Rattle.intmap.specs.Store.{store_runs, Stores, Stored}
+use Rattle.intmap.specs.Store.{Stored}
 use Rattle.intmap.specs.Get.{Gets, Slot}
 use Rattle.intmap.specs.declared.IntMap.{IntMap}
-use Rattle.intmap.proofs.DepthLaws.{nesting-single}
-use Rattle.intmap.proofs.RunLaws.{size-single}
-use Rattle.intmap.proofs.EntryLaws.{span_same, length-span}
-use Rattle.intmap.proofs.SameCells.{copied, size_same}
-use Rattle.intmap.proofs.MapLaws.{copied_frame, copied_agree, placed_room}
 use Rattle.intmap.proofs.StoreLaws.{frame_same}
 use Rattle.intmap.proofs.SignedLaws.{int_suc, int_turns}
 use Rattle.encoding.specs.Encode.{run_register}
 use Rattle.encoding.specs.Holds.{SmallRegister}
-use Rattle.encoding.proofs.Held.{held_elsewhere}
-use Rattle.encoding.proofs.HeldAfter.{Carried, held_register}
-use Rattle.encoding.proofs.HeldFrom.{held_register_from}
 use Rattle.encoding.proofs.HeldRead.{Value, told_register}
 use Rattle.rows.specs.Judged.{Judged}
 use Rattle.rows.specs.declared.row.Row.{Row}
 use Rattle.state.specs.Leads.{Current, HoldsMap, Tells, Leaves, Leads}
 use Rattle.state.specs.Arms.{Standard}
-use Rattle.state.specs.Own.{StoresCell}
-use Rattle.state.specs.Over.{headed, OverRegister}
 use Rattle.state.specs.Reads.{Reads}
 use Rattle.state.proofs.OverLaws.{headed_here}
-use Rattle.state.proofs.StoreLeads.{wider}
 use Rattle.state.proofs.ReadLaws.{read_bad, read_absent}
-use Rattle.state.proofs.LeadsLaws.{frame-within, frame_then, Reached, reached_next, reached_as, tells_stored, leaves_stored}
+use Rattle.state.proofs.LeadsLaws.{Reached, reached_next, reached_as}
 use Rattle.copy_arms.specs.Copies.{StoresFrom, carry_some, carry_one, carry_many}
 use Rattle.copy_arms.specs.Gaps.{gap_if, gap, Gap}
-
--- ---- a store from the room behind the map
-
--- the entry at `at`, of n cells, stands behind the map too
-module _ (limit : ℕ) (cs es : List Cell) (a : IntMap) (at n : ℕ) (current : Current limit cs a)
-    (below : at + size cs levels at ≤ a.base + a.used) (counted : n ≡ size cs levels at) (above : a.base ≤ at) (moves : es ≡ moved cs at (a.base + limit) n)
-  where
-    agree : Agree cs at es (a.base + limit) n
-    agree = copied_agree cs es at (a.base + limit) n n (copied refl moves) (omega (arith, current.scratch, current.room.most))
-
-    frame : Frame cs es (a.base + limit) n
-    frame = copied_frame cs es at (a.base + limit) n n (copied refl moves)
-
-    kept : Agree cs a.base es a.base a.used
-    kept j lt = frame.below (a.base + j) (omega (arith, current.room.most))
-
-    whole : Agree cs at es (a.base + limit) (size cs levels at)
-    whole j lt = agree j (omega arith)
-
-    long : size es levels (a.base + limit) ≡ n
-    long = size_same cs es levels at (a.base + limit) whole ∙ sym counted
-
-    pub behind_room : HasRoom es limit a
-    behind_room = placed_room cs es a a.base (record { used = current.room.used; inside = omega (arith, current.room.room, current.room.most); small = current.room.small }) kept frame.long limit current.room.most (omega (arith, frame.long, current.room.room))
-
-    pub behind_fits : a.base + limit + size es levels (a.base + limit) ≤ length es
-    behind_fits = omega (arith, long, frame.long, current.scratch, current.room.most)
-
-    pub stores_from : (ds : List Cell) (j : ℕ) (r : Stored) → Stores es ds limit a 0 j (nesting es levels (a.base + limit)) (span es (a.base + limit) (size es levels (a.base + limit))) r → StoresFrom limit cs ds a at j r
-    stores_from ds j r st =
-        record {
-          says = λ bound m key v h good small is.
-              (let run : span es (a.base + limit) n ≡ run_register key v = span_same cs es n at (a.base + limit) agree ∙ ap (span cs at) counted ∙ is in
-              let size-run : length (run_register key v) ≡ n = ap length (sym run) ∙ length-span es (a.base + limit) n in
-              let c = held_register_from (held_elsewhere limit bound cs a.base a.len a.used m h es a.base kept) (a.base + limit) key (int_of j) v (ap (span es (a.base + limit)) size-run ∙ run) (omega (arith, good.depth)) (λ _. good.sorted) small in
-              tells_stored limit bound ds a r (store_register limit (int_of j) v m) (subst (λ u. Carried limit bound u (store_register limit (int_of j) v m)) (sym st.answer) c) (leaves_stored es ds limit a j _ _ r st));
-          leaves = leaves_stored es ds limit a j _ _ r st;
-          frame =
-              frame_then cs es ds a.base (limit + limit) (frame-within cs es (a.base + limit) n a.base (limit + limit) (omega arith) (omega (arith, current.room.most)) frame)
-              (frame-within es ds a.base limit a.base (limit + limit) (omega arith) (omega arith) st.frame);
-        }
-
--- ---- a record put over another where that stands
-
-pub stores_to : {limit : ℕ} {cs ds : List Cell} {a b c : IntMap} {at j : ℕ} → b ≡ c → StoresFrom limit cs ds a at j (Ok c) → StoresFrom limit cs ds a at j (Ok b)
-stores_to {limit} {cs} {ds} {a} {b} {c} {at} {j} e = subst (λ x. StoresFrom limit cs ds a at j (Ok x)) (sym e)
-
-pub stores-over : (limit : ℕ) (cs ds : List Cell) (a : IntMap) (at j : ℕ) (c : Cell) (r : Bool) → HasRoom cs limit a → c ≡ get_or cs at blank → OverRegister cs ds a at c j r → r ≡ true → StoresFrom limit cs ds a at j (Ok a)
-stores-over limit cs ds a at j c r room ce over e =
-    record {
-      says = λ bound m key v h good small is.
-          (let run : headed cs at c ≡ run_register key v = headed_here cs at c ce ∙ is in
-          let st = over.yes e limit (register_depth v) room good.depth in
-          (held_register h (int_of j) key v (λ _. good.sorted) small).next ds a.base a.len a.used (runs_at ds a)
-          (ap (λ l. store_runs limit 0 (int_of j) (register_depth v) l (runs_at cs a)) (sym run) ∙ sym st.answer) refl st.leaves.room.used);
-      leaves = leaves_stored cs ds limit a j 0 (headed cs at c) (Ok a) (over.yes e limit 0 room (omega arith));
-      frame = wider cs ds a.base limit (over.yes e limit 0 room (omega arith)).frame;
-    }
-
--- ---- a cell alone
-
-pub stores-alone : (limit : ℕ) (cs ds : List Cell) (a : IntMap) (at j : ℕ) (c : Cell) (r : Stored) → c ≡ get_or cs at blank → (tag_of c ≡ 2 → ⊥) → StoresCell limit cs ds a 0 j c r → StoresFrom limit cs ds a at j r
-unfolding span
-stores-alone limit cs ds a at j c r ce plain st =
-    let run : c ∷ [] ≡ span cs at (size cs levels at) = ap (λ (y : Cell). y ∷ []) ce ∙ ap (span cs at) (size-single cs levels at c ce plain) in
-    record {
-      says = λ bound m key v h good small is.
-          (let stands = ap (span cs at) (ap length (sym is) ∙ length-span cs at (size cs levels at)) ∙ is in
-          let carried = held_register_from h at key (int_of j) v stands (omega (arith, good.depth)) (λ _. good.sorted) small in
-          tells_stored limit bound ds a r (store_register limit (int_of j) v m)
-          (subst (λ u. Carried limit bound u (store_register limit (int_of j) v m)) (sym ((st.says bound m h).answer ∙ ap₂ (λ d l. store_runs limit 0 (int_of j) d l (runs_at cs a)) (nesting-single cs levels at c ce plain) run)) carried) st.leaves);
-      leaves = st.leaves;
-      frame = frame-within cs ds a.base limit a.base (limit + limit) (omega arith) (omega arith) st.frame;
-    }
 
 -- ---- a register that is read first
 
@@ -183,14 +95,16 @@ module _ (limit : ℕ) (cs : List Cell) (a : IntMap) (i : ℕ) (current : Curren
     unfolding carry_one
     carry_absent e = read_none limit cs a i (carry_some limit moves (int_of i) (int_of j)) current (carries_none limit moves (int_of i) (int_of j)) (read_absent cs a i x g e)
 
-    module _ (p : ℕ) (e : x ≡ Ok (Some p)) (ds : List Cell) (s : Stored) (stores : StoresFrom limit cs ds a p j s) where
+    module _ (p : ℕ) (e : x ≡ Ok (Some p)) (c : Cell) (ce : c ≡ get_or cs p blank) (ds : List Cell) (s : Stored) (stores : StoresFrom limit cs ds a p c j s) where
       -- the definition, where there is a value
       opened : (bound : ℕ) (m : MemoryState) (h : HoldsMap limit bound cs a m) → carry_one limit moves (int_of i) (int_of j) m ≡ carry_some limit moves (int_of i) (int_of j) (Some (found_value p e bound m h).value) m
       unfolding carry_one
       opened bound m h = ap (λ t. t >>= λ v. carry_some limit moves (int_of i) (int_of j) v m) (found_value p e bound m h).answer
 
       told : (bound : ℕ) (m : MemoryState) (h : HoldsMap limit bound cs a m) → Tells limit bound ds s (store_register limit (int_of j) (found_value p e bound m h).value m)
-      told bound m h = let v = found_value p e bound m h in stores.says bound m (class_key 0 (turns (int_of i))) v.value h v.has.0 v.has.1 v.is
+      told bound m h =
+          let v = found_value p e bound m h in
+          stores.says bound m h (class_key 0 (turns (int_of i))) v.value (omega (arith, v.has.0.depth)) v.has.0.sorted v.has.1 (headed_here cs p c ce ∙ v.is)
 
       pub carry_copies : moves ≡ false → Leads limit cs ds a s (carry_one limit moves (int_of i) (int_of j))
       carry_copies q =

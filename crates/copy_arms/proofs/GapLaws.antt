@@ -9,16 +9,16 @@ use mathlib.Core.List.{List}
 use Prim.Native.Nat.{ℕ, zero, suc, ◌+◌, ◌-◌, ◌<◌, ◌≤◌}
 use native.Mathlib.Omega.{arith}
 use lib.ListN.{length, get_or}
-use lib.Dec.{eqb, ltb}
+use lib.Dec.{ltb}
 use lib.IntN.{suc_ℤ}
-use borrow.Author.Tests.{ltb-true, ltb-false, eq-eqb, ne_eqb}
+use borrow.Author.Tests.{ltb-true, ltb-false}
 use Rattle.model.specs.Walk.{Tried, refused, done}
 use Rattle.model.specs.IntMap.{get}
 use Rattle.model.specs.State.{MemoryState}
 use Rattle.model.specs.Access.{index, ◌>>=◌, read_register}
 use Rattle.area.specs.Cells.{blank}
 use Rattle.area.specs.declared.Cell.{Cell}
-use Rattle.intmap.specs.Find.{place, seek}
+use Rattle.intmap.specs.Find.{place, has_entry, seek_place, seek_found}
 use Rattle.intmap.specs.Get.{index_of, read_runs, Judges, Index}
 use Rattle.intmap.specs.Map.{levels, runs_at, IsMap}
 use Rattle.intmap.specs.Pack.{key_of, class_key}
@@ -26,9 +26,9 @@ use Rattle.intmap.specs.Pick.{pick}
 use Rattle.intmap.specs.Runs.{size, sizes}
 use Rattle.intmap.specs.Signed.{offset, int_of}
 use Rattle.intmap.specs.Swap.{lookup}
-use Rattle.intmap.specs.declared.Found.{Found}
+use Rattle.intmap.specs.declared.Place.{Place}
 use Rattle.intmap.specs.declared.IntMap.{IntMap}
-use Rattle.intmap.proofs.FindLaws.{seek_here, seek_on}
+use Rattle.intmap.proofs.FindLaws.{seek_here, seek_on, entry_is, entry_other}
 use Rattle.intmap.proofs.RunLaws.{size-pos}
 use Rattle.intmap.proofs.SignedLaws.{index_below, index_above, index_within, int_suc}
 use Rattle.intmap.proofs.Swapped.{seek_some, seek_none}
@@ -39,33 +39,33 @@ use Rattle.copy_arms.specs.Gaps.{Next, gap_if, gap, Gap}
 -- ---- a search
 
 -- what w, that a search for k among n entries from p on led to, tells of searches for other keys
-record Past (cs : List Cell) (d k n p : ℕ) (w : Found) : Type 0 where
-  pub absent : (key : ℕ) → k ≤ key → (0 < w.left → key < key_of (get_or cs w.at blank)) → (seek cs d key n p).present ≡ false
+record Past (cs : List Cell) (d k n p : ℕ) (w : Place) : Type 0 where
+  pub absent : (key : ℕ) → k ≤ key → (0 < w.left → key < key_of (get_or cs w.at blank)) → seek_found cs d key n p ≡ false
   pub least : 0 < w.left → k ≤ key_of (get_or cs w.at blank)
   pub within : 0 < w.left → w.at < p + sizes (size cs d) n p
-  pub found : 0 < w.left → (seek cs d (key_of (get_or cs w.at blank)) n p).present ≡ true
+  pub found : 0 < w.left → seek_found cs d (key_of (get_or cs w.at blank)) n p ≡ true
 
 module _ (cs : List Cell) (d k : ℕ) where
-  past_end : (p : ℕ) → Past cs d k zero p (place p 0 false)
-  unfolding seek
+  past_end : (p : ℕ) → Past cs d k zero p (place p 0)
+  unfolding seek_place has_entry
   past_end p = record { absent = λ key le h. refl; least = λ lt. absurd (omega arith); within = λ lt. absurd (omega arith); found = λ lt. absurd (omega arith) }
 
   -- the first entry is the one
-  past_here : (n p : ℕ) (present : Bool) → k ≤ key_of (get_or cs p blank) → Past cs d k (suc n) p (place p (suc n) present)
+  past_here : (n p : ℕ) → k ≤ key_of (get_or cs p blank) → Past cs d k (suc n) p (place p (suc n))
   unfolding sizes
-  past_here n p present le =
+  past_here n p le =
       record {
         absent = λ key from h.
             (let below : key < key_of (get_or cs p blank) = h (omega arith) in
-            sym (ap (λ v. v.present) (seek_here cs d key (suc n) p (get_or cs p blank) (omega arith) refl (omega arith))) ∙ ne_eqb (key_of (get_or cs p blank)) key (omega arith));
+            sym (ap (has_entry cs key) (seek_here cs d key (suc n) p (get_or cs p blank) (omega arith) refl (omega arith))) ∙ entry_other cs key (place p (suc n)) (λ e. omega (arith, e, below)));
         least = λ lt. le;
         within = λ lt. omega (arith, size-pos cs d p);
         found = λ lt.
-            sym (ap (λ v. v.present) (seek_here cs d (key_of (get_or cs p blank)) (suc n) p (get_or cs p blank) (omega arith) refl (omega arith))) ∙ eq-eqb (key_of (get_or cs p blank)) (key_of (get_or cs p blank)) refl;
+            sym (ap (has_entry cs (key_of (get_or cs p blank))) (seek_here cs d (key_of (get_or cs p blank)) (suc n) p (get_or cs p blank) (omega arith) refl (omega arith))) ∙ entry_is cs (key_of (get_or cs p blank)) (place p (suc n)) (omega arith) refl;
       }
 
   -- the first entry is passed, by a search for any key that is not below k
-  past_on : (n p : ℕ) (w : Found) → key_of (get_or cs p blank) < k → Past cs d k n (p + size cs d p) w → Past cs d k (suc n) p w
+  past_on : (n p : ℕ) (w : Place) → key_of (get_or cs p blank) < k → Past cs d k n (p + size cs d p) w → Past cs d k (suc n) p w
   unfolding sizes
   past_on n p w lt past =
       record {
@@ -75,24 +75,24 @@ module _ (cs : List Cell) (d k : ℕ) where
         found = λ some_left. on (key_of (get_or cs w.at blank)) (past.least some_left) true (past.found some_left);
       }
     where
-      on : (key : ℕ) → k ≤ key → (t : Bool) → (seek cs d key n (p + size cs d p)).present ≡ t → (seek cs d key (suc n) p).present ≡ t
+      on : (key : ℕ) → k ≤ key → (t : Bool) → seek_found cs d key n (p + size cs d p) ≡ t → seek_found cs d key (suc n) p ≡ t
       on key from t e =
           let less : n ≡ suc n - 1 = omega arith in
-          sym (ap (λ j. (seek cs d key j (p + size cs d p)).present) less ∙ ap (λ v. v.present) (seek_on cs d key (suc n) p (size cs d p) (get_or cs p blank) (omega arith) refl (omega arith) refl)) ∙ e
+          sym (ap (λ j. seek_found cs d key j (p + size cs d p)) less ∙ ap (has_entry cs key) (seek_on cs d key (suc n) p (size cs d p) (get_or cs p blank) (omega arith) refl (omega arith) refl)) ∙ e
 
-  past : (n p : ℕ) → Past cs d k n p (seek cs d k n p)
-  unfolding seek
+  past : (n p : ℕ) → Past cs d k n p (seek_place cs d k n p)
+  unfolding seek_place
   past zero p = past_end p
   past (suc n) p = go (ltb (key_of (get_or cs p blank)) k) refl (past n (p + size cs d p))
     where
-      go : (t : Bool) → ltb (key_of (get_or cs p blank)) k ≡ t → Past cs d k n (p + size cs d p) (seek cs d k n (p + size cs d p))
-          → Past cs d k (suc n) p (pick t (seek cs d k n (p + size cs d p)) (place p (suc n) (eqb (key_of (get_or cs p blank)) k)))
-      go true e ih = past_on n p (seek cs d k n (p + size cs d p)) (ltb-true (key_of (get_or cs p blank)) k e) ih
-      go false e ih = past_here n p (eqb (key_of (get_or cs p blank)) k) (ltb-false (key_of (get_or cs p blank)) k e)
+      go : (t : Bool) → ltb (key_of (get_or cs p blank)) k ≡ t → Past cs d k n (p + size cs d p) (seek_place cs d k n (p + size cs d p))
+          → Past cs d k (suc n) p (pick t (seek_place cs d k n (p + size cs d p)) (place p (suc n)))
+      go true e ih = past_on n p (seek_place cs d k n (p + size cs d p)) (ltb-true (key_of (get_or cs p blank)) k e) ih
+      go false e ih = past_here n p (ltb-false (key_of (get_or cs p blank)) k e)
 
 -- ---- the next register
 
-module _ (cs : List Cell) (a : IntMap) (k : ℕ) (few : k ≤ 65535) (sought : ℕ) (se : sought ≡ class_key 0 k) (w : Found) (we : w ≡ seek cs levels sought a.len a.base) where
+module _ (cs : List Cell) (a : IntMap) (k : ℕ) (few : k ≤ 65535) (sought : ℕ) (se : sought ≡ class_key 0 k) (w : Place) (we : w ≡ seek_place cs levels sought a.len a.base) where
   led : Past cs levels sought a.len a.base w
   led = subst (Past cs levels sought a.len a.base) (sym we) (past cs levels sought a.len a.base)
 
@@ -119,7 +119,7 @@ module _ (cs : List Cell) (a : IntMap) (k : ℕ) (few : k ≤ 65535) (sought : �
 
       pub next_here : key ≤ 131071 → Next cs a k (key - 65536)
       next_here h =
-          let found = ap (λ j. (seek cs levels j a.len a.base).present) key_is ∙ led.found (omega arith) in
+          let found = ap (λ j. seek_found cs levels j a.len a.base) key_is ∙ led.found (omega arith) in
           let own : class_key 0 (key - 65536) ≡ key = omega (arith, next_above) in
           record {
             from = omega (arith, next_above);

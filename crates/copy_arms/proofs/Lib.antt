@@ -1,3 +1,4 @@
+pub mod RunLaws
 pub mod CopyLaws
 pub mod GapLaws
 pub mod PlaceLaws

@@ -1,9 +1,9 @@
 -- Registers that are one cell each, one after the other: they are carried where they stand, with no search for each. Assumes nothing.
-use Rattle.std.specs.Prelude.{◌≡◌, Bool, true, List, ℕ, ◌+◌, ◌<◌, ◌≤◌, get_or, Ok}
+use Rattle.std.specs.Prelude.{◌≡◌, Bool, List, ℕ, ◌+◌, ◌<◌, ◌≤◌, get_or, Ok}
 use Rattle.area.specs.Cells.{blank}
 use Rattle.area.specs.declared.Cell.{Cell}
 use Rattle.intmap.specs.Alike.{Alike}
-use Rattle.intmap.specs.Find.{seek}
+use Rattle.intmap.specs.Find.{place, seek}
 use Rattle.intmap.specs.Map.{levels}
 use Rattle.intmap.specs.Pack.{tag_of, key_of, class_key}
 use Rattle.intmap.specs.Signed.{offset, int_of}
@@ -20,8 +20,8 @@ pub record Alone (cs : List Cell) (a : IntMap) (p k : ℕ) : Type 0 where
 
 -- a search for register k leads to p
 pub record FoundAt (cs : List Cell) (a : IntMap) (p k : ℕ) : Type 0 where
-  pub at : (seek cs levels (class_key 0 k) a.len a.base).at ≡ p
-  pub present : (seek cs levels (class_key 0 k) a.len a.base).present ≡ true
+  pub left : ℕ
+  pub is : Ok (place p left) ≡ seek cs levels (class_key 0 k) a.len a.base
 
 -- it does if such a cell is there, and p is of the map or its end
 pub record Leading (cs : List Cell) (a : IntMap) (p k : ℕ) : Type 0 where

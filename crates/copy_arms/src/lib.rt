@@ -2,52 +2,52 @@
 // OP_NOT, OP_COPY, OP_MOVE.
 #![tactic(auto)]
 
-ghost use Rattle.std.specs.Prelude.{◌≡◌, true, ◌+◌, ◌-◌, ◌<◌, ◌≤◌};
+ghost use Rattle.std.specs.Prelude.{◌≡◌, true, ◌+◌, ◌-◌, ◌<◌, ◌≤◌, get_or};
 ghost use Rattle.model.specs.RegisterArms.{copy_to};
 ghost use Rattle.model.specs.Operation.{op_copy_one, op_copy, op_move};
-ghost use Rattle.area.specs.Cells.{cells};
-ghost use Rattle.intmap.specs.Map.{levels, IsMap};
-ghost use Rattle.intmap.specs.Runs.{size};
+ghost use Rattle.area.specs.Cells.{blank, cells};
+ghost use Rattle.intmap.specs.Map.{IsMap};
+ghost use Rattle.intmap.specs.Pack.{tag_of};
 ghost use Rattle.intmap.specs.Signed.{offset, int_of};
 ghost use Rattle.state.specs.Leads.{Leads};
 ghost use Rattle.state.specs.Arms.{RegisterArm};
-ghost use Rattle.state.specs.Stores.{cells_in, IsHeld, IsCurrent, Changes, Writes};
+ghost use Rattle.state.specs.Stores.{cells_in, IsHeld, IsCurrent, HasRun, Changes, Writes};
 ghost use Rattle.copy_arms.specs.Copies.{StoresFrom, carry_one, carry_many};
 ghost use Rattle.copy_arms.specs.Gaps.{Next, Gap};
 ghost use Rattle.copy_arms.specs.InPlace.{Alone, FoundAt, Leading, CarriesCell, CarriesRun};
 
+use area::Cell;
 use intmap::IntMap;
 use refusal::Refusal;
 use rows::Row;
 use state::Store;
 use type_info::DataType;
 
-// Stores the entry at `at` of the map in register j too. A cell alone is stored as it is. A store may move a longer run, so that goes to the room
-// behind the map first.
-fn store_behind(store: &mut Store, at: usize, j: u64) -> Result<(), Refusal>
-    requires { IsCurrent store.old × (store.old.map.base ≤ at) × (at + size (cells_in store.old) levels at ≤ store.old.map.base + store.old.map.used) }
-    ensures { Changes (λ limit cs ds a r. StoresFrom limit cs ds a at j r) store.old store.new result }
+// Stores the run at `at` of the map in register j, with c for its head. A cell alone is stored as it is. A store may move a longer run, so that
+// goes to the room behind the map first.
+fn store_behind(store: &mut Store, at: usize, c: Cell, j: u64) -> Result<(), Refusal>
+    requires { IsCurrent store.old × HasRun store.old at × (tag_of c ≡ tag_of (get_or (cells_in store.old) at blank)) × (c.payload ≡ (get_or (cells_in store.old) at blank).payload) }
+    ensures { Changes (λ limit cs ds a r. StoresFrom limit cs ds a at c j r) store.old store.new result }
 {
-    let c = store.cell_at(at);
     if intmap::tag_of(c) != intmap::RECORD {
         return store.store_cell(intmap::Class::Registers, j, c);
     }
     let to = store.map.base + store.limit;
     let n = store.count(at);
     store.move_cells(at, to, n);
+    store.put_cell(to, c);
     store.store_run(intmap::Class::Registers, j, to)
 }
 
 // The same, at once where both are records of as many columns, of one cell each.
-fn store_from(store: &mut Store, at: usize, j: u64) -> Result<(), Refusal>
-    requires { IsCurrent store.old × (store.old.map.base ≤ at) × (at + size (cells_in store.old) levels at ≤ store.old.map.base + store.old.map.used) }
-    ensures { Changes (λ limit cs ds a r. StoresFrom limit cs ds a at j r) store.old store.new result }
+pub fn store_from(store: &mut Store, at: usize, c: Cell, j: u64) -> Result<(), Refusal>
+    requires { IsCurrent store.old × HasRun store.old at × (tag_of c ≡ tag_of (get_or (cells_in store.old) at blank)) × (c.payload ≡ (get_or (cells_in store.old) at blank).payload) }
+    ensures { Changes (λ limit cs ds a r. StoresFrom limit cs ds a at c j r) store.old store.new result }
 {
-    let c = store.cell_at(at);
     if store.over_register(at, c, j) {
         return Ok(());
     }
-    store_behind(store, at, j)
+    store_behind(store, at, c, j)
 }
 
 // Stores what register i holds, if there is something, in register j; then null in register i, if it moves.
@@ -58,7 +58,8 @@ fn carry_register(store: &mut Store, i: u64, j: u64, moves: bool) -> Result<(), 
     let Some(at) = store.get(intmap::Class::Registers, i)? else {
         return Ok(());
     };
-    store_from(store, at, j)?;
+    let c = store.cell_at(at);
+    store_from(store, at, c, j)?;
     if !moves {
         return Ok(());
     }
@@ -87,11 +88,11 @@ fn next_register(store: &Store, k: u64) -> u64
     requires { IsMap (cells_in store.now) store.now.map × (k ≤ 65535) }
     ensures { Next (cells_in store.now) store.now.map k result }
 {
-    let found = store.find(intmap::class_key(intmap::Class::Registers, k));
-    if found.left == 0 {
+    let (Ok(place) | Err(place)) = store.find(intmap::class_key(intmap::Class::Registers, k));
+    if place.left == 0 {
         return 65536;
     }
-    let key = intmap::key_of(store.cell_at(found.at));
+    let key = intmap::key_of(store.cell_at(place.at));
     if 131071 < key {
         return 65536;
     }

@@ -21,17 +21,16 @@ use Rattle.model.proofs.Access.{index_small}
 use Rattle.area.specs.Cells.{cell, blank}
 use Rattle.area.specs.declared.Cell.{Cell}
 use Rattle.intmap.specs.Entries.{span}
-use Rattle.intmap.specs.Find.{seek}
+use Rattle.intmap.specs.Find.{seek_place, seek_found, Sought, seek}
 use Rattle.intmap.specs.Get.{Slot}
 use Rattle.intmap.specs.Map.{levels, IsMap}
 use Rattle.intmap.specs.Pack.{head, tag_of, class_key}
 use Rattle.intmap.specs.Pick.{pick}
 use Rattle.intmap.specs.Runs.{size, sizes}
 use Rattle.intmap.specs.Signed.{int_of}
-use Rattle.intmap.specs.declared.Found.{Found}
 use Rattle.intmap.specs.declared.IntMap.{IntMap}
 use Rattle.intmap.proofs.EntryLaws.{opened, length-span}
-use Rattle.intmap.proofs.FindLaws.{found_within, found-whole}
+use Rattle.intmap.proofs.FindLaws.{answered_err, seek_from, seek_whole}
 use Rattle.intmap.proofs.PackLaws.{head_nullable}
 use Rattle.intmap.proofs.RunLaws.{size-pos, size_record}
 use Rattle.intmap.proofs.Swapped.{seek_some, seek_none}
@@ -46,7 +45,7 @@ use Rattle.encoding.proofs.Packing.{nullable_small, nullable_coded}
 use Rattle.encoding.proofs.Flat.{flat_sizes}
 use Rattle.encoding.proofs.Standing.{stands_head, stands_rest}
 use Rattle.state.specs.Leads.{HoldsMap, Held}
-use Rattle.state.specs.Own.{entry_slot, is_flat, index_slot, place_of}
+use Rattle.state.specs.Own.{found_slot, entry_slot, is_flat, index_slot, place_of}
 use Rattle.state.proofs.OwnLaws.{case, entry_led, flat_told}
 use Rattle.cursor_arms.specs.Cursors.{Reading, TellsReading}
 use Rattle.cursor_arms.specs.StandsFor.{head_slot, table_slot, columns_slot, empty_in, emptiness_in, SlotWithin, cursor_table, IsTable, TellsTable, HasColumns, TellsColumns, emptiness_of, FindsTable, FindsColumns, FindsReading, FindsCursor, TellsEmpty}
@@ -57,32 +56,29 @@ use Rattle.cursor_arms.specs.declared.CursorDataType.TheVariants as cursor
 
 -- where it is, and what that says of the search
 module _ (cs : List Cell) (a : IntMap) (class k : ℕ) where
-  abbrev search_led : Found
-  search_led = seek cs levels (class_key class k) a.len a.base
-
   pub record Led (p : ℕ) : Type 0 where
-    pub present : (seek cs levels (class_key class k) a.len a.base).present ≡ true
-    pub at : (seek cs levels (class_key class k) a.len a.base).at ≡ p
+    pub present : seek_found cs levels (class_key class k) a.len a.base ≡ true
+    pub at : (seek_place cs levels (class_key class k) a.len a.base).at ≡ p
 
   pub led_at : (p : ℕ) → entry_slot cs a class k ≡ Some p → Led p
   led_at p e = let it = entry_led cs a class k p e in record { present = it.0; at = it.1 }
 
-  pub not_led : (case (entry_slot cs a class k) ≡ 2 → ⊥) → (seek cs levels (class_key class k) a.len a.base).present ≡ false
+  pub not_led : (case (entry_slot cs a class k) ≡ 2 → ⊥) → seek_found cs levels (class_key class k) a.len a.base ≡ false
   unfolding entry_slot
-  not_led h = go search_led.present refl h
+  not_led h = go (seek cs levels (class_key class k) a.len a.base) refl h
     where
-      go : (b : Bool) → search_led.present ≡ b → (case (pick b (Some search_led.at) None) ≡ 2 → ⊥) → search_led.present ≡ false
-      go true e h = absurd (h refl)
-      go false e h = e
+      go : (s : Sought) → s ≡ seek cs levels (class_key class k) a.len a.base → (case (found_slot s) ≡ 2 → ⊥) → seek_found cs levels (class_key class k) a.len a.base ≡ false
+      go (Ok w) e h = absurd (h refl)
+      go (Err w) e h = (answered_err cs levels (class_key class k) a.len a.base w e).1
 
-  pub led_nowhere : entry_slot cs a class k ≡ None → (seek cs levels (class_key class k) a.len a.base).present ≡ false
+  pub led_nowhere : entry_slot cs a class k ≡ None → seek_found cs levels (class_key class k) a.len a.base ≡ false
   led_nowhere e = not_led (λ q. omega (arith, ap case e, q))
 
   -- it lies within the map
   pub led_inside : (p : ℕ) → a.used ≡ sizes (size cs levels) a.len a.base → Led p → (a.base ≤ p) × (p + size cs levels p ≤ a.base + a.used)
   led_inside p used l =
       subst (λ q. (a.base ≤ q) × (q + size cs levels q ≤ a.base + a.used)) l.at
-      ((found_within cs levels (class_key class k) a.len a.base _ refl).0, omega (arith, found-whole cs levels (class_key class k) a.len a.base _ refl l.present, used))
+      (seek_from cs levels (class_key class k) a.len a.base, omega (arith, seek_whole cs levels (class_key class k) a.len a.base l.present, used))
 
   pub entry-within : IsMap cs a → (s : Option ℕ) → s ≡ entry_slot cs a class k → SlotWithin cs s
   entry-within is None e = tt
@@ -120,7 +116,7 @@ module _ {limit bound : ℕ} {cs : List Cell} {a : IntMap} {m : MemoryState} (h 
     table_at : (p : ℕ) → Led cs a 2 row p → IsTable cs a p (done (get row m.t))
     table_at p l =
         let key = class_key 2 row in
-        let q = (seek cs levels key a.len a.base).at in
+        let q = (seek_place cs levels key a.len a.base).at in
         let v = (told_table h row).present (span cs q (size cs levels q)) (ap done (seek_some cs levels key a.len a.base l.present)) in
         let long : size cs levels q ≡ length (run_table key v.value) = sym (length-span cs q (size cs levels q)) ∙ ap length v.is in
         let inside = led_inside cs a 2 row q h.takes (record { present = l.present; at = refl }) in
@@ -190,7 +186,7 @@ module _ {limit bound : ℕ} {cs : List Cell} {a : IntMap} {m : MemoryState} (h 
       key = class_key 0 k
 
       q : ℕ
-      q = (seek cs levels (class_key 0 k) a.len a.base).at
+      q = (seek_place cs levels (class_key 0 k) a.len a.base).at
 
       v : Value (λ v. GoodRegister v × SmallRegister bound v) (run_register (class_key 0 k)) (span cs q (size cs levels q)) (done (get k m.r))
       v = (told_register_at h k le).present (span cs q (size cs levels q)) (ap done (seek_some cs levels (class_key 0 k) a.len a.base l.present))

@@ -17,7 +17,7 @@ use Rattle.area.specs.Cells.{blank}
 use Rattle.area.specs.declared.Cell.{Cell}
 use Rattle.intmap.specs.Pack.{tag_of, class_key, with_nullable}
 use Rattle.intmap.specs.Runs.{size, sizes, whole}
-use Rattle.intmap.specs.Find.{seek}
+use Rattle.intmap.specs.Find.{seek_found}
 use Rattle.intmap.specs.Map.{levels, IsMap, HasRoom, Frame}
 use Rattle.intmap.specs.declared.IntMap.{IntMap}
 use Rattle.intmap.proofs.RunLaws.{size-pos}
@@ -98,7 +98,7 @@ module _ (e : Option Bool → Option Bool) (cs : List Cell) (a : IntMap) (row : 
   abbrev f : TableDataType → TableDataType
   f t = set_empty (e t.is_empty) t
 
-  pub none_changed : (seek cs levels (class_key 2 row) a.len a.base).present ≡ false → TableChanged f cs cs a row
+  pub none_changed : seek_found cs levels (class_key 2 row) a.len a.base ≡ false → TableChanged f cs cs a row
   none_changed h =
       record {
         holds = λ limit bound m held. subst (λ s. HoldsMap limit bound cs a s) (sym (search_table_kept held row f h)) held;

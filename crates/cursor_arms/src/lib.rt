@@ -9,21 +9,21 @@ ghost use Rattle.model.specs.Access.{store_cursor};
 ghost use Rattle.model.specs.Cursor.{set_empty};
 ghost use Rattle.model.specs.CursorArms.{empty_after_delete, after_delete};
 ghost use Rattle.model.specs.Operation.{op_open_pseudo, op_open_dup, op_delete};
+ghost use Rattle.area.specs.Cells.{cells};
 ghost use Rattle.intmap.specs.Pack.{with_nullable};
-ghost use Rattle.intmap.specs.Map.{levels};
-ghost use Rattle.intmap.specs.Runs.{size};
 ghost use Rattle.intmap.specs.Signed.{int_of};
 ghost use Rattle.encoding.specs.Encode.{nullable_code};
 ghost use Rattle.encoding.specs.Decode.{nullable_in};
 ghost use Rattle.rows.specs.Parts.{Operand};
-ghost use Rattle.state.specs.Leads.{Current, SomeCurrent, Leads};
+ghost use Rattle.state.specs.Leads.{Held, Current, SomeCurrent, Leads};
 ghost use Rattle.state.specs.Arms.{CursorArm};
-ghost use Rattle.state.specs.Stores.{cells_in, IsHeld, IsCurrent, Changes, Writes};
+ghost use Rattle.state.specs.Stores.{cells_in, IsHeld, IsCurrent, HasRun, Changes, Writes};
 ghost use Rattle.cursor_arms.specs.Cursors.{cursor_in, cell_of, RowWithin, ReadsCursor};
 ghost use Rattle.cursor_arms.specs.Behind.{RunBehind};
 ghost use Rattle.cursor_arms.specs.StandsFor.{head_slot, empty_in, SlotWithin, FindsTable, FindsColumns, FindsCursor, TellsEmpty, CursorTableChanged};
 
 use area::Cell;
+use intmap::IntMap;
 use refusal::Refusal;
 use rows::Row;
 use state::Store;
@@ -45,37 +45,43 @@ fn cursor_in(c: Cell) -> CursorDataType
     CursorDataType::Pseudo(c.payload)
 }
 
+// Reads cursor i of a map, if it is there. This and the readers below whose names end in `_in` stand over a `Store` too, as a call of these: who is
+// lent the area for reading has no `Store`.
+pub fn read_cursor_in(map: IntMap, area: &[u8], i: u64) -> Result<Option<CursorDataType>, Refusal>
+    requires { Held (cells area.now) map }
+    ensures { ReadsCursor (cells area.now) map i result }
+{
+    match state::get(map, area, intmap::Class::Cursors, i)? {
+        None => Ok(None),
+        Some(at) => Ok(Some(cursor_in(area::cell_at(area, at)))),
+    }
+}
+
 // Reads cursor i, if it is there.
 pub fn read_cursor(store: &Store, i: u64) -> Result<Option<CursorDataType>, Refusal>
     requires { IsHeld store.now }
     ensures { ReadsCursor (cells_in store.now) store.now.map i result }
 {
-    match store.get(intmap::Class::Cursors, i)? {
-        None => Ok(None),
-        Some(at) => Ok(Some(cursor_in(store.cell_at(at)))),
-    }
+    read_cursor_in(store.map, store.area, i)
 }
 
 // A place, if a record's or table's head is there. A table's always is in a state, and asking makes it one in any cells.
-fn head_at(store: &Store, x: Option<usize>) -> Option<usize>
-    requires { SlotWithin (cells_in store.now) x × (length (cells_in store.now) ≤ 1048576) }
-    ensures { result ≡ head_slot (cells_in store.now) x }
+fn head_at(area: &[u8], x: Option<usize>) -> Option<usize>
+    requires { SlotWithin (cells area.now) x × (length (cells area.now) ≤ 1048576) }
+    ensures { result ≡ head_slot (cells area.now) x }
 {
     let at = x?;
-    if intmap::tag_of(store.cell_at(at)) == intmap::RECORD {
-        return Some(at);
-    }
-    None
+    (intmap::tag_of(area::cell_at(area, at)) == intmap::RECORD).then_some(at)
 }
 
 // The emptiness that the table's head at a place says. Where there is no table, the cursor is empty.
-fn empty_at(store: &Store, x: Option<usize>) -> Option<bool>
-    requires { SlotWithin (cells_in store.now) x × (length (cells_in store.now) ≤ 1048576) }
-    ensures { result ≡ empty_in (cells_in store.now) x }
+fn empty_at(area: &[u8], x: Option<usize>) -> Option<bool>
+    requires { SlotWithin (cells area.now) x × (length (cells area.now) ≤ 1048576) }
+    ensures { result ≡ empty_in (cells area.now) x }
 {
     match x {
         None => Some(true),
-        Some(at) => state::nullable_in(store.cell_at(at)),
+        Some(at) => state::nullable_in(area::cell_at(area, at)),
     }
 }
 
@@ -107,44 +113,68 @@ impl CursorDataType {
         }
     }
 
-    // Where the head of its table is, if it has one.
-    pub fn table(self, store: &Store) -> Option<usize>
-        requires { IsHeld store.now × RowWithin self }
-        ensures { FindsTable (cells_in store.now) store.now.map self result }
+    // Where the head of its table is in a map, if it has one.
+    pub fn table_in(self, map: IntMap, area: &[u8]) -> Option<usize>
+        requires { Held (cells area.now) map × RowWithin self }
+        ensures { FindsTable (cells area.now) map self result }
     {
         match self {
-            CursorDataType::Normal(row) => store.entry_at(intmap::Class::Tables, row),
+            CursorDataType::Normal(row) => state::entry_at(map, area, intmap::Class::Tables, row),
             CursorDataType::Pseudo(_) => None,
         }
     }
 
-    // Where the head of its columns is, a table's or that of a register's record, if it has columns.
-    pub fn columns(self, store: &Store) -> Result<Option<usize>, Refusal>
+    // The same in a state's map.
+    pub fn table(self, store: &Store) -> Option<usize>
         requires { IsHeld store.now × RowWithin self }
-        ensures { FindsColumns (cells_in store.now) store.now.map self result }
+        ensures { FindsTable (cells_in store.now) store.now.map self result }
+    {
+        self.table_in(store.map, store.area)
+    }
+
+    // Where the head of its columns is in a map, a table's or that of a register's record, if it has columns.
+    pub fn columns_in(self, map: IntMap, area: &[u8]) -> Result<Option<usize>, Refusal>
+        requires { Held (cells area.now) map × RowWithin self }
+        ensures { FindsColumns (cells area.now) map self result }
     {
         match self {
             CursorDataType::Normal(row) => {
-                Ok(head_at(store, store.entry_at(intmap::Class::Tables, row)))
+                Ok(head_at(area, state::entry_at(map, area, intmap::Class::Tables, row)))
             }
             CursorDataType::Pseudo(i) => {
-                let at = store.get(intmap::Class::Registers, i)?;
-                Ok(head_at(store, at))
+                let at = state::get(map, area, intmap::Class::Registers, i)?;
+                Ok(head_at(area, at))
             }
         }
     }
 
-    // Whether it is empty, if that is known. Pseudo cursors have exactly one row.
+    // The same in a state's map.
+    pub fn columns(self, store: &Store) -> Result<Option<usize>, Refusal>
+        requires { IsHeld store.now × RowWithin self }
+        ensures { FindsColumns (cells_in store.now) store.now.map self result }
+    {
+        self.columns_in(store.map, store.area)
+    }
+
+    // Whether it is empty by a map, if that is known. Pseudo cursors have exactly one row.
+    pub fn is_empty_in(self, map: IntMap, area: &[u8]) -> Option<bool>
+        requires { Held (cells area.now) map × RowWithin self }
+        ensures { TellsEmpty (cells area.now) map self result }
+    {
+        match self {
+            CursorDataType::Normal(row) => {
+                empty_at(area, state::entry_at(map, area, intmap::Class::Tables, row))
+            }
+            CursorDataType::Pseudo(_) => Some(false),
+        }
+    }
+
+    // The same by a state's map.
     pub fn is_empty(self, store: &Store) -> Option<bool>
         requires { IsHeld store.now × RowWithin self }
         ensures { TellsEmpty (cells_in store.now) store.now.map self result }
     {
-        match self {
-            CursorDataType::Normal(row) => {
-                empty_at(store, store.entry_at(intmap::Class::Tables, row))
-            }
-            CursorDataType::Pseudo(_) => Some(false),
-        }
+        self.is_empty_in(store.map, store.area)
     }
 
     // Sets whether its table is empty, if it has one. `delete` looks alike: one function for both would take a closure, and be no shorter.
@@ -183,8 +213,8 @@ pub fn columns_of(store: &Store, i: u64) -> Result<Option<usize>, Refusal>
     }
 }
 
-// Stores a cursor that reads the record in a register, whose number is an operand's word. It is no one function with the next, since a cursor that was
-// read, which may hold a larger number, meets neither contract.
+// Stores a cursor that reads the record in a register, whose number is an operand's word. It is no one function with the next, since a cursor that
+// was read, which may hold a larger number, meets neither contract.
 pub fn store_pseudo(store: &mut Store, i: u64, register: u64) -> Result<(), Refusal>
     requires { IsCurrent store.old × Operand register }
     ensures { Changes (λ limit cs ds a r. Leads limit cs ds a r (store_cursor limit (int_of i) (Pseudo (int_of register)))) store.old store.new result }
@@ -205,7 +235,7 @@ pub fn store_normal(store: &mut Store, i: u64, row: u64) -> Result<(), Refusal>
 // Copies the run of the entry at `at` to the room behind the map, with another nullable in its head, and gives how many cells it has. A store
 // may move that entry, so what is stored of it is taken from there.
 pub fn run_behind(store: &mut Store, at: usize, nullable: Option<bool>) -> usize
-    requires { IsCurrent store.old × (store.old.map.base ≤ at) × (at + size (cells_in store.old) levels at ≤ store.old.map.base + store.old.map.used) }
+    requires { IsCurrent store.old × HasRun store.old at }
     ensures { Writes (λ cs ds a. RunBehind store.old.limit cs ds a at nullable result) store.old store.new }
 {
     let to = store.map.base + store.limit;

@@ -15,11 +15,11 @@ use Rattle.model.specs.Good.{SortedColumns}
 use Rattle.area.specs.Cells.{blank}
 use Rattle.area.specs.declared.Cell.{Cell}
 use Rattle.intmap.specs.Entries.{Runs, span, entries, total, key_run}
-use Rattle.intmap.specs.Find.{seek}
+use Rattle.intmap.specs.Find.{has_entry, seek_place, seek_found}
 use Rattle.intmap.specs.Pack.{key_of}
 use Rattle.intmap.specs.Runs.{size, sizes}
 use Rattle.intmap.proofs.EntryLaws.{total-sizes, entries_few}
-use Rattle.intmap.proofs.FindLaws.{seek_here, seek_past}
+use Rattle.intmap.proofs.FindLaws.{entry_first, seek_here, seek_past}
 use Rattle.intmap.proofs.RunLaws.{size-pos}
 use Rattle.encoding.specs.Encode.{count, run_column, column_runs, run_columns}
 use Rattle.encoding.specs.Holds.{Stands}
@@ -44,8 +44,8 @@ module _ (cs : List Cell) (d : ℕ) where
   -- the r-th of n columns of one cell, and a search for its key
   pub record Direct (n p low r : ℕ) : Type 0 where
     pub from : low ≤ key_of (get_or cs (p + r) blank)
-    pub at : (seek cs d (key_of (get_or cs (p + r) blank)) n p).at ≡ p + r
-    pub present : (seek cs d (key_of (get_or cs (p + r) blank)) n p).present ≡ true
+    pub at : (seek_place cs d (key_of (get_or cs (p + r) blank)) n p).at ≡ p + r
+    pub present : seek_found cs d (key_of (get_or cs (p + r) blank)) n p ≡ true
 
   pub direct : (n p low r : ℕ) → sizes (size cs d) n p ≡ n → Rise low (entries cs d n p) → r < n → Direct n p low r
   unfolding entries sizes
@@ -53,8 +53,8 @@ module _ (cs : List Cell) (d : ℕ) where
   direct (suc n) p low zero flat rise lt =
       let here : p + 0 ≡ p = omega arith in
       let w = seek_here cs d (key_of (get_or cs p blank)) (suc n) p (get_or cs p blank) (omega arith) refl (omega arith) in
-      let c = subst (λ q. (low ≤ key_of (get_or cs q blank)) × ((seek cs d (key_of (get_or cs q blank)) (suc n) p).at ≡ q) × ((seek cs d (key_of (get_or cs q blank)) (suc n) p).present ≡ true)) (sym here)
-      (omega (arith, rise.0, first_key cs p (size cs d p) (size-pos cs d p)), sym (ap (λ x. x.at) w), sym (ap (λ x. x.present) w) ∙ eq-eqb (key_of (get_or cs p blank)) (key_of (get_or cs p blank)) refl) in
+      let c = subst (λ q. (low ≤ key_of (get_or cs q blank)) × ((seek_place cs d (key_of (get_or cs q blank)) (suc n) p).at ≡ q) × (seek_found cs d (key_of (get_or cs q blank)) (suc n) p ≡ true)) (sym here)
+      (omega (arith, rise.0, first_key cs p (size cs d p) (size-pos cs d p)), sym (ap (λ x. x.at) w), sym (ap (has_entry cs (key_of (get_or cs p blank))) w) ∙ entry_first cs (key_of (get_or cs p blank)) n p ∙ eq-eqb (key_of (get_or cs p blank)) (key_of (get_or cs p blank)) refl) in
       record { from = c.0; at = c.1; present = c.2 }
   direct (suc n) p low (suc r) flat rise lt =
       let z = size cs d p in
@@ -62,10 +62,10 @@ module _ (cs : List Cell) (d : ℕ) where
       let one : z ≡ 1 = omega (arith, size-pos cs d p, flat, entries_few cs d n (p + z)) in
       let next : p + z + r ≡ p + suc r = omega (arith, one) in
       let b = direct n (p + z) (suc (key_run (span cs p z))) r (omega (arith, flat, one)) rise.1 (omega arith) in
-      let c = subst (λ q. (suc (key_run (span cs p z)) ≤ key_of (get_or cs q blank)) × ((seek cs d (key_of (get_or cs q blank)) n (p + z)).at ≡ q) × ((seek cs d (key_of (get_or cs q blank)) n (p + z)).present ≡ true)) next (b.from, b.at, b.present) in
+      let c = subst (λ q. (suc (key_run (span cs p z)) ≤ key_of (get_or cs q blank)) × ((seek_place cs d (key_of (get_or cs q blank)) n (p + z)).at ≡ q) × (seek_found cs d (key_of (get_or cs q blank)) n (p + z) ≡ true)) next (b.from, b.at, b.present) in
       let low-key : key_of (get_or cs p blank) < key_of (get_or cs (p + suc r) blank) = omega (arith, c.0, key) in
       let w = seek_past cs d (key_of (get_or cs (p + suc r) blank)) n p low-key in
-      record { from = omega (arith, rise.0, c.0); at = ap (λ x. x.at) w ∙ c.1; present = ap (λ x. x.present) w ∙ c.2 }
+      record { from = omega (arith, rise.0, c.0); at = ap (λ x. x.at) w ∙ c.1; present = ap (has_entry cs (key_of (get_or cs (p + suc r) blank))) w ∙ c.2 }
 
 -- the columns of a state, with what comes behind so many cells
 columns_flat : (x : Columns) → SortedColumns x 0 → (cs : List Cell) (p n last : ℕ) → Stands cs p (run_columns x) → n ≤ length (run_columns x) → p + length (run_columns x) ≤ last → (p + n ≡ last) ⊎ (65536 ≤ key_of (get_or cs (p + n) blank)) → length (run_columns x) ≡ n

@@ -15,10 +15,10 @@ use Rattle.model.specs.Good.{SortedColumn, SortedColumns, GoodRegister, GoodTabl
 use Rattle.area.specs.Cells.{blank}
 use Rattle.area.specs.declared.Cell.{Cell}
 use Rattle.intmap.specs.Pack.{key_of, class_key}
-use Rattle.intmap.specs.Find.{seek}
+use Rattle.intmap.specs.Find.{has_entry, seek_place, seek_found}
 use Rattle.intmap.specs.Runs.{size, sizes}
 use Rattle.intmap.specs.Entries.{Runs, span, entries, key_run}
-use Rattle.intmap.proofs.FindLaws.{seek_here, seek_past}
+use Rattle.intmap.proofs.FindLaws.{entry_first, seek_here, seek_past}
 use Rattle.intmap.proofs.RunLaws.{size-pos}
 use Rattle.encoding.specs.Encode.{run_column, column_runs, run_register, run_cursor, run_table, run_map, runs_of}
 use Rattle.encoding.specs.Holds.{Holds}
@@ -115,15 +115,15 @@ other_key cs at p (suc z) h s lo hi = inner_at cs z (at + 1) p (unfold span in s
 -- the cell at p, of the entries from `at` on, begins one
 record Begins (cs : List Cell) (d key n at low p : ℕ) : Type 0 where
   from : low ≤ key
-  here : (seek cs d key n at).at ≡ p
-  present : (seek cs d key n at).present ≡ true
+  here : (seek_place cs d key n at).at ≡ p
+  present : seek_found cs d key n at ≡ true
 
 module _ (cs : List Cell) (d p : ℕ) (outer : 65536 ≤ key_of (get_or cs p blank)) where
   abbrev key : ℕ
   key = key_of (get_or cs p blank)
 
   begins : (n at low : ℕ) → Apart low (entries cs d n at) → at ≤ p → p < at + sizes (size cs d) n at → Begins cs d key n at low p
-  unfolding entries sizes seek
+  unfolding entries sizes seek_place
   begins zero at low s from to = absurd (omega arith)
   begins (suc n) at low s from to = go (size cs d at) refl (size-pos cs d at) s (begins n (at + size cs d at) (suc (key_run (span cs at (size cs d at)))))
     where
@@ -136,18 +136,18 @@ module _ (cs : List Cell) (d p : ℕ) (outer : 65536 ≤ key_of (get_or cs p bla
           by (yes q) t f =
               let same : key_of (get_or cs at blank) ≡ key = ap (λ x. key_of (get_or cs x blank)) (sym q) in
               let w = seek_here cs d key (suc n) at (get_or cs at blank) (omega arith) refl (omega (arith, same)) in
-              record { from = omega (arith, s.0, first_key cs at z pos, same); here = ap (λ x. x.at) (sym w) ∙ sym q; present = ap (λ x. x.present) (sym w) ∙ eq-eqb (key_of (get_or cs at blank)) key same }
+              record { from = omega (arith, s.0, first_key cs at z pos, same); here = ap (λ x. x.at) (sym w) ∙ sym q; present = ap (has_entry cs key) (sym w) ∙ entry_first cs key n at ∙ eq-eqb (key_of (get_or cs at blank)) key same }
           by (no n) true f = absurd (omega (arith, outer, other_key cs at p z pos s.1 (omega (arith, n)) (ltb-true p (at + z) f)))
           by (no ne) false f =
               let b = ih (subst (λ x. Apart (suc (key_run (span cs at x))) (entries cs d n (at + x))) (sym e) s.2) (omega (arith, e, ltb-false p (at + z) f)) (omega arith) in
               let low : key_of (get_or cs at blank) < key = omega (arith, b.from, first_key cs at (size cs d at) (size-pos cs d at)) in
               let w = seek_past cs d key n at low in
-              record { from = omega (arith, s.0, first_key cs at z pos, low); here = ap (λ x. x.at) w ∙ b.here; present = ap (λ x. x.present) w ∙ b.present }
+              record { from = omega (arith, s.0, first_key cs at z pos, low); here = ap (λ x. x.at) w ∙ b.here; present = ap (has_entry cs key) w ∙ b.present }
 
 -- what a search for its key finds
 pub held_place : {limit bound : ℕ} {cs : List Cell} {base len used : ℕ} {m : MemoryState} → Holds limit bound cs base len used m
     → (p : ℕ) → base ≤ p → p < base + used → 65536 ≤ key_of (get_or cs p blank)
-    → ((seek cs 9 (key_of (get_or cs p blank)) len base).at ≡ p) × ((seek cs 9 (key_of (get_or cs p blank)) len base).present ≡ true)
+    → ((seek_place cs 9 (key_of (get_or cs p blank)) len base).at ≡ p) × (seek_found cs 9 (key_of (get_or cs p blank)) len base ≡ true)
 held_place {limit} {bound} {cs} {base} {len} {used} {m} h p from to outer =
     let b = begins cs 9 p outer len base 65536 (subst (Apart 65536) (sym h.runs) (state_apart limit m h.good)) from (omega (arith, h.takes)) in
     (b.here, b.present)

@@ -12,7 +12,7 @@ use Rattle.area.specs.Cells.{cell, blank}
 use Rattle.area.specs.declared.Cell.{Cell}
 use Rattle.intmap.specs.Runs.{size, sizes}
 use Rattle.intmap.specs.Entries.{Runs, span, entries, total}
-use Rattle.intmap.specs.Find.{seek}
+use Rattle.intmap.specs.Find.{seek_place, seek_found}
 use Rattle.intmap.specs.Swap.{swap}
 use Rattle.intmap.specs.Change.{on_head}
 use Rattle.intmap.proofs.RunLaws.{size-pos, size_record}
@@ -35,9 +35,9 @@ pub record Replaced (cs ds : List Cell) (p : ℕ) (new : List Cell) : Type 0 whe
 
 -- ---- where the search for a key leads, if the key is there
 
-module _ (cs ds : List Cell) (key len base : ℕ) (new : List Cell) (present : (seek cs 9 key len base).present ≡ true) (whole : Whole 9 new) (r : Replaced cs ds (seek cs 9 key len base).at new) where
+module _ (cs ds : List Cell) (key len base : ℕ) (new : List Cell) (present : seek_found cs 9 key len base ≡ true) (whole : Whole 9 new) (r : Replaced cs ds (seek_place cs 9 key len base).at new) where
   abbrev there : ℕ
-  there = (seek cs 9 key len base).at
+  there = (seek_place cs 9 key len base).at
 
   first_new : (j : ℕ) → entries ds 9 (1 + j) there ≡ (new ∷ []) ++ entries ds 9 j (there + size cs 9 there)
   unfolding entries

@@ -29,11 +29,19 @@ count (entry k c cs) = suc (count cs)
 abbrev pub single : ℕ → ℕ → ℕ → Cell
 single kind nullable key = cell (head 1 kind nullable key) 0
 
+-- the one cell of a known number, whose word this is
+abbrev pub int : ℕ → ℕ → Cell
+int word key = cell (head 3 0 0 key) word
+
+-- the head of so many columns, a record's or a table's
+abbrev pub columns_head : ℕ → ℕ → ℕ → Cell
+columns_head n nullable key = cell (head 2 0 nullable key) n
+
 -- a column under a key, and the columns of a record or table, a run each
 unfoldable mutual
   pub run_column : ℕ → ColumnType → List Cell
   run_column key (Single d n) = single (datatype_code d) (nullable_code n) key ∷ []
-  run_column key (Record cs) = cell (head 2 0 0 key) (count cs) ∷ flatten (column_runs cs)
+  run_column key (Record cs) = columns_head (count cs) 0 key ∷ flatten (column_runs cs)
 
   pub column_runs : Columns → Runs
   column_runs end = []
@@ -45,14 +53,14 @@ run_columns cs = flatten (column_runs cs)
 
 unfoldable pub run_register : ℕ → RegDataType → List Cell
 run_register key (Column c) = run_column key c
-run_register key (Int i) = cell (head 3 0 0 key) (word_of i) ∷ []
+run_register key (Int i) = int (word_of i) key ∷ []
 
 unfoldable pub run_cursor : ℕ → CursorDataType → List Cell
 run_cursor key (Normal row) = cell (head 4 0 0 key) row ∷ []
 run_cursor key (Pseudo i) = cell (head 5 0 0 key) (word_of i) ∷ []
 
 unfoldable pub run_table : ℕ → TableDataType → List Cell
-run_table key t = cell (head 2 0 (nullable_code t.is_empty) key) (count t.cols) ∷ run_columns t.cols
+run_table key t = columns_head (count t.cols) (nullable_code t.is_empty) key ∷ run_columns t.cols
 
 -- the runs of a class's map
 unfoldable pub run_map : {A : Type 0} → (ℕ → A → List Cell) → ℕ → List (Entry A) → Runs

@@ -1,7 +1,7 @@
 -- The arm of an operation is met. Assumes nothing.
 use Rattle.std.specs.Prelude.{Ok, Err, Some, None}
 use Rattle.intmap.specs.Store.{Stored}
-use mathlib.Core.Path.{◌≡◌, refl, sym, ap, subst, ◌∙◌}
+use mathlib.Core.Path.{◌≡◌, refl, sym, ap, ap₂, subst, ◌∙◌}
 use mathlib.Core.Logic.{◌⊎◌, inl, inr}
 use mathlib.Core.Bool.{Bool}
 use mathlib.Core.List.{List}
@@ -35,7 +35,7 @@ use Rattle.state.specs.Arms.{Standard, RegisterArm, CursorArm}
 use Rattle.state.specs.Steps.{Offered, TellsStep, JumpArm, Step}
 use Rattle.state.specs.declared.MemoryState.{MemoryState}
 use Rattle.state.proofs.LeadsLaws.{unchanged}
-use Rattle.jump_arms.specs.Arms.{at, step_after}
+use Rattle.jump_arms.specs.Arms.{Ready, StateArm, at, step_after}
 use Rattle.jump_arms.proofs.StepLaws.{held_next, goes_on_lem}
 use Rattle.jump_arms.proofs.StoreSteps.{SameRow, leaves_after}
 use Rattle.coroutine_arms.specs.Arms.{RowsArm}
@@ -92,6 +92,10 @@ pub jump_named :
     (limit from n : ℕ) (cs ds : List Cell) (s : MemoryState) (x : Row) (r : Step) (blocks : List ℕ) →
     x.op ≡ k → JumpArm limit cs ds s x o r → NumberArm limit from n cs ds blocks s x x.op r
 jump_named o k leads limit from n cs ds s x r blocks is told = jump_number (ap arm_of is ∙ leads) told blocks
+
+-- what an arm of the state alone says of the state on a row
+pub of_state : {limit w : ℕ} {cs : List Cell} {a : IntMap} {s : MemoryState} {x : Row} {o : JumpOperation} {r : Step} → (s.map ≡ a) × (s.row ≡ w) → Ready limit cs (at w a) → StateArm s x o r → JumpArm limit cs cs (at w a) x o r
+of_state {limit} {cs = cs} {x = x} {o = o} {r = r} is ready arm = subst (λ s. StateArm s x o r) (ap₂ at is.1 is.0) arm limit cs ready
 
 -- ---- the arms that fall through
 

@@ -10,13 +10,13 @@ ghost use Rattle.rows.specs.Judged.{SomeRows};
 ghost use Rattle.jump_arms.specs.Arms.{Ready, ReadyStore, at, step_after};
 ghost use Rattle.state.specs.Stores.{cells_in, IsCurrent, SameStore, stored_in};
 ghost use Rattle.explain.specs.Handles.{state_of, row_on, Handles};
-ghost use Rattle.root_block.specs.Blocks.{IsBlocks};
 ghost use Rattle.explain.specs.Numbers.{NumberArm, as_handling};
 
 use intmap::IntMap;
 use opcode::Operation;
 use refusal::Refusal;
-use rows::Row;
+use root_block::Blocks;
+use rows::{Row, Rows};
 use state::{MemoryState, Registers, Store, Ways};
 
 // What handling a row gives: at most one branch, the state that goes on, and whether it counts as a repeat; three branches and the state that
@@ -44,24 +44,24 @@ fn falls_through(store: &Store, x: Result<(), Refusal>, row: u64) -> Result<Hand
 }
 
 // The arms that name the next row themselves, but Jump.
-fn jump(store: &mut Store, row: u64, x: Row, from: usize, n: usize) -> Result<Ways, Refusal>
-    requires { Ready store.old.limit (cells_in store.old) (at row store.old.map) × SomeRows (cells_in store.old) from n × (1 ≤ number x.op) × (number x.op ≤ 14) × (x.op ≡ Jump → ⊥) }
-    ensures { SameStore store.old store.new × ((blocks : List ℕ) → NumberArm store.old.limit from n (cells_in store.old) (cells_in store.new) blocks (at row store.old.map) x x.op result) }
+fn jump(store: &mut Store, row: u64, x: Row, rows: Rows) -> Result<Ways, Refusal>
+    requires { Ready store.old.limit (cells_in store.old) (at row store.old.map) × SomeRows (cells_in store.old) rows.from rows.count × (1 ≤ number x.op) × (number x.op ≤ 14) × (x.op ≡ Jump → ⊥) }
+    ensures { SameStore store.old store.new × ((blocks : List ℕ) → NumberArm store.old.limit rows.from rows.count (cells_in store.old) (cells_in store.new) blocks (at row store.old.map) x x.op result) }
 {
     match x.op {
-        Operation::Goto => jump_arms::goto(store, row, x),
+        Operation::Goto => jump_arms::goto(store.at(row), x),
         Operation::Gosub => jump_arms::gosub(store, row, x),
-        Operation::Branch => jump_arms::branch(store, row, x),
+        Operation::Branch => jump_arms::branch(store.at(row), x),
         Operation::IsNull => jump_arms::is_null(store, row, x),
         Operation::NotNull => jump_arms::not_null(store, row, x),
-        Operation::MustBeInt => jump_arms::must_be_int(store, row, x),
+        Operation::MustBeInt => jump_arms::must_be_int(store.at(row), x),
         Operation::If => jump_arms::if_(store, row, x),
         Operation::Rewind => rewind_arm::rewind(store, row, x),
         Operation::InitCoroutine => jump_arms::init_coroutine(store, row, x),
-        Operation::EndCoroutine => coroutine_arms::end_coroutine(store, row, x, from, n),
+        Operation::EndCoroutine => coroutine_arms::end_coroutine(store, row, x, rows),
         Operation::Return => jump_arms::return_(store, row, x),
-        Operation::Yield => coroutine_arms::yield_(store, row, x, from, n),
-        _ => jump_arms::halt(store, row, x),
+        Operation::Yield => coroutine_arms::yield_(store, row, x, rows),
+        _ => jump_arms::halt(store.at(row), x),
     }
 }
 
@@ -89,9 +89,9 @@ fn register(store: &mut Store, x: Row) -> Result<(), Refusal>
 }
 
 // The arms that use a cursor.
-fn cursor(store: &mut Store, word: u64, blocks: &[u8], x: Row) -> Result<(), Refusal>
-    requires { Ready store.old.limit (cells_in store.old) (at word store.old.map) × IsBlocks blocks.now × (store.old.limit ≤ 65535) × (33 ≤ number x.op) × (number x.op ≤ 41) }
-    ensures { SameStore store.old store.new × ((from n : ℕ) → NumberArm store.old.limit from n (cells_in store.old) (cells_in store.new) blocks.now (at word store.old.map) x x.op (step_after (word + 1) (stored_in store.new result))) }
+fn cursor(store: &mut Store, word: u64, blocks: Blocks<'_>, x: Row) -> Result<(), Refusal>
+    requires { Ready store.old.limit (cells_in store.old) (at word store.old.map) × (store.old.limit ≤ 65535) × (33 ≤ number x.op) × (number x.op ≤ 41) }
+    ensures { SameStore store.old store.new × ((from n : ℕ) → NumberArm store.old.limit from n (cells_in store.old) (cells_in store.new) blocks.entry.bytes.now (at word store.old.map) x x.op (step_after (word + 1) (stored_in store.new result))) }
 {
     let row = word - intmap::ZERO;
     match x.op {
@@ -129,28 +129,26 @@ fn result_row(store: &Store, row: u64, x: Row) -> Result<Handling, Refusal>
     Ok(Handling::Result(store.at(row + 1), columns))
 }
 
-// The row that the state stands on, of those that begin at the cell `from`.
-fn row_of(store: &Store, from: usize, row: u64) -> Row
-    requires { Inside store.now.area.now (from + (row - 9223372036854775808)) 1 × (9223372036854775808 ≤ row) }
-    ensures { parts result ≡ row_on (cells_in store.now) from row }
+// The row of the listing that the state stands on.
+fn row_of(store: &Store, rows: Rows, row: u64) -> Row
+    requires { Inside store.now.area.now (rows.from + (row - 9223372036854775808)) 1 × (9223372036854775808 ≤ row) }
+    ensures { parts result ≡ row_on (cells_in store.now) rows.from row }
 {
-    rows::row_at(store.area, from, (row - intmap::ZERO) as usize)
+    rows.row_at(store.area, (row - intmap::ZERO) as usize)
 }
 
-// Handles that row; `again` where its lineage has handled it before. The listing's n rows are in the cells from `from` on. An operation without
-// an arm does nothing.
+// Handles that row; `again` where its lineage has handled it before. An operation without an arm does nothing.
 fn handle_row(
     store: &mut Store,
     row: u64,
-    blocks: &[u8],
+    blocks: Blocks<'_>,
     again: bool,
-    from: usize,
-    n: usize,
+    rows: Rows,
 ) -> Result<Handling, Refusal>
-    requires { ReadyStore store.old row × SomeRows (cells_in store.old) from n × (row < 9223372036854775808 + n) × (store.old.limit ≤ 65535) × IsBlocks blocks.now }
-    ensures { SameStore store.old store.new × Handles store.old.limit from n (cells_in store.old) (cells_in store.new) blocks.now (at row store.old.map) (row_on (cells_in store.old) from row) again result }
+    requires { ReadyStore store.old row × SomeRows (cells_in store.old) rows.from rows.count × (row < 9223372036854775808 + rows.count) × (store.old.limit ≤ 65535) }
+    ensures { SameStore store.old store.new × Handles store.old.limit rows.from rows.count (cells_in store.old) (cells_in store.new) blocks.entry.bytes.now (at row store.old.map) (row_on (cells_in store.old) rows.from row) again result }
 {
-    let x = row_of(store, from, row);
+    let x = row_of(store, rows, row);
     // By ranges of the numbers: a match on the operation makes a table here, which is slower than the few comparisons.
     let op = x.op.number();
     if op == Operation::Other as u8 {
@@ -160,7 +158,7 @@ fn handle_row(
         return jump_three(store, row, x);
     }
     if op < Operation::IfPos as u8 {
-        return as_handling(jump(store, row, x, from, n), false);
+        return as_handling(jump(store, row, x, rows), false);
     }
     if op == Operation::IfPos as u8 {
         return as_handling(ifpos_arm::if_pos(store, row, x, again), again);
@@ -176,8 +174,8 @@ fn handle_row(
     result_row(store, row, x)
 }
 
-// The same, with the state on row `at` and its map in words: a struct that is handed over is written in words and read back in pairs. Inside the
-// walk's turn it would make the turn a call of its own, with all its registers, also for the rows that are handled in place.
+// The same, with the state on row `at`, its map and the rows in words: a struct that is handed over is written in words and read back in pairs.
+// Inside the walk's turn it would make the turn a call of its own, with all its registers, also for the rows that are handled in place.
 #[inline(never)]
 pub fn handle(
     at: u64,
@@ -185,16 +183,16 @@ pub fn handle(
     len: u64,
     used: usize,
     area: &mut [u8],
-    blocks: &[u8],
+    blocks: Blocks<'_>,
     again: bool,
     from: usize,
     n: usize,
     limit: usize,
 ) -> Result<Handling, Refusal>
-    requires { Ready limit (cells area.old) (state_of at base len used) × SomeRows (cells area.old) from n × (at < 9223372036854775808 + n) × (limit ≤ 65535) × IsBlocks blocks.now }
-    ensures { Handles limit from n (cells area.old) (cells area.new) blocks.now (state_of at base len used) (row_on (cells area.old) from at) again result }
+    requires { Ready limit (cells area.old) (state_of at base len used) × SomeRows (cells area.old) from n × (at < 9223372036854775808 + n) × (limit ≤ 65535) }
+    ensures { Handles limit from n (cells area.old) (cells area.new) blocks.entry.bytes.now (state_of at base len used) (row_on (cells area.old) from at) again result }
 {
     let map = IntMap { base, len, used };
     let mut store = Store { map, area, limit };
-    handle_row(&mut store, at, blocks, again, from, n)
+    handle_row(&mut store, at, blocks, again, Rows { from, count: n })
 }

@@ -3,7 +3,7 @@ use Rattle.refusal.specs.Numbers.{number_of}
 use Rattle.refusal.specs.declared.Refusal.{Refusal}
 use mathlib.Core.Path.{◌≡◌, refl, sym, ap, ap₂, subst, ◌∙◌}
 use mathlib.Core.Bool.{Bool, true, false, not, ◌||◌}
-use Rattle.std.specs.Prelude.{Option, None, Some, Ok, Err}
+use Rattle.std.specs.Prelude.{Option, None, Some, Ok, Err, Result}
 use mathlib.Core.List.{List, [], ◌∷◌}
 use Prim.Native.Nat.{ℕ, ◌+◌, ◌<◌, ◌≤◌}
 use native.Mathlib.Omega.{arith}
@@ -26,7 +26,7 @@ use Rattle.model.proofs.InPlace.{count_down_no_larger, forget_no_larger}
 use Rattle.model.proofs.Access.{go_to_good, next_good}
 use Rattle.area.specs.Cells.{cell}
 use Rattle.area.specs.declared.Cell.{Cell}
-use Rattle.intmap.specs.Map.{HasRoom, CopiedMap, runs_at}
+use Rattle.intmap.specs.Map.{HasRoom, runs_at}
 use Rattle.intmap.specs.Signed.{offset, int_of, Small}
 use Rattle.intmap.specs.Store.{store_runs, stored_of, Stores, Stored}
 use Rattle.intmap.specs.declared.IntMap.{IntMap}
@@ -40,13 +40,16 @@ use Rattle.rows.specs.Judged.{Judged}
 use Rattle.rows.specs.declared.row.Row.{Row}
 use Rattle.state.specs.Leads.{Current, HoldsMap, Tells}
 use Rattle.state.specs.Steps.{HoldsState, TellsStep, Step, offered}
+use Rattle.state.specs.Stores.{cells_in, SameStore, Changes}
 use Rattle.state.specs.declared.MemoryState.{MemoryState}
+use Rattle.state.specs.declared.store.Store.{Store}
 use Rattle.state.proofs.StoreLeads.{wider}
 use Rattle.state.proofs.LeadsLaws.{unchanged}
-use Rattle.jump_arms.specs.Arms.{at, branch_after, both_after, Knows, Puts}
+use Rattle.jump_arms.specs.Arms.{at, branch_after, Knows, Puts, ReadyStore}
+use Rattle.jump_arms.specs.Both.{at_map, Change, BothWays}
 use Rattle.jump_arms.proofs.StepLaws.{held_at, held_next, goes_on_lem, branches_and_goes, lies_here}
-use Rattle.jump_arms.proofs.StoreSteps.{SameRow, store-row, branches_told, branch_leaves}
-use Rattle.jump_arms.proofs.BothLaws.{behind_holds, first_frame, state_holds, both_frame, both_leaves, both_tells}
+use Rattle.jump_arms.proofs.StoreSteps.{SameRow, store-row, branches_told, branch_leaves, within}
+use Rattle.jump_arms.proofs.BothLaws.{Makes, told, puts_any}
 use Rattle.ifpos_arm.specs.Arm.{TellsAs, IfPosArm, KnowsInt, PutsInt, WordBefore, forget_if}
 
 -- ---- the stores
@@ -270,39 +273,26 @@ module _ (limit : ℕ) (cs : List Cell) (s : MemoryState) (x : Row) where
             frame = wider cs ds s.map.base limit put.frame;
           }
 
-      -- both ways
-      module _ (current : Current limit cs s.map) (there : List Cell) (behind : IntMap) (copied : CopiedMap cs there s.map (s.map.base + limit) behind) (two : List Cell) where
-        ways_are : (l : Listed) → Judged l x → (bound : ℕ) (m : Defined) → HoldsState limit bound cs s m → if_pos_arm true l m ≡ counted true (store_register limit (int_of x.p1) (Int (pred_ℤ (int_of w))) (go_to l.p2 m) >>= λ branch. forget_if (is_positive (int_of w)) limit (int_of x.p1) (next m) >>= λ stays. offers (branch ∷ []) (Some stays))
-        ways_are l j bound m h =
-            int_is true _ refl l j bound m h
-            ∙ again_is limit (int_of x.p1) l m h.map.good (int_of w) (k.says limit bound m h.map).answer (is_positive (int_of w))
+      ways_are : (l : Listed) → Judged l x → (bound : ℕ) (m : Defined) → HoldsState limit bound cs s m → if_pos_arm true l m ≡ counted true (store_register limit (int_of x.p1) (Int (pred_ℤ (int_of w))) (go_to l.p2 m) >>= λ branch. forget_if (is_positive (int_of w)) limit (int_of x.p1) (next m) >>= λ stays. offers (branch ∷ []) (Some stays))
+      ways_are l j bound m h =
+          int_is true _ refl l j bound m h
+          ∙ again_is limit (int_of x.p1) l m h.map.good (int_of w) (k.says limit bound m h.map).answer (is_positive (int_of w))
 
-        branch_put : (r : Stored) → PutsInt limit there two behind x.p1 v r → (l : Listed) (bound : ℕ) (m : Defined) → bound + 1 ≤ largest → HoldsState limit bound cs s m → Tells limit (bound + 1) two r (store_register limit (int_of x.p1) (Int (pred_ℤ (int_of w))) (go_to l.p2 m))
-        branch_put r put l bound m top h =
-            put_before there two behind r put l bound m top h (behind_holds limit cs there s current behind copied l (bound + 1) m (more bound m top h))
-
-        pub again_refused : (n : Refusal) (r : Stored) → PutsInt limit there two behind x.p1 v r → r ≡ Err n → IfPosArm limit cs two s x true (Err n)
-        again_refused n r tried e =
-            let put : PutsInt limit there two behind x.p1 v (Err n) = subst (PutsInt limit there two behind x.p1 v) e tried in
-            record {
-              says = λ l j bound m le top h.
-                  ways_are l j bound m h
-                  ∙ ap (λ t. counted true (t >>= λ branch. forget_if (is_positive (int_of w)) limit (int_of x.p1) (next m) >>= λ stays. offers (branch ∷ []) (Some stays)))
-                  (branch_put (Err n) put l bound m top h);
-              leaves = tt;
-              frame = first_frame limit cs there s current behind copied two put.frame;
-            }
-
-        pub again_arm : (b : IntMap) (r : Stored) → PutsInt limit there two behind x.p1 v r → r ≡ Ok b → (ds : List Cell) (q : Stored) → Puts limit two ds s.map q (forget_if (is_positive (int_of w)) limit (int_of x.p1)) → IfPosArm limit cs ds s x true (both_after (at x.p2 b) (s.row + 1) q)
-        again_arm b r tried e ds q last =
-            let put : PutsInt limit there two behind x.p1 v (Ok b) = subst (PutsInt limit there two behind x.p1 v) e tried in
-            record {
-              says = λ l j bound m le top h.
-                  told_as true limit (bound + 1) ds (both_after (at x.p2 b) (s.row + 1) q) _ _ (ways_are l j bound m h)
-                  (both_tells limit cs there s current behind copied two put.frame b put.leaves ds last.frame x l j (bound + 1) m h.row _ _
-                  (branch_put (Ok b) put l bound m top h) (store-row limit _ _ (go_to l.p2 m)) q
-                  (last.leads.says (bound + 1) (next m) (omega (arith, le)) (state_holds limit cs there s current behind copied two put.frame (bound + 1) m (more bound m top h)).map)
-                  (forget-row (is_positive (int_of w)) limit (int_of x.p1) (next m)));
-              leaves = both_leaves limit cs there s current behind copied two put.frame b put.leaves ds last.frame x.p2 (s.row + 1) q last.leads.leaves;
-              frame = both_frame limit cs there s current behind copied two put.frame b put.leaves ds last.frame;
-            }
+-- both ways
+pub again_arm : {s t : Store} {row : ℕ} {x : Row} → ReadyStore s row → (w v : ℕ) → KnowsInt (cells_in s) s.map x.p1 w → WordBefore w v → {F G : Change}
+    → ((a : Store) (q : Result (Unit {0}) Refusal) (b : Store) → F a q b → Changes (λ limit cs ds m r. PutsInt limit cs ds m x.p1 v r) a b q) → Makes G (λ limit. forget_if (is_positive (int_of w)) limit (int_of x.p1))
+    → {r : Step} → BothWays F G s t row x.p2 r → SameStore s t × IfPosArm s.limit (cells_in s) (cells_in t) (at row s.map) x true r
+again_arm {s} {t} {row} {x} ready w v k before {G = G} f-is g-is {r} u =
+    let c = f-is u.there u.first u.left u.changed in
+    let tell = told ready u.behind {G = G} {x = x} (λ p has e. puts_any (g-is (at_map s.map u.left) p t has e)) u.first (record { same = c.same; is = (c.is.leaves, c.is.frame) }) u.second in (
+      tell.same,
+      record {
+        says = λ l j bound m le top h.
+            told_as true s.limit (bound + 1) (cells_in t) r _ _ (ways_are s.limit (cells_in s) (at row s.map) x w k v before l j bound m h)
+            (tell.says l j (bound + 1) m (more s.limit (cells_in s) (at row s.map) x bound m top h) _ _
+            (λ held. put_before s.limit (cells_in s) (at row s.map) x w k v before _ _ _ _ (within u.behind.same.limit c) l bound m top h held) (store-row s.limit _ _ (go_to l.p2 m))
+            (λ p has e held. (within (c.same.limit ∙ u.behind.same.limit) (g-is (at_map s.map u.left) p t has e)).leads.says (bound + 1) _ (omega (arith, le)) held) (forget-row (is_positive (int_of w)) s.limit (int_of x.p1) (next m)));
+        leaves = tell.leaves;
+        frame = tell.frame;
+      },
+    )

@@ -9,7 +9,6 @@ ghost use Rattle.state.specs.Stores.{cells_in, IsHeld, SameStore, Changes};
 ghost use Rattle.jump_arms.specs.Arms.{ReadyStore, at, Puts};
 ghost use Rattle.ifpos_arm.specs.Arm.{IfPosArm, KnowsInt, PutsInt, WordBefore, forget_if};
 
-use area::Cell;
 use refusal::Refusal;
 use rows::Row;
 use state::{Store, Ways};
@@ -19,10 +18,7 @@ use type_info::DataType;
 fn word_before(w: u64) -> u64
     ensures { WordBefore w result }
 {
-    if 0 < w {
-        return w - 1;
-    }
-    w
+    w.saturating_sub(1)
 }
 
 // Stores a number in register i, within the map's room alone.
@@ -30,14 +26,7 @@ fn put_int(store: &mut Store, i: u64, value: u64) -> Result<(), Refusal>
     requires { HasRoom (cells_in store.old) store.old.limit store.old.map }
     ensures { Changes (λ limit cs ds a r. PutsInt limit cs ds a i value r) store.old store.new result }
 {
-    store.store_plain(
-        intmap::Class::Registers,
-        i,
-        Cell {
-            head: intmap::INT,
-            payload: value,
-        },
-    )
+    store.store_plain(intmap::Class::Registers, i, state::int(value))
 }
 
 // Makes register i an unknown Integer, if w is the word of a number of 1 or more.
@@ -51,20 +40,16 @@ fn forget(store: &mut Store, i: u64, w: u64) -> Result<(), Refusal>
     Ok(())
 }
 
-// IfPos at a row that is handled again, where the number of the word w is known: both ways, whatever it is. The branch counts down behind the
-// map; what goes on forgets a number of 1 or more.
+// IfPos at a row that is handled again, where the number of the word w is known: both ways, whatever it is. The branch counts down; what
+// goes on forgets a number of 1 or more.
 fn if_pos_again(store: &mut Store, row: u64, x: Row, w: u64) -> Result<Ways, Refusal>
     requires { ReadyStore store.old row × KnowsInt (cells_in store.old) store.old.map x.p1 w }
     ensures { SameStore store.old store.new × IfPosArm store.old.limit (cells_in store.old) (cells_in store.new) (at row store.old.map) x true result }
 {
-    let map = store.map;
-    let limit = store.limit;
-    store.map = map.copy_to(store.area, map.base + limit);
-    put_int(store, x.p1, word_before(w))?;
-    let branch = store.at(x.p2);
-    store.map = map;
-    forget(store, x.p1, w)?;
-    Ok(jump_arms::branch_and_go(branch, store, row + 1))
+    let before = word_before(w);
+    let branch = |s: &mut Store| put_int(s, x.p1, before);
+    let stays = |s: &mut Store| forget(s, x.p1, w);
+    jump_arms::both_ways(store, row, x.p2, branch, stays)
 }
 
 // IfPos. `again` says whether the row was handled before in this lineage.

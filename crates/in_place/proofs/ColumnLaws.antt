@@ -30,8 +30,8 @@ use Rattle.cursor_arms.proofs.CursorLaws.{in_normal, read_at}
 use Rattle.cursor_arms.proofs.StandsLaws.{head_there, finds_columns}
 use Rattle.column_arms.specs.Columns.{DirectAt, LeadsWith, store_column}
 use Rattle.column_arms.proofs.ColumnLaws.{column_direct, direct_at}
-use Rattle.column_arms.proofs.RunLaws.{stores-alone}
-use Rattle.column_arms.proofs.ArmLaws.{column_there, column_goes, head_above, head_below, head_tag, arm_there}
+use Rattle.copy_arms.proofs.RunLaws.{stores-alone}
+use Rattle.column_arms.proofs.ArmLaws.{column_there, column_goes, head_run, head_tag, arm_there}
 use Rattle.in_place.specs.InPlace.{Operands, TableNear, ColumnStored, ColumnNear, CursorNear}
 
 -- ---- the table that a cursor is on
@@ -79,11 +79,8 @@ module _ {cs ds : List Cell} {base end i j k p key : ℕ} {x : Index} {r : Bool}
     found : FindsCursor cs a y.p1 (Ok (Some p))
     found = subst (λ z. FindsCursor cs a z (Ok (Some p))) (sym ops.first) (t.is p ge a first last limit current)
 
-    above : a.base ≤ p
-    above = head_above limit cs a y current (Ok (Some p)) found p refl
-
     below : p + size cs levels p ≤ a.base + a.used
-    below = head_below limit cs a y current (Ok (Some p)) found p refl
+    below = (head_run limit cs a y current (Ok (Some p)) found p refl).1
 
     tag : tag_of (get_or cs p blank) ≡ 2
     tag = head_tag limit cs a y current (Ok (Some p)) found p refl
@@ -93,7 +90,7 @@ module _ {cs ds : List Cell} {base end i j k p key : ℕ} {x : Index} {r : Bool}
 
     leads : LeadsWith limit cs ds a p (Ok a) (store_column limit (int_of j) (int_of k))
     leads =
-        column_there limit cs a p current above below j k x judges key xe (Ok (Some (p + 1 + key)))
+        column_there limit cs a p j k x judges key xe (Ok (Some (p + 1 + key)))
         (column_direct cs a p key (record { fits = omega (arith, below, current.room.room, current.room.most); small = current.room.small }) tag below (get_or cs p blank) refl made.direct)
         (p + 1 + key) refl made.cell made.there ds (Ok a)
         (stores-alone limit cs a (p + 1 + key) made.cell (ap tag_of made.there) (λ q. made.direct.plain (ap tag_of (sym made.there) ∙ q)) ds k (Ok a) made.stored)

@@ -85,6 +85,9 @@ jump_handles jumped =
       no = jumped.no;
     }
 
+pub none_of : {cs ds : List Cell} {row base end : ℕ} {op : Operation} {i j k n : ℕ} → ds ≡ cs → HandlesNear cs ds row base end op i j k n None
+none_of same = jump_handles (jump_not same)
+
 -- the next row
 next_as : {cs ds : List Cell} {row base end : ℕ} {op : Operation} {n w limit first size : ℕ} {r : Option ℕ} {blocks : List ℕ} {s : MemoryState} {x : Row} {again : Bool} → WithinListing (row + 1) n r → r ≡ Some w → StandsAt s row base end → x.op ≡ op → NumberArm limit first size cs ds blocks s x op (step_after (s.row + 1) (Ok s.map)) → Handles limit first size cs ds blocks s (parts x) again (Ok (handling.Ways (record { branch = None; stays = Some (at w s.map) }) false))
 next_as {cs} {ds} {limit = limit} {first} {size} {blocks} {s} {x} {again} in_List e stands num arm =

@@ -33,7 +33,8 @@ use Rattle.state.proofs.LeadsLaws.{current_held}
 use Rattle.state.proofs.ReadLaws.{read_at}
 use Rattle.state.proofs.StoreLeads.{leads_as}
 use Rattle.copy_arms.specs.Copies.{carry_one, carry_many}
-use Rattle.copy_arms.proofs.CopyLaws.{stores-alone, carry_copies, carry_copy-one, carries_open, carries_end, arm_copy_one, arm_copy}
+use Rattle.copy_arms.proofs.RunLaws.{stores-alone}
+use Rattle.copy_arms.proofs.CopyLaws.{carry_copies, carry_copy-one, carries_open, carries_end, arm_copy_one, arm_copy}
 use Rattle.copy_arms.proofs.TurnLaws.{bind_done}
 use Rattle.register_arms.specs.Values.{IsDatatype, AreNullable}
 use Rattle.register_arms.proofs.RegisterLaws.{integer_arm, constant_arm, variable_arm, operands_stored}
@@ -77,7 +78,7 @@ module _ {cs : List Cell} {base end i p : ℕ} {near : Option ℕ} (g : GetsNear
       record {
         yes = λ e a first last limit current.
             leads_as _ (carry_copy-one limit (int_of i) (int_of j))
-            (carry_copies limit cs a i current (Ok (Some p)) (g.is p ge a first last (current_held current)) false j p refl ds (Ok a) (stores-alone limit cs ds a p j c (Ok a) ce plain (w.yes e a first last limit current.room)) refl);
+            (carry_copies limit cs a i current (Ok (Some p)) (g.is p ge a first last (current_held current)) false j p refl c ce ds (Ok a) (stores-alone limit cs a p c (ap (λ y. tag_of y) ce) plain ds j (Ok a) (w.yes e a first last limit current.room)) refl);
         no = w.no;
       }
 

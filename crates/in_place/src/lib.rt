@@ -125,9 +125,7 @@ fn table(area: &[u8], base: usize, end: usize, i: u64) -> Option<usize>
     requires { HeldAmong (cells area.now) base end }
     ensures { TableNear (cells area.now) base end i result }
 {
-    let Ok(k) = intmap::judge_index(i) else {
-        return None;
-    };
+    let k = intmap::judge_index(i).ok()?;
     let p = state::last_near(area, base, end, intmap::Class::Cursors, k)?;
     let c = area::cell_at(area, p);
     if intmap::tag_of(c) != intmap::NORMAL {
@@ -186,10 +184,7 @@ fn listed(row: u64, n: usize) -> Option<u64>
     if row < intmap::ZERO {
         return None;
     }
-    if n as u64 <= row - intmap::ZERO {
-        return None;
-    }
-    Some(row)
+    (row - intmap::ZERO < n as u64).then_some(row)
 }
 
 // The arms that name the next row, by P1, P2 and P3: where they go, if they are met.
@@ -211,19 +206,11 @@ fn jump(
         Operation::Goto => listed(j, n),
         Operation::Gosub => {
             let next = listed(j, n)?;
-            if state::int_near(area, base, end, i, at) {
-                Some(next)
-            } else {
-                None
-            }
+            state::int_near(area, base, end, i, at).then_some(next)
         }
         Operation::InitCoroutine => {
             let next = listed(jump_arms::init_coroutine_to(at, j), n)?;
-            if state::int_near(area, base, end, i, k) {
-                Some(next)
-            } else {
-                None
-            }
+            state::int_near(area, base, end, i, k).then_some(next)
         }
         _ => None,
     }
@@ -255,16 +242,10 @@ pub fn next_row(
     }
     let next = listed(at + 1, n)?;
     if number < Operation::Column as u8 {
-        if register(area, base, end, op, i, j, k) {
-            return Some(next);
-        }
-        return None;
+        return register(area, base, end, op, i, j, k).then_some(next);
     }
     if number != Operation::Column as u8 {
         return None;
     }
-    if column(area, base, end, i, j, k) {
-        return Some(next);
-    }
-    None
+    column(area, base, end, i, j, k).then_some(next)
 }

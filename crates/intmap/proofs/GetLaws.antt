@@ -1,7 +1,6 @@
 -- The laws of `get`: the four ways of a judged index and a search. Assumes nothing.
 use mathlib.Core.Path.{◌≡◌, sym, ap, ◌∙◌}
 use mathlib.Core.List.{List}
-use mathlib.Core.Bool.{true, false}
 use Prim.Native.Nat.{ℕ}
 use Rattle.model.specs.Walk.{Tried, refused, done}
 use Rattle.model.specs.Access.{index, ◌>>=◌}
@@ -15,9 +14,9 @@ use Rattle.std.specs.Prelude.{Some, None, Ok, Err}
 use Rattle.refusal.specs.Numbers.{number_of}
 use Rattle.refusal.specs.declared.Refusal.{Refusal}
 use Rattle.intmap.specs.Get.{Index, index_of, read_runs, Gets}
-use Rattle.intmap.specs.declared.Found.{Found}
+use Rattle.intmap.specs.declared.Place.{Place}
 use Rattle.intmap.specs.declared.IntMap.{IntMap}
-use Rattle.intmap.proofs.Swapped.{seek_some, seek_none}
+use Rattle.intmap.proofs.Swapped.{seek_ok, seek_err}
 use Rattle.intmap.proofs.StoreLaws.{found_in, found_all}
 
 module _ (cs : List Cell) (m : IntMap) (class i : ℕ) (x : Index) (ix : index_of x ≡ index (int_of i)) where
@@ -29,17 +28,13 @@ module _ (cs : List Cell) (m : IntMap) (class i : ℕ) (x : Index) (ix : index_o
   pub get_bad : (n : Refusal) → x ≡ Err n → Gets cs m class i (Err n)
   get_bad n e = record { answer = looked (refused (number_of n)) (ap index_of e); place = tt }
 
-  module _ (is : IsMap cs m) (k : ℕ) (e : x ≡ Ok k) (w : Found) (we : w ≡ seek cs levels (class_key class k) m.len m.base) where
-    pub get_absent : w.present ≡ false → Gets cs m class i (Ok None)
-    get_absent h =
-        record {
-          answer = ap done (sym (seek_none cs levels (class_key class k) m.len m.base (rw we at h))) ∙ looked (done k) (ap index_of e);
-          place = tt;
-        }
+  module _ (is : IsMap cs m) (k : ℕ) (e : x ≡ Ok k) {w : Place} where
+    pub get_absent : Err w ≡ seek cs levels (class_key class k) m.len m.base → Gets cs m class i (Ok None)
+    get_absent h = record { answer = ap done (sym (seek_err cs levels (class_key class k) m.len m.base w h)) ∙ looked (done k) (ap index_of e); place = tt }
 
-    pub get_at : w.present ≡ true → Gets cs m class i (Ok (Some w.at))
+    pub get_at : Ok w ≡ seek cs levels (class_key class k) m.len m.base → Gets cs m class i (Ok (Some w.at))
     get_at h =
         record {
-          answer = ap done (rw we (sym (seek_some cs levels (class_key class k) m.len m.base (rw we at h)))) ∙ looked (done k) (ap index_of e);
-          place = ((found_in cs m (class_key class k) w is we).0, found_all cs m (class_key class k) w is we h);
+          answer = ap done (sym (seek_ok cs levels (class_key class k) m.len m.base w h)) ∙ looked (done k) (ap index_of e);
+          place = ((found_in cs m (class_key class k) is (Ok w) h).0, found_all cs m (class_key class k) is h);
         }

@@ -16,12 +16,13 @@ use Rattle.std.specs.Bool.{MatchBool}
 use Rattle.intmap.specs.Pack.{tag_of, key_of, with_key}
 use Rattle.intmap.specs.Runs.{size, sizes, IsColumn, Agree}
 use Rattle.intmap.specs.Entries.{span, entries, key_run}
-use Rattle.intmap.specs.Find.{seek}
+use Rattle.intmap.specs.Find.{seek, spot}
 use Rattle.intmap.specs.Map.{levels, HasRoom}
 use Rattle.intmap.specs.Change.{rekey}
 use Rattle.intmap.specs.Over.{Plain, ArePlain, Overlaid, CopiesOver}
 use Rattle.intmap.specs.Store.{Opens, Inserts}
 use Rattle.intmap.specs.declared.IntMap.{IntMap}
+use Rattle.intmap.specs.declared.Place.{Place}
 use Rattle.intmap.proofs.EntryLaws.{length-span, span_same, entries_few}
 use Rattle.intmap.proofs.PackLaws.{keyed_tag}
 use Rattle.intmap.proofs.RunLaws.{size-single, size_record}
@@ -126,18 +127,17 @@ copied_it {cs} {ms} {ds} {from} {to} {c} column tag same load d de tag' load' so
 -- ---- the store
 
 module _ (cs ds : List Cell) (limit : ℕ) (m : IntMap) (key p : ℕ) (run : List Cell) (has : HasRoom cs limit m)
-    (here : (seek cs levels key m.len m.base).at ≡ p) (present : (seek cs levels key m.len m.base).present ≡ true) (keyed : key_run run ≡ key) (over : Overlaid cs ds p run)
+    (w : Place) (there : Ok w ≡ seek cs levels key m.len m.base) (here : w.at ≡ p) (keyed : key_run run ≡ key) (over : Overlaid cs ds p run)
   where
     opens : Opens cs cs limit m (seek cs levels key m.len m.base) (length run) (Ok m)
     opens =
-        let w = seek cs levels key m.len m.base in
         let n = length run in
-        let few = found_all cs m key w (room_map has) refl present in
-        opened_old cs cs limit m w w n (Ok m) refl n present (sym (ap (size cs levels) here ∙ over.was))
+        let few = found_all cs m key (room_map has) there in
+        opened_old cs cs limit m _ w n (Ok m) n there (sym (ap (size cs levels) here ∙ over.was))
         (record {
           base = refl;
           len = refl;
-          used = omega (arith, few, here, ap (size cs levels) here, over.was, (found_in cs m key w (room_map has) refl).0);
+          used = omega (arith, few, here, ap (size cs levels) here, over.was, (found_in cs m key (room_map has) (Ok w) there).0);
           most = has.most;
           cells = sym (moved_same cs (w.at + n) (m.base + m.used - w.at - n));
           long = refl;
@@ -146,7 +146,7 @@ module _ (cs ds : List Cell) (limit : ℕ) (m : IntMap) (key p : ℕ) (run : Lis
     pub overwritten_run : Inserts cs ds limit m run (Ok m)
     unfolding entries
     overwritten_run =
-        stored_done cs cs limit m key (length run) (Ok m) has opens ds run p m keyed refl (sym here) refl
+        stored_done cs cs limit m key (length run) (Ok m) has opens ds run p m keyed refl (sym here ∙ ap (λ s. (spot s).at) there) refl
         over.frame.below
         (λ j. let x : 1 + j ≡ suc j = omega arith in rw (x, over.is) (ap (λ (l : List Cell). l ∷ entries ds levels j (p + length run)) over.stands))
         over.frame.above

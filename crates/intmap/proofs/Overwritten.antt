@@ -2,7 +2,6 @@
 -- a map a map. If it is the entry that a search for the key leads to, that is the store of the new cell. Assumes nothing.
 use mathlib.Core.Path.{◌≡◌, refl, sym, ap, ◌∙◌}
 use mathlib.Core.List.{List, [], ◌∷◌}
-use mathlib.Core.Bool.{true}
 use Prim.Native.Nat.{ℕ, zero, suc, ◌+◌, ◌-◌, ◌<◌}
 use native.Mathlib.Omega.{arith}
 use native.Mathlib.Decide.{ℕ_discrete}
@@ -15,15 +14,15 @@ use Rattle.area.proofs.MoveLaws.{moved_same}
 use Rattle.std.specs.Prelude.{Ok}
 use Rattle.intmap.specs.Alike.{Alike}
 use Rattle.intmap.specs.Entries.{key_run}
-use Rattle.intmap.specs.Find.{seek}
+use Rattle.intmap.specs.Find.{has_entry, seek_place, seek, spot}
 use Rattle.intmap.specs.Map.{levels, IsMap, HasRoom}
 use Rattle.intmap.specs.Pack.{tag_of, key_of}
 use Rattle.intmap.specs.Runs.{size, sizes, whole}
 use Rattle.intmap.specs.Store.{Opens, Inserts}
 use Rattle.intmap.specs.declared.IntMap.{IntMap}
-use Rattle.intmap.proofs.FindLaws.{seek-pos}
+use Rattle.intmap.specs.declared.Place.{Place}
 use Rattle.intmap.proofs.RunLaws.{size-single}
-use Rattle.intmap.proofs.StoreLaws.{room_map, few_entries, opened_old, cell_done}
+use Rattle.intmap.proofs.StoreLaws.{room_map, few_entries, found_pos, opened_old, cell_done}
 
 module _ (cs ds : List Cell) (q : ℕ) (c : Cell) (e : ds ≡ set cs q c) (fits : q < length cs) (old : tag_of (get_or cs q blank) ≡ 2 → ⊥) (new : tag_of c ≡ 2 → ⊥) where
   here : get_or ds q blank ≡ c
@@ -57,10 +56,14 @@ pub alike_then : {cs ds es : List Cell} → Alike cs ds → Alike ds es → Alik
 alike_then f g = record { long = g.long ∙ f.long; sizes = λ d p. g.sizes d p ∙ f.sizes d p; keys = λ p. g.keys p ∙ f.keys p }
 
 module _ {cs ds : List Cell} (s : Alike cs ds) where
+  alike_place : (d key n b : ℕ) → seek_place ds d key n b ≡ seek_place cs d key n b
+  unfolding seek_place
+  alike_place d key zero b = refl
+  alike_place d key (suc n) b = rw (s.keys b, s.sizes d b, alike_place d key n (b + size cs d b))
+
   pub alike_seek : (d key n b : ℕ) → seek ds d key n b ≡ seek cs d key n b
-  unfolding seek
-  alike_seek d key zero b = refl
-  alike_seek d key (suc n) b = rw (s.keys b, s.sizes d b, alike_seek d key n (b + size cs d b))
+  unfolding seek has_entry
+  alike_seek d key n b = rw (alike_place d key n b, s.keys (seek_place cs d key n b).at)
 
   alike_sizes : (d n b : ℕ) → sizes (size cs d) n b ≡ sizes (size ds d) n b
   alike_sizes d n b = ap (λ f. sizes f n b) (λ i p. sym (s.sizes d p) i)
@@ -80,19 +83,18 @@ module _ {cs ds : List Cell} (s : Alike cs ds) where
 -- ---- the store
 
 module _ (cs ds : List Cell) (limit : ℕ) (m : IntMap) (key p : ℕ) (c : Cell) (has : HasRoom cs limit m) (old : tag_of (get_or cs p blank) ≡ 2 → ⊥) (new : tag_of c ≡ 2 → ⊥) (keyed : key_of c ≡ key)
-    (here : (seek cs levels key m.len m.base).at ≡ p) (present : (seek cs levels key m.len m.base).present ≡ true) (e : ds ≡ set cs p c)
+    (w : Place) (there : Ok w ≡ seek cs levels key m.len m.base) (here : w.at ≡ p) (e : ds ≡ set cs p c)
   where
     one : size cs levels p ≡ 1
     one = sym (size-single cs levels p (get_or cs p blank) refl old)
 
     opens : Opens cs cs limit m (seek cs levels key m.len m.base) 1 (Ok m)
     opens =
-        let w = seek cs levels key m.len m.base in
-        opened_old cs cs limit m w w 1 (Ok m) refl 1 present (sym (ap (size cs levels) here ∙ one))
+        opened_old cs cs limit m _ w 1 (Ok m) 1 there (sym (ap (size cs levels) here ∙ one))
         (record {
           base = refl;
           len = refl;
-          used = omega (arith, seek-pos cs levels key m.len m.base present, few_entries cs m (room_map has));
+          used = omega (arith, found_pos cs m key (room_map has) there, few_entries cs m (room_map has));
           most = has.most;
           cells = sym (moved_same cs (w.at + 1) (m.base + m.used - w.at - 1));
           long = refl;
@@ -100,4 +102,4 @@ module _ (cs ds : List Cell) (limit : ℕ) (m : IntMap) (key p : ℕ) (c : Cell)
 
     pub overwritten : Inserts cs ds limit m (c ∷ []) (Ok m)
     unfolding key_run
-    overwritten = cell_done cs cs limit m c key (Ok m) has new keyed opens ds p m (sym here) refl e
+    overwritten = cell_done cs cs limit m c key (Ok m) has new keyed opens ds p m (sym here ∙ ap (λ s. (spot s).at) there) refl e

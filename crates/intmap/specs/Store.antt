@@ -1,7 +1,7 @@
 -- An entry stored under its key, within a limit of cells, and one taken out; and both by an index, judged. 01, "Walk, refusals in order":
 -- 6 and 7 are for the index, 9 for records nested deeper than 8, 8 for "a store that makes a state of more than 512 cells" (here the limit
 -- is a number that is given), and "a store is judged on index, depth, cells". Assumes nothing.
-use Rattle.std.specs.Prelude.{◌≡◌, List, [], ◌∷◌, ℕ, ◌+◌, ◌-◌, ◌<◌, ◌≤◌, length, leb, false, ℤ, Result, Ok, Err}
+use Rattle.std.specs.Prelude.{◌≡◌, List, [], ◌∷◌, ℕ, ◌+◌, ◌-◌, ◌<◌, ◌≤◌, length, leb, ℤ, Result, Ok, Err}
 use Rattle.refusal.specs.Numbers.{number_of}
 use Rattle.refusal.specs.declared.Refusal.{Refusal}
 use Rattle.refusal.specs.declared.Refusal.TheVariants.{TooManyCells}
@@ -14,11 +14,10 @@ use Rattle.intmap.specs.Pick.{pick}
 use Rattle.intmap.specs.Runs.{size}
 use Rattle.intmap.specs.Entries.{Runs, key_run, total}
 use Rattle.intmap.specs.Swap.{swap}
-use Rattle.intmap.specs.Find.{seek}
+use Rattle.intmap.specs.Find.{place, seek, Sought, spot}
 use Rattle.intmap.specs.Map.{levels, runs_at, IsMap, HasRoom, Frame}
 use Rattle.intmap.specs.Change.{rekey}
 use Rattle.intmap.specs.Signed.{int_of}
-use Rattle.intmap.specs.declared.Found.{Found}
 use Rattle.intmap.specs.declared.IntMap.{IntMap}
 
 -- what a store gives: the map then, or why it is refused
@@ -47,20 +46,22 @@ RoomMade cs ds limit m at old n k (Err e) = NoRoom cs ds limit m old n e
 RoomMade cs ds limit m at old n k (Ok r) = Opened cs ds limit m at old n k r
 
 -- the cells of the entry that a search found, and the entries with one in its place
-abbrev pub old_cells : List Cell → Found → ℕ
-old_cells cs w = pick w.present (size cs levels w.at) 0
+abbrev pub old_cells : List Cell → Sought → ℕ
+old_cells cs (Ok w) = size cs levels w.at
+old_cells cs (Err w) = 0
 
-abbrev pub new_len : ℕ → Found → ℕ
-new_len n w = pick w.present n (n + 1)
+abbrev pub new_len : ℕ → Sought → ℕ
+new_len n (Ok w) = n
+new_len n (Err w) = n + 1
 
 -- a search of the map led there
-pub record IsFound (cs : List Cell) (m : IntMap) (w : Found) : Type 0 where
+pub record IsFound (cs : List Cell) (m : IntMap) (r : Sought) : Type 0 where
   pub key : ℕ
-  pub is : w ≡ seek cs levels key m.len m.base
+  pub is : r ≡ seek cs levels key m.len m.base
 
 -- room for n cells where a search led
-abbrev pub Opens : List Cell → List Cell → ℕ → IntMap → Found → ℕ → Stored → Type 0
-Opens cs ds limit m w n p = RoomMade cs ds limit m w.at (old_cells cs w) n (new_len m.len w) p
+abbrev pub Opens : List Cell → List Cell → ℕ → IntMap → Sought → ℕ → Stored → Type 0
+Opens cs ds limit m r n p = RoomMade cs ds limit m (spot r).at (old_cells cs r) n (new_len m.len r) p
 
 -- ---- an entry stored
 
@@ -93,8 +94,8 @@ pub record Inserts (cs ds : List Cell) (limit : ℕ) (m : IntMap) (run : List Ce
 
 -- a search for the key leads there, and finds none
 pub record NewAt (cs : List Cell) (m : IntMap) (key at : ℕ) : Type 0 where
-  pub here : (seek cs levels key m.len m.base).at ≡ at
-  pub none : (seek cs levels key m.len m.base).present ≡ false
+  pub left : ℕ
+  pub is : Err (place at left) ≡ seek cs levels key m.len m.base
 
 -- a run of n cells above the map's room
 pub record RunAbove (cs : List Cell) (limit : ℕ) (m : IntMap) (from n : ℕ) : Type 0 where

@@ -1,7 +1,7 @@
 // Maps in the area: columns as runs of cells, and entries by key.
 #![tactic(auto)]
 
-ghost use Rattle.std.specs.Prelude.{◌≡◌, ◌+◌, ◌<◌, ◌≤◌, eqb, leb, length, get_or, [], ◌∷◌};
+ghost use Rattle.std.specs.Prelude.{Ok, ◌≡◌, ◌+◌, ◌<◌, ◌≤◌, eqb, leb, length, get_or, [], ◌∷◌};
 ghost use Rattle.area.specs.Cells.{blank, cells};
 ghost use Rattle.intmap.specs.Pack.{Parts, head, tag_of, kind_of, nullable_of, key_of, with_key, with_nullable, class_number, class_key};
 ghost use Rattle.intmap.specs.Runs.{size, sizes, IsColumn, AreColumns, eq_column, eq_columns, Copyable, Copied};
@@ -153,7 +153,7 @@ pub fn count_from(area: &[u8], at: usize, c: Cell, depth: usize) -> usize
     count(area, at, depth)
 }
 
-// Whether the columns at a and b are the same, keys too.
+// Whether the columns at a and b are the same, keys too. By hand, since they are cells of the lent area and no values that could derive it.
 #[cycle(column_eq_record_eq)]
 pub fn column_eq(area: &[u8], a: usize, b: usize, depth: usize) -> bool
     requires { IsColumn (cells area.now) depth a × IsColumn (cells area.now) depth b }
@@ -331,13 +331,11 @@ pub struct IntMap {
     pub used: usize,
 }
 
-// Where an entry's key is or belongs: the place, how many entries stand from there on, and whether the first is the one. No Option: the place is
-// used either way.
+// Where an entry's key is or belongs, and how many entries stand from there on.
 #[derive(Clone, Copy)]
-pub struct Found {
+pub struct Place {
     pub at: usize,
     pub left: u64,
-    pub present: bool,
 }
 
 // Judges a map index, of which 2^63 stands for 0.
@@ -362,8 +360,8 @@ pub fn class_key(class: Class, index: u64) -> u64
     class as u64 * 65536 + 65536 + index
 }
 
-// Looks for a key among the n columns from `at` on, where records nest at most `depth` deep.
-pub fn find_from(area: &[u8], at: usize, n: u64, key: u64, depth: usize) -> Found
+// Looks for a key among the n columns from `at` on, where records nest at most `depth` deep. Where there is none, the place is where it belongs.
+pub fn find_from(area: &[u8], at: usize, n: u64, key: u64, depth: usize) -> Result<Place, Place>
     requires { AreColumns (cells area.now) depth n at }
     ensures { result ≡ seek (cells area.now) depth key n at }
 {
@@ -372,19 +370,15 @@ pub fn find_from(area: &[u8], at: usize, n: u64, key: u64, depth: usize) -> Foun
         let c = area::cell_at(area, p);
         let k = c.head / 16777216;
         if key <= k {
-            return Found {
+            let place = Place {
                 at: p,
                 left: n - passed,
-                present: k == key,
             };
+            return if k == key { Ok(place) } else { Err(place) };
         }
         p += count_from(area, p, c, depth);
     }
-    Found {
-        at: p,
-        left: 0,
-        present: false,
-    }
+    Err(Place { at: p, left: 0 })
 }
 
 impl IntMap {
@@ -400,7 +394,7 @@ impl IntMap {
     }
 
     // Looks for a key among the entries.
-    pub fn find(self, area: &[u8], key: u64) -> Found
+    pub fn find(self, area: &[u8], key: u64) -> Result<Place, Place>
         requires { IsMap (cells area.now) self }
         ensures { result ≡ seek (cells area.now) levels key self.len self.base }
     {
@@ -434,37 +428,36 @@ impl IntMap {
     fn room_at(
         self,
         area: &mut [u8],
-        found: Found,
+        found: Result<Place, Place>,
         n: usize,
         limit: usize,
     ) -> Result<IntMap, Refusal>
         requires { HasRoom (cells area.old) limit self × (n ≤ 1048576) × IsFound (cells area.old) self found }
         ensures { Opens (cells area.old) (cells area.new) limit self found n result }
     {
-        let at = found.at;
-        let there = found.present;
-        if there {
-            let c = area::cell_at(area, at);
-            let old = count_from(area, at, c, LEVELS);
-            return self.make_room(area, at, old, n, self.len, limit);
+        match found {
+            Ok(place) => {
+                let c = area::cell_at(area, place.at);
+                let old = count_from(area, place.at, c, LEVELS);
+                self.make_room(area, place.at, old, n, self.len, limit)
+            }
+            Err(place) => self.make_room(area, place.at, 0, n, self.len + 1, limit),
         }
-        self.make_room(area, at, 0, n, self.len + 1, limit)
     }
 
     // Puts a cell that is no record in the place of the entry that a search for its key found.
     fn replace(
         self,
         area: &mut [u8],
-        found: Found,
+        place: Place,
         c: Cell,
         limit: usize,
     ) -> Result<IntMap, Refusal>
-        requires { HasRoom (cells area.old) limit self × (tag_of c ≡ 2 → ⊥) × (found ≡ seek (cells area.old) levels (key_of c) self.len self.base) }
+        requires { HasRoom (cells area.old) limit self × (tag_of c ≡ 2 → ⊥) × (Ok place ≡ seek (cells area.old) levels (key_of c) self.len self.base) }
         ensures { Inserts (cells area.old) (cells area.new) limit self (c ∷ []) result }
     {
-        let at = found.at;
-        let map = self.room_at(area, found, 1, limit)?;
-        area::put_cell(area, at, c);
+        let map = self.room_at(area, Ok(place), 1, limit)?;
+        area::put_cell(area, place.at, c);
         Ok(map)
     }
 
@@ -496,24 +489,23 @@ impl IntMap {
         requires { HasRoom (cells area.old) limit self × (tag_of c ≡ 2 → ⊥) }
         ensures { Inserts (cells area.old) (cells area.new) limit self (c ∷ []) result }
     {
-        let found = self.find(area, key_of(c));
-        let at = found.at;
-        let there = found.present;
-        if there {
-            if tag_of(area::cell_at(area, at)) == RECORD {
-                return self.replace(area, found, c, limit);
+        match self.find(area, key_of(c)) {
+            Ok(place) => {
+                if tag_of(area::cell_at(area, place.at)) == RECORD {
+                    return self.replace(area, place, c, limit);
+                }
+                area::put_cell(area, place.at, c);
+                Ok(self)
             }
-            area::put_cell(area, at, c);
-            return Ok(self);
+            Err(place) => self.insert_new(area, place.at, c, limit),
         }
-        self.insert_new(area, at, c, limit)
     }
 
     // Puts the run of n cells at `from`, above the map's room, under a key, where a search for it led. The run there keeps its own key.
     pub fn insert_run_at(
         self,
         area: &mut [u8],
-        found: Found,
+        found: Result<Place, Place>,
         key: u64,
         from: usize,
         n: usize,
@@ -523,10 +515,10 @@ impl IntMap {
         ensures { Inserts (cells area.old) (cells area.new) limit self (rekey key (span (cells area.old) from n)) result }
     {
         let c = area::cell_at(area, from);
-        let at = found.at;
         let map = self.room_at(area, found, n, limit)?;
-        area::move_cells(area, from, at, n);
-        area::put_cell(area, at, with_key(c, key));
+        let (Ok(place) | Err(place)) = found;
+        area::move_cells(area, from, place.at, n);
+        area::put_cell(area, place.at, with_key(c, key));
         Ok(map)
     }
 
@@ -577,23 +569,18 @@ impl IntMap {
         requires { IsMap (cells area.old) self }
         ensures { Removes (cells area.old) (cells area.new) self key result }
     {
-        let base = self.base;
-        let len = self.len;
-        let used = self.used;
-        let found = self.find(area, key);
-        let at = found.at;
-        let there = found.present;
-        if there {
-            let c = area::cell_at(area, at);
-            let old = count_from(area, at, c, LEVELS);
-            area::move_cells(area, at + old, at, base + used - at - old);
-            return IntMap {
-                base,
-                len: len - 1,
-                used: used - old,
-            };
+        let Ok(place) = self.find(area, key) else {
+            return self;
+        };
+        let at = place.at;
+        let c = area::cell_at(area, at);
+        let old = count_from(area, at, c, LEVELS);
+        area::move_cells(area, at + old, at, self.base + self.used - at - old);
+        IntMap {
+            base: self.base,
+            len: self.len - 1,
+            used: self.used - old,
         }
-        self
     }
 
     // Stores a cell that is no record under index i of a class.
@@ -663,11 +650,10 @@ impl IntMap {
         ensures { Gets (cells area.now) self (class_number class) i result }
     {
         let k = judge_index(i)?;
-        let found = self.find(area, class_key(class, k));
-        if found.present {
-            return Ok(Some(found.at));
+        match self.find(area, class_key(class, k)) {
+            Ok(place) => Ok(Some(place.at)),
+            Err(_) => Ok(None),
         }
-        Ok(None)
     }
 
     // Copies the entries to another place, which may overlap.

@@ -10,6 +10,7 @@ use Rattle.model.specs.Walk.{Tried, refused, done}
 use Rattle.model.specs.Row.{Row as Listed}
 use Rattle.model.specs.State.{RegDataType, MemoryState as Defined, to_not_null}
 use Rattle.model.specs.Access.{◌>>=◌, go_to, next, read_register}
+use Rattle.model.specs.Operation.{JumpOperation}
 use Rattle.model.specs.Offer.{offers}
 use Rattle.model.specs.JumpArms.{known_int, may_be_null, has_kind, to_default, if_arm}
 use Rattle.area.specs.declared.Cell.{Cell}
@@ -20,7 +21,7 @@ use Rattle.rows.specs.Judged.{Judged}
 use Rattle.rows.specs.declared.row.Row.{Row}
 use Rattle.state.specs.Leads.{Current, HoldsMap, operands, Leads}
 use Rattle.state.specs.Reads.{IsInt}
-use Rattle.state.specs.Steps.{HoldsState, TellsStep, LeavesStep, Step}
+use Rattle.state.specs.Steps.{HoldsState, TellsStep, LeavesStep, Step, JumpArm}
 use Rattle.state.specs.Stores.{cells_in}
 use Rattle.state.specs.declared.MemoryState.{MemoryState}
 use Rattle.state.specs.declared.Ways.{Ways}
@@ -49,6 +50,10 @@ at w a = record { row = w; map = a }
 -- what an arm asks for, of a store and the row that its state is on
 abbrev pub ReadyStore : Store → ℕ → Type 0
 ReadyStore store row = Ready store.limit (cells_in store) (at row store.map)
+
+-- an arm that neither reads nor writes the area: what it answers is right wherever the state is held
+abbrev pub StateArm : MemoryState → Row → JumpOperation → Step → Type 0
+StateArm s x o r = (limit : ℕ) (cs : List Cell) → Ready limit cs s → JumpArm limit cs cs s x o r
 
 -- the state goes on at a row; it is a branch there; and both
 abbrev pub on_at : ℕ → IntMap → Ways

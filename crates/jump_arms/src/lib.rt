@@ -2,20 +2,23 @@
 #![tactic(auto)]
 
 ghost use Rattle.std.specs.Prelude.{◌≡◌, not, ◌<◌, get_or, None, Some};
+ghost use Rattle.std.specs.Fn.{FnOnceTakesAtMut, FnOnceReturnsAtMut};
 ghost use Rattle.model.specs.Operation.{op_goto, op_gosub, op_branch, op_must_be_int, op_is_null, op_not_null, op_if, op_init_coroutine, op_return, op_halt};
 ghost use Rattle.model.specs.Equality.{is_zero_int};
 ghost use Rattle.model.specs.Access.{remove_register, store_register, update_register};
 ghost use Rattle.model.specs.JumpArms.{store_if, to_default};
 ghost use Rattle.model.specs.State.{Column, Single, to_not_null};
+ghost use Rattle.area.specs.Cells.{cells};
 ghost use Rattle.intmap.specs.Map.{HasRoom};
 ghost use Rattle.intmap.specs.Signed.{int_of};
 ghost use Rattle.rows.specs.Parts.{Operand};
-ghost use Rattle.state.specs.Leads.{Leads};
+ghost use Rattle.state.specs.Leads.{Held, Leads};
 ghost use Rattle.state.specs.Steps.{JumpArm};
 ghost use Rattle.state.specs.Stores.{cells_in, IsHeld, IsCurrent, SameStore, Changes};
-ghost use Rattle.jump_arms.specs.Arms.{ReadyStore, InitTo, RowAfter, at, on_at, branch_at, both_at, Knows, Puts, BothArm, IfArm, Asks, changed};
+ghost use Rattle.jump_arms.specs.Both.{HeldWithRoom, StaysWithin, BothWays};
+ghost use Rattle.jump_arms.specs.Arms.{ReadyStore, StateArm, InitTo, RowAfter, at, on_at, branch_at, both_at, Knows, Puts, BothArm, IfArm, Asks, changed};
 
-use area::Cell;
+use intmap::IntMap;
 use refusal::Refusal;
 use rows::Row;
 use state::{MemoryState, Register, Store, Ways};
@@ -25,51 +28,83 @@ use type_info::DataType;
 const ONE: u64 = 9223372036854775809;
 
 // Goto
-pub fn goto(store: &Store, row: u64, x: Row) -> Result<Ways, Refusal>
-    requires { ReadyStore store.now row }
-    ensures { JumpArm store.now.limit (cells_in store.now) (cells_in store.now) (at row store.now.map) x op_goto result }
+pub fn goto(s: MemoryState, x: Row) -> Result<Ways, Refusal>
+    ensures { StateArm s x op_goto result }
 {
-    Ok(go_on(store, x.p2))
+    Ok(goes_on(MemoryState { row: x.p2, ..s }))
 }
 
 // Halt
-pub fn halt(store: &Store, row: u64, x: Row) -> Result<Ways, Refusal>
-    requires { ReadyStore store.now row }
-    ensures { JumpArm store.now.limit (cells_in store.now) (cells_in store.now) (at row store.now.map) x op_halt result }
+pub fn halt(s: MemoryState, x: Row) -> Result<Ways, Refusal>
+    ensures { StateArm s x op_halt result }
 {
-    Ok(Ways {
-        branch: None,
-        stays: None,
-    })
+    Ok(Ways::default())
 }
 
 // The operations that may go to P2 or to the next row
-pub fn branch(store: &Store, row: u64, x: Row) -> Result<Ways, Refusal>
-    requires { ReadyStore store.now row }
-    ensures { JumpArm store.now.limit (cells_in store.now) (cells_in store.now) (at row store.now.map) x op_branch result }
+pub fn branch(s: MemoryState, x: Row) -> Result<Ways, Refusal>
+    requires { s.row < 9223372036854777856 }
+    ensures { StateArm s x op_branch result }
 {
-    Ok(branch_and_go(store.at(x.p2), store, row + 1))
+    Ok(both(
+        MemoryState { row: x.p2, ..s },
+        MemoryState {
+            row: s.row + 1,
+            ..s
+        },
+    ))
 }
 
 // MustBeInt
-pub fn must_be_int(store: &Store, row: u64, x: Row) -> Result<Ways, Refusal>
-    requires { ReadyStore store.now row }
-    ensures { JumpArm store.now.limit (cells_in store.now) (cells_in store.now) (at row store.now.map) x op_must_be_int result }
+pub fn must_be_int(s: MemoryState, x: Row) -> Result<Ways, Refusal>
+    requires { s.row < 9223372036854777856 }
+    ensures { StateArm s x op_must_be_int result }
 {
+    let next = MemoryState {
+        row: s.row + 1,
+        ..s
+    };
     if x.p2 == intmap::ZERO {
-        return Ok(go_on(store, row + 1));
+        return Ok(goes_on(next));
     }
-    Ok(branch_and_go(store.at(x.p2), store, row + 1))
+    Ok(both(MemoryState { row: x.p2, ..s }, next))
+}
+
+// A state goes on, and there is no branch. This and the next two say of values what `go_on`, `branch_and_go` and `branch_at` say of a store's map.
+pub fn goes_on(stays: MemoryState) -> Ways
+    ensures { result ≡ on_at stays.row stays.map }
+{
+    Ways {
+        branch: None,
+        stays: Some(stays),
+    }
+}
+
+// A branch, and a state that goes on.
+pub fn both(branch: MemoryState, stays: MemoryState) -> Ways
+    ensures { result ≡ both_at branch stays.row stays.map }
+{
+    Ways {
+        branch: Some(branch),
+        ..goes_on(stays)
+    }
+}
+
+// A branch, and nothing goes on.
+pub fn branches(branch: MemoryState) -> Ways
+    ensures { result ≡ branch_at branch.row branch.map }
+{
+    Ways {
+        branch: Some(branch),
+        stays: None,
+    }
 }
 
 // The state goes on at a row.
 pub fn go_on(store: &Store, row: u64) -> Ways
     ensures { result ≡ on_at row store.now.map }
 {
-    Ways {
-        branch: None,
-        stays: Some(store.at(row)),
-    }
+    goes_on(store.at(row))
 }
 
 // Gosub
@@ -102,12 +137,13 @@ pub fn init_coroutine(store: &mut Store, row: u64, x: Row) -> Result<Ways, Refus
     Ok(go_on(store, to))
 }
 
-// The number that register i is known to hold, if it is.
-pub fn known_int(store: &Store, i: u64) -> Result<Option<u64>, Refusal>
-    requires { IsHeld store.now }
-    ensures { Knows (cells_in store.now) store.now.map i result }
+// The number that register i is known to hold, if it is. This stands beside `known_int` for who is lent the area for reading alone, and so has no
+// `Store`.
+pub fn known_int_in(map: IntMap, area: &[u8], i: u64) -> Result<Option<u64>, Refusal>
+    requires { Held (cells area.now) map }
+    ensures { Knows (cells area.now) map i result }
 {
-    match store.read_register(i)? {
+    match state::read_register(map, area, i)? {
         None => Ok(None),
         Some(Register::Single(_, _)) => Ok(None),
         Some(Register::Record(_)) => Ok(None),
@@ -115,14 +151,19 @@ pub fn known_int(store: &Store, i: u64) -> Result<Option<u64>, Refusal>
     }
 }
 
+// The same of a store.
+pub fn known_int(store: &Store, i: u64) -> Result<Option<u64>, Refusal>
+    requires { IsHeld store.now }
+    ensures { Knows (cells_in store.now) store.now.map i result }
+{
+    known_int_in(store.map, store.area, i)
+}
+
 // The row after one that a register told. No known number is the last word, which stays as it is.
 pub fn row_after(w: u64) -> u64
     ensures { RowAfter w result }
 {
-    if w < 18446744073709551615 {
-        return w + 1;
-    }
-    w
+    w.saturating_add(1)
 }
 
 // Removes register i.
@@ -144,10 +185,7 @@ pub fn return_(store: &mut Store, row: u64, x: Row) -> Result<Ways, Refusal>
         if x.p3 == ONE {
             return Ok(go_on(store, row + 1));
         }
-        return Ok(Ways {
-            branch: None,
-            stays: None,
-        });
+        return Ok(Ways::default());
     };
     let after = row_after(w);
     remove_register(store, x.p1)?;
@@ -158,20 +196,35 @@ pub fn return_(store: &mut Store, row: u64, x: Row) -> Result<Ways, Refusal>
 pub fn branch_at(store: &Store, row: u64) -> Ways
     ensures { result ≡ branch_at row store.now.map }
 {
-    Ways {
-        branch: Some(store.at(row)),
-        stays: None,
-    }
+    branches(store.at(row))
 }
 
 // Where there is a branch: the state goes on at a row.
 pub fn branch_and_go(branch: MemoryState, store: &Store, row: u64) -> Ways
     ensures { result ≡ both_at branch row store.now.map }
 {
-    Ways {
-        branch: Some(branch),
-        stays: Some(store.at(row)),
-    }
+    both(branch, store.at(row))
+}
+
+// Both ways: a branch at row p2 after the first change, and the next row after the second. The branch is another state, so it is built in the room
+// behind the map, and its change is judged first.
+pub fn both_ways<
+    F: FnOnce(&mut Store) -> Result<(), Refusal>,
+    G: FnOnce(&mut Store) -> Result<(), Refusal>,
+>(store: &mut Store, row: u64, p2: u64, first: F, second: G) -> Result<Ways, Refusal>
+    requires ready { ReadyStore store.old row }
+    requires first { (t : _) → HeldWithRoom t → FnOnceTakesAtMut F.FnOnce first t }
+    requires within { (t : _) (q : _) (u : _) → HeldWithRoom t → FnOnceReturnsAtMut F.FnOnce first t q u → StaysWithin t u }
+    requires second { (t : _) → HeldWithRoom t → FnOnceTakesAtMut G.FnOnce second t }
+    ensures { BothWays (λ t q u. FnOnceReturnsAtMut F.FnOnce first t q u) (λ t q u. FnOnceReturnsAtMut G.FnOnce second t q u) store.old store.new row p2 result }
+{
+    let map = store.map;
+    store.map = map.copy_to(store.area, map.base + store.limit);
+    first(store)?;
+    let branch = store.at(p2);
+    store.map = map;
+    second(store)?;
+    Ok(branch_and_go(branch, store, row + 1))
 }
 
 // Stores a number in register P1, where P3 is 0.
@@ -180,14 +233,7 @@ fn store_if(store: &mut Store, x: Row, value: u64) -> Result<(), Refusal>
     ensures { Changes (λ limit cs ds a r. Puts limit cs ds a r (store_if (is_zero_int (int_of x.p3)) limit (int_of x.p1) (int_of value))) store.old store.new result }
 {
     if x.p3 == intmap::ZERO {
-        return store.store_plain(
-            intmap::Class::Registers,
-            x.p1,
-            Cell {
-                head: intmap::INT,
-                payload: value,
-            },
-        );
+        return store.store_plain(intmap::Class::Registers, x.p1, state::int(value));
     }
     Ok(())
 }
@@ -205,20 +251,14 @@ fn if_known(store: &mut Store, row: u64, x: Row, w: u64) -> Result<Ways, Refusal
     Ok(branch_at(store, x.p2))
 }
 
-// If, where no number is known: both ways. The branch has another register, so it is built in the room behind the map, and its store is judged
-// first.
+// If, where no number is known: both ways.
 fn if_both(store: &mut Store, row: u64, x: Row) -> Result<Ways, Refusal>
     requires { ReadyStore store.old row }
     ensures { SameStore store.old store.new × IfArm store.old.limit (cells_in store.old) (cells_in store.new) (at row store.old.map) x None result }
 {
-    let map = store.map;
-    let limit = store.limit;
-    store.map = map.copy_to(store.area, map.base + limit);
-    store_if(store, x, ONE)?;
-    let branch = store.at(x.p2);
-    store.map = map;
-    store_if(store, x, intmap::ZERO)?;
-    Ok(branch_and_go(branch, store, row + 1))
+    let branch = |s: &mut Store| store_if(s, x, ONE);
+    let stays = |s: &mut Store| store_if(s, x, intmap::ZERO);
+    both_ways(store, row, x.p2, branch, stays)
 }
 
 // If
@@ -312,19 +352,14 @@ fn put_changed(store: &mut Store, i: u64, null: bool) -> Result<(), Refusal>
     put_never(store, i)
 }
 
-// IsNull and NotNull where both ways are taken, the branch behind the map. `null` says whether the register is null at the branch.
+// IsNull and NotNull where both ways are taken. `null` says whether the register is null at the branch.
 fn change_both(store: &mut Store, row: u64, x: Row, null: bool) -> Result<Ways, Refusal>
     requires { ReadyStore store.old row }
     ensures { SameStore store.old store.new × BothArm store.old.limit (cells_in store.old) (cells_in store.new) (at row store.old.map) x (update_register (int_of x.p1) (changed null)) (update_register (int_of x.p1) (changed (not null))) result }
 {
-    let map = store.map;
-    let limit = store.limit;
-    store.map = map.copy_to(store.area, map.base + limit);
-    put_changed(store, x.p1, null)?;
-    let branch = store.at(x.p2);
-    store.map = map;
-    put_changed(store, x.p1, !null)?;
-    Ok(branch_and_go(branch, store, row + 1))
+    let branch = |s: &mut Store| put_changed(s, x.p1, null);
+    let stays = |s: &mut Store| put_changed(s, x.p1, !null);
+    both_ways(store, row, x.p2, branch, stays)
 }
 
 // IsNull
@@ -332,10 +367,7 @@ pub fn is_null(store: &mut Store, row: u64, x: Row) -> Result<Ways, Refusal>
     requires { ReadyStore store.old row }
     ensures { SameStore store.old store.new × JumpArm store.old.limit (cells_in store.old) (cells_in store.new) (at row store.old.map) x op_is_null result }
 {
-    let ends = Ways {
-        branch: None,
-        stays: None,
-    };
+    let ends = Ways::default();
     let asked = ask(store, x.p1)?;
     if asked.null {
         return change_both(store, row, x, true);
@@ -360,8 +392,5 @@ pub fn not_null(store: &mut Store, row: u64, x: Row) -> Result<Ways, Refusal>
         put_never(store, x.p1)?;
         return Ok(branch_at(store, x.p2));
     }
-    Ok(Ways {
-        branch: None,
-        stays: None,
-    })
+    Ok(Ways::default())
 }

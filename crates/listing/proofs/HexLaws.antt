@@ -1,14 +1,16 @@
 -- Hexadecimal bytes, pair by pair. Assumes nothing.
-use mathlib.Core.Path.{◌≡◌, refl, sym, ap, ◌∙◌}
+use mathlib.Core.Path.{◌≡◌, refl, sym, ap, ap₂, ◌∙◌}
 use mathlib.Core.Bool.{Bool}
-use Rattle.std.specs.Prelude.{Option, None, Some}
+use Rattle.std.specs.Prelude.{Option, None, Some, ◌==◌}
+use Rattle.std.specs.Bool.{then_some}
+use Rattle.std.specs.Simd.{first_chunks}
 use mathlib.Core.List.{List, [], ◌∷◌, ◌++◌, append-nil, append_assoc}
-use Prim.Native.Nat.{ℕ, suc, ◌+◌, ◌*◌, ◌-◌, ◌≤◌, ◌<◌}
+use Prim.Native.Nat.{ℕ, zero, suc, ◌+◌, ◌*◌, ◌-◌, ◌/◌, ◌%◌, ◌≤◌, ◌<◌}
 use native.Mathlib.Omega.{arith}
 use native.Mathlib.Numerals.{add-one}
 use lib.Dec.{leb}
-use lib.ListN.{length, get_or, set, take, drop}
-use lib.Seq.{take-suc-set}
+use lib.ListN.{length, get_or, set, take, drop, length-drop}
+use lib.Seq.{take-suc-set, drop-drop}
 use borrow.Author.Tests.{le-leb, lt-leb}
 use Rattle.type_info.specs.Ascii.{within}
 use Rattle.model.specs.Reader.{◌then◌, only_if, read_if}
@@ -60,16 +62,12 @@ hex_start t bytes = same (read_hex t)
     same None = refl
     same (Some bs) = refl
 
-pub hex_end : (rest bytes : List ℕ) (n : ℕ) → length rest ≡ 0 → Some (take n bytes) ≡ hex_from rest bytes n
+-- no pair is left
+hex_end : (rest bytes : List ℕ) (n : ℕ) → length rest < 2 → then_some (length rest == 0) (take n bytes) ≡ hex_from rest bytes n
 unfolding hex_from read_hex
 hex_end [] bytes n e = ap Some (sym (append-nil (take n bytes)))
-hex_end (c ∷ rest) bytes n e = absurd (omega (arith, e))
-
-pub hex_odd : (rest bytes : List ℕ) (n : ℕ) → length rest ≡ 1 → None ≡ hex_from rest bytes n
-unfolding hex_from read_hex
-hex_odd [] bytes n e = absurd (omega (arith, e))
-hex_odd (c ∷ []) bytes n e = refl
-hex_odd (c ∷ d ∷ rest) bytes n e = absurd (omega (arith, e))
+hex_end (c ∷ []) bytes n e = refl
+hex_end (c ∷ d ∷ rest) bytes n e = absurd (omega (arith, e))
 
 pair : (c d : ℕ) (t : List ℕ) {x y : Option ℕ} → x ≡ hex_value c → y ≡ hex_value d → read_hex (c ∷ d ∷ t) ≡ (x then λ u. y then λ v. read_hex t then λ bs. Some ((u * 16 + v) ∷ bs))
 unfolding read_hex
@@ -88,19 +86,54 @@ module _ (rest more bytes : List ℕ) (n : ℕ) (h : 2 ≤ length rest) (is : mo
   unfolding hex_from
   from_pair e f = ap (λ o. o then λ bs. Some (take n bytes ++ bs)) (ap read_hex two_left ∙ pair (get_or rest 0 0) (get_or rest 1 0) more e f)
 
-  pub hex_first : None ≡ hex_value (get_or rest 0 0) → None ≡ hex_from rest bytes n
+  hex_first : None ≡ hex_value (get_or rest 0 0) → None ≡ hex_from rest bytes n
   hex_first e = sym (from_pair e refl)
 
-  pub hex_second : {x : ℕ} → Some x ≡ hex_value (get_or rest 0 0) → None ≡ hex_value (get_or rest 1 0) → None ≡ hex_from rest bytes n
+  hex_second : {x : ℕ} → Some x ≡ hex_value (get_or rest 0 0) → None ≡ hex_value (get_or rest 1 0) → None ≡ hex_from rest bytes n
   hex_second e f = sym (from_pair e f)
 
-  pub hex_on : {x y : ℕ} → n < length bytes → Some x ≡ hex_value (get_or rest 0 0) → Some y ≡ hex_value (get_or rest 1 0) → hex_from more (set bytes n (x * 16 + y)) (n + 1) ≡ hex_from rest bytes n
+  hex_on : {x y : ℕ} → n < length bytes → Some x ≡ hex_value (get_or rest 0 0) → Some y ≡ hex_value (get_or rest 1 0) → hex_from more (set bytes n (x * 16 + y)) (n + 1) ≡ hex_from rest bytes n
   unfolding hex_from
   hex_on {x} {y} l e f =
       let b = x * 16 + y in
       let longer : take (n + 1) (set bytes n b) ≡ take n bytes ++ (b ∷ []) = rw (add-one n) (take-suc-set bytes n b l) in
       then_same (read_hex more) (λ bs. ap (λ p. Some (p ++ bs)) longer ∙ ap Some (append_assoc (take n bytes) (b ∷ []) bs))
       ∙ sym (from_pair e f ∙ then_then (read_hex more) _ _)
+
+-- the pairs of a text, which are its parts of two bytes
+part_at : (k n : ℕ) (t d : List ℕ) → n < k → get_or (first_chunks 2 k t) n d ≡ take 2 (drop (n + n) t)
+part_at zero n t d lt = absurd (omega arith)
+part_at (suc k) zero t d lt = refl
+part_at (suc k) (suc n) t d lt = part_at k n (drop 2 t) d (omega arith) ∙ ap (take 2) (drop-drop (n + n) 2 t ∙ ap (λ m. drop m t) (omega arith))
+
+two_of : (t : List ℕ) → (get_or (take 2 t) 0 0 ≡ get_or t 0 0) × (get_or (take 2 t) 1 0 ≡ get_or t 1 0)
+two_of [] = (refl, refl)
+two_of (c ∷ []) = (refl, refl)
+two_of (c ∷ d ∷ t) = (refl, refl)
+
+module _ (t : List ℕ) (ps : List (List ℕ)) (are : ps ≡ first_chunks 2 (length t / 2) t) (n : ℕ) (lt : n < length t / 2) (d bytes : List ℕ) where
+  digits_at : (get_or (get_or ps n d) 0 0 ≡ get_or (drop (n + n) t) 0 0) × (get_or (get_or ps n d) 1 0 ≡ get_or (drop (n + n) t) 1 0)
+  digits_at = let e = ap (λ l. get_or l n d) are ∙ part_at (length t / 2) n t d lt in let two = two_of (drop (n + n) t) in
+      (ap (λ p. get_or p 0 0) e ∙ two.0, ap (λ p. get_or p 1 0) e ∙ two.1)
+
+  left : 2 ≤ length (drop (n + n) t)
+  left = omega (arith, length-drop (n + n) t)
+
+  pub pair_first : None ≡ hex_value (get_or (get_or ps n d) 0 0) → None ≡ hex_from (drop (n + n) t) bytes n
+  pair_first e = hex_first (drop (n + n) t) _ bytes n left refl (e ∙ ap hex_value digits_at.0)
+
+  pub pair_second : {x : ℕ} → Some x ≡ hex_value (get_or (get_or ps n d) 0 0) → None ≡ hex_value (get_or (get_or ps n d) 1 0) → None ≡ hex_from (drop (n + n) t) bytes n
+  pair_second e f = hex_second (drop (n + n) t) _ bytes n left refl (e ∙ ap hex_value digits_at.0) (f ∙ ap hex_value digits_at.1)
+
+  pub pair_on : {x y : ℕ} → n < length bytes → Some x ≡ hex_value (get_or (get_or ps n d) 0 0) → Some y ≡ hex_value (get_or (get_or ps n d) 1 0) → hex_from (drop (n + 1 + (n + 1)) t) (set bytes n (x * 16 + y)) (n + 1) ≡ hex_from (drop (n + n) t) bytes n
+  pair_on l e f =
+      let next : drop (n + 1 + (n + 1)) t ≡ drop 2 (drop (n + n) t) = ap (λ m. drop m t) (omega arith) ∙ sym (drop-drop 2 (n + n) t) in
+      hex_on (drop (n + n) t) _ bytes n left next l (e ∙ ap hex_value digits_at.0) (f ∙ ap hex_value digits_at.1)
+
+pub pairs_end : (t odd bytes : List ℕ) (n k : ℕ) → n ≡ length t / 2 → k ≡ length t / 2 → length odd ≡ length t % 2 → then_some (length odd == 0) (take k bytes) ≡ hex_from (drop (n + n) t) bytes n
+pairs_end t odd bytes n k e f g =
+    let same : length odd ≡ length (drop (n + n) t) = omega (arith, length-drop (n + n) t) in
+    ap₂ (λ a b. then_some (a == 0) (take b bytes)) same (f ∙ sym e) ∙ hex_end (drop (n + n) t) bytes n (omega (arith, length-drop (n + n) t))
 
 -- two digits a byte
 pub hex_length : (t bs : List ℕ) → read_hex t ≡ Some bs → length bs + length bs ≡ length t

@@ -3,13 +3,14 @@ use mathlib.Core.Path.{◌≡◌, refl, sym, ap, ◌∙◌}
 use mathlib.Core.Bool.{Bool, true, false, ◌&&◌, ◌||◌}
 use Rattle.std.specs.Prelude.{Option, None, Some}
 use mathlib.Core.List.{List, [], ◌∷◌}
+use Rattle.std.specs.Bool.{then_some}
 use Rattle.std.specs.List.{list_all}
 use Rattle.std.specs.Char.{is_ascii_alphanumeric}
 use Prim.Native.Nat.{ℕ, ◌≤◌, ◌<◌}
 use native.Mathlib.Omega.{arith}
 use lib.Dec.{leb, eqb}
 use lib.ListN.{length}
-use borrow.Author.Tests.{leb-false, eq-eqb, ne_eqb}
+use borrow.Author.Tests.{leb-false, ne_eqb}
 use Rattle.type_info.specs.Ascii.{within}
 use Rattle.type_info.specs.All.{all_of}
 use Rattle.model.specs.Reader.{◌then◌, only_if, read_if}
@@ -18,6 +19,7 @@ use Rattle.model.specs.ListingText.{is_alnum, is_operation}
 use Rattle.model.proofs.TestLaws.{cases, within_above}
 use Rattle.model.proofs.ReaderLaws.{never, some_same}
 use Rattle.text.proofs.NumberLaws.{within_below, within_both}
+use Rattle.text.proofs.ReadLaws.{some_if}
 
 -- an item's own number: one that is at most k, and is k
 module _ (k : ℕ) (t : List ℕ) where
@@ -37,11 +39,8 @@ module _ (k : ℕ) (t : List ℕ) where
       go None h = never (sym h)
       go (Some m) h = cases (leb m k) (λ e. ap (λ x. only_if (eqb x k) (Some (tt {0}))) (some_same (h ∙ ap (λ b. only_if b (Some m)) e))) (λ e. never (sym (h ∙ ap (λ b. only_if b (Some m)) e)))
 
-  pub index_other : {n : ℕ} → Some n ≡ read_up_to k t → (n ≡ k → ⊥) → None ≡ read_index k t
-  index_other {n} h d = ap (λ b. only_if b (Some (tt {0}))) (sym (ne_eqb n k d)) ∙ index_as h
-
-  pub index_is : {n : ℕ} → Some n ≡ read_up_to k t → n ≡ k → Some (tt {0}) ≡ read_index k t
-  index_is {n} h d = ap (λ b. only_if b (Some (tt {0}))) (sym (eq-eqb n k d)) ∙ index_as h
+  pub index_tested : {n : ℕ} → Some n ≡ read_up_to k t → then_some (eqb n k) (tt {0}) ≡ read_index k t
+  index_tested {n} h = some_if (eqb n k) tt ∙ index_as h
 
 -- a letter or a digit
 or_three : (x y z : Bool) → (x || y) || z ≡ x || (y || z)

@@ -23,7 +23,7 @@ fn address(reader: &mut Reader, k: usize) -> Option<()>
     ensures { Reads (take_field (ascii "addr=") (read_index k)) reader.old.rest.now reader.new.rest.now result }
 {
     let n = text::natural(reader.value(b"addr=")?, k as u64)?;
-    if n == k as u64 { Some(()) } else { None }
+    (n == k as u64).then_some(())
 }
 
 // Whether t has only ASCII letters and digits.
@@ -47,8 +47,7 @@ fn is_operation(t: &[u8]) -> bool
 fn operation<'a>(reader: &mut Reader<'a>) -> Option<&'a [u8]>
     ensures { Reads (take_field (ascii "op=") read_operation) reader.old.rest.now reader.new.rest.now (option_copied result) }
 {
-    let t = reader.value(b"op=")?;
-    if is_operation(t) { Some(t) } else { None }
+    reader.value(b"op=").filter(|t| is_operation(t))
 }
 
 // The signed number that t is, as a word.
@@ -71,7 +70,7 @@ fn operand(reader: &mut Reader, key: &[u8]) -> Option<u64>
     signed(reader.value(key)?)
 }
 
-// The value of a hexadecimal digit in lower case.
+// The value of a hexadecimal digit in lower case: `to_digit` takes capitals too.
 fn hex_value(b: u8) -> Option<u8>
     ensures { result ≡ hex_value b }
 {
@@ -87,19 +86,11 @@ fn decode<'b>(t: &[u8], bytes: &'b mut [u8]) -> Option<&'b [u8]>
     requires { length t.now ≤ length bytes.old + length bytes.old }
     ensures { option_copied result ≡ read_hex t.now }
 {
-    // Pair by pair: a chain over `chunks_exact` and `iter_mut` would stop at a bad digit by a fold, which is no plainer.
-    let mut rest = t;
-    let mut n: usize = 0;
-    while let [high, low, more @ ..] = rest {
+    let (pairs, odd) = t.as_chunks::<2>();
+    for (n, [high, low]) in pairs.iter().enumerate() {
         bytes[n] = hex_value(*high)? * 16 + hex_value(*low)?;
-        n += 1;
-        rest = more;
     }
-    if rest.is_empty() {
-        Some(&bytes[..n])
-    } else {
-        None
-    }
+    odd.is_empty().then_some(&bytes[..pairs.len()])
 }
 
 // The row's P4, decoded.
@@ -149,9 +140,9 @@ pub fn read_listing(
     requires { Room area.old from room }
     ensures { Loaded listing.now area.old area.new from room result }
 {
-    // A row begins where the one before it ended, so no iterator gives them.
     let mut reader = Reader { rest: listing };
     let mut k: usize = 0;
+    // A `while`: `from_fn` over the reader has no end that is known, so that a `for` over it would need a `take` of the text's length.
     while !reader.rest.is_empty() {
         let row = read_row(&mut reader, k).ok_or(Refusal::IllFormedListing)?;
         put_where(area, from, room, k, row);

@@ -4,7 +4,7 @@ use mathlib.Core.Bool.{Bool, true, false}
 use mathlib.Core.List.{List, [], ◌∷◌}
 use Prim.Native.Nat.{ℕ, zero, suc, ◌+◌, ◌-◌, ◌<◌, ◌≤◌}
 use native.Mathlib.Omega.{arith}
-use lib.Dec.{ltb, eqb}
+use lib.Dec.{ltb}
 use lib.ListN.{length, get_or, set, length-set}
 use lib.Seq.{get_or-set_same, get_or-set_other}
 use borrow.Author.Tests.{lt-ltb, le-ltb, ltb-true, ltb-false}
@@ -12,12 +12,13 @@ use Rattle.area.specs.Cells.{blank}
 use Rattle.area.specs.declared.Cell.{Cell}
 use Rattle.intmap.specs.Pack.{key_of}
 use Rattle.intmap.specs.Pick.{pick}
-use Rattle.intmap.specs.Runs.{size, sizes, AreColumns}
+use Rattle.intmap.specs.Runs.{size, AreColumns}
 use Rattle.intmap.specs.Entries.{Runs, span, entries, key_run}
-use Rattle.intmap.specs.Find.{place, seek}
+use Rattle.intmap.specs.Find.{place, seek_place}
 use Rattle.intmap.specs.Map.{levels, IsMap}
 use Rattle.intmap.specs.declared.IntMap.{IntMap}
-use Rattle.intmap.specs.declared.Found.{Found}
+use Rattle.intmap.specs.declared.Place.{Place}
+use Rattle.intmap.proofs.FindLaws.{seek_ends}
 use Rattle.intmap.proofs.RunLaws.{size-pos}
 use Rattle.intmap.proofs.EntryLaws.{key-span}
 use Rattle.merge.specs.Entries.{cell_byte, merge_byte, merge_cell, head_run, merge_runs}
@@ -119,16 +120,16 @@ module _ (cs : List Cell) (d i n : ℕ) where
 -- ---- the search: what comes before the first column's key is not merged
 
 module _ (cs : List Cell) (d i : ℕ) where
-  pub merged_sought : (n : ℕ) (bytes : List ℕ) (k p : ℕ) → merge_runs i n (entries cs d (seek cs d i k p).left (seek cs d i k p).at) bytes ≡ merge_runs i n (entries cs d k p) bytes
-  unfolding seek
+  pub merged_sought : (n : ℕ) (bytes : List ℕ) (k p : ℕ) → merge_runs i n (entries cs d (seek_place cs d i k p).left (seek_place cs d i k p).at) bytes ≡ merge_runs i n (entries cs d k p) bytes
+  unfolding seek_place
   merged_sought n bytes zero p = refl
   merged_sought n bytes (suc k) p = go (ltb (key_of (get_or cs p blank)) i) refl (merged_sought n bytes k (p + size cs d p))
     where
       less : suc k - 1 ≡ k
       less = omega arith
 
-      go : (b : Bool) → ltb (key_of (get_or cs p blank)) i ≡ b → merge_runs i n (entries cs d (seek cs d i k (p + size cs d p)).left (seek cs d i k (p + size cs d p)).at) bytes ≡ merge_runs i n (entries cs d k (p + size cs d p)) bytes
-          → merge_runs i n (entries cs d (pick b (seek cs d i k (p + size cs d p)) (place p (suc k) (eqb (key_of (get_or cs p blank)) i))).left (pick b (seek cs d i k (p + size cs d p)) (place p (suc k) (eqb (key_of (get_or cs p blank)) i))).at) bytes ≡ merge_runs i n (entries cs d (suc k) p) bytes
+      go : (b : Bool) → ltb (key_of (get_or cs p blank)) i ≡ b → merge_runs i n (entries cs d (seek_place cs d i k (p + size cs d p)).left (seek_place cs d i k (p + size cs d p)).at) bytes ≡ merge_runs i n (entries cs d k (p + size cs d p)) bytes
+          → merge_runs i n (entries cs d (pick b (seek_place cs d i k (p + size cs d p)) (place p (suc k))).left (pick b (seek_place cs d i k (p + size cs d p)) (place p (suc k))).at) bytes ≡ merge_runs i n (entries cs d (suc k) p) bytes
       go true e ih =
           let low : key_of (get_or cs p blank) < i = ltb-true (key_of (get_or cs p blank)) i e in
           ih
@@ -137,16 +138,6 @@ module _ (cs : List Cell) (d i : ℕ) where
           ∙ merged_turn cs d i n p (get_or cs p blank) refl (suc k) (size cs d p) bytes (omega arith) (omega arith) refl
       go false e ih = refl
 
-  pub sought_fits : (k p : ℕ) → (seek cs d i k p).at + sizes (size cs d) (seek cs d i k p).left (seek cs d i k p).at ≤ p + sizes (size cs d) k p
-  unfolding seek sizes
-  sought_fits zero p = omega arith
-  sought_fits (suc k) p = go (ltb (key_of (get_or cs p blank)) i) (sought_fits k (p + size cs d p))
-    where
-      go : (b : Bool) → (seek cs d i k (p + size cs d p)).at + sizes (size cs d) (seek cs d i k (p + size cs d p)).left (seek cs d i k (p + size cs d p)).at ≤ p + size cs d p + sizes (size cs d) k (p + size cs d p)
-          → (pick b (seek cs d i k (p + size cs d p)) (place p (suc k) (eqb (key_of (get_or cs p blank)) i))).at + sizes (size cs d) (pick b (seek cs d i k (p + size cs d p)) (place p (suc k) (eqb (key_of (get_or cs p blank)) i))).left (pick b (seek cs d i k (p + size cs d p)) (place p (suc k) (eqb (key_of (get_or cs p blank)) i))).at ≤ p + (size cs d p + sizes (size cs d) k (p + size cs d p))
-      go true ih = omega arith
-      go false ih = omega arith
-
 -- what was found are entries within the area
-pub found-columns : (cs : List Cell) (a : IntMap) (i : ℕ) (w : Found) → IsMap cs a → w ≡ seek cs levels i a.len a.base → AreColumns cs levels w.left w.at
-found-columns cs a i w is e = rw e (record { fits = omega (arith, sought_fits cs levels i a.len a.base, is.used, is.inside); small = is.small })
+pub found-columns : (cs : List Cell) (a : IntMap) (i : ℕ) (w : Place) → IsMap cs a → w ≡ seek_place cs levels i a.len a.base → AreColumns cs levels w.left w.at
+found-columns cs a i w is e = rw e (record { fits = omega (arith, seek_ends cs levels i a.len a.base, is.used, is.inside); small = is.small })

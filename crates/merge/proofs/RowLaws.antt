@@ -18,9 +18,9 @@ use Rattle.model.proofs.TestLaws.{cases}
 use Rattle.area.specs.declared.Cell.{Cell}
 use Rattle.intmap.specs.Pack.{key_of, class_key}
 use Rattle.intmap.specs.Entries.{Runs, entries, key_run}
-use Rattle.intmap.specs.Find.{seek}
+use Rattle.intmap.specs.Find.{seek_place}
 use Rattle.intmap.specs.Map.{levels}
-use Rattle.intmap.specs.declared.Found.{Found}
+use Rattle.intmap.specs.declared.Place.{Place}
 use Rattle.intmap.specs.declared.IntMap.{IntMap}
 use Rattle.intmap.proofs.SwapLaws.{From}
 use Rattle.encoding.specs.Encode.{run_register, run_map, runs_of}
@@ -146,8 +146,8 @@ row-length : (row : List ColumnType) → length (result_columns row) ≡ length 
 unfolding result_columns
 row-length row = length-map row result_column
 
-pub merged_row : (cs : List Cell) (a : IntMap) (from : Registers) (before after : List ℕ) (width r : ℕ) (w : Found) (key : ℕ)
-    → key ≡ class_key 0 from.first → from.count ≤ length before → w ≡ seek cs levels key a.len a.base → after ≡ merge_runs key from.count (entries cs levels w.left w.at) before → r ≡ max width from.count → Merges cs a from before after width r
+pub merged_row : (cs : List Cell) (a : IntMap) (from : Registers) (before after : List ℕ) (width r : ℕ) (w : Place) (key : ℕ)
+    → key ≡ class_key 0 from.first → from.count ≤ length before → w ≡ seek_place cs levels key a.len a.base → after ≡ merge_runs key from.count (entries cs levels w.left w.at) before → r ≡ max width from.count → Merges cs a from before after width r
 merged_row cs a from before after width r w key ke fits found is wide = record { widest = wide; whole = whole; says = says }
   where
     i : ℕ

@@ -82,8 +82,8 @@ pub fn merge_row(
     ensures { Merges (cells area.now) map row columns.old columns.new width result }
 {
     let first = intmap::class_key(intmap::Class::Registers, 0) + row.first;
-    let found = map.find(area, first);
-    merge_entries(columns, area, first, row.count, found.at, found.left);
+    let (Ok(place) | Err(place)) = map.find(area, first);
+    merge_entries(columns, area, first, row.count, place.at, place.left);
     width.max(row.count as usize)
 }
 

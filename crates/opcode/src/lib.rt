@@ -88,7 +88,7 @@ pub struct P4 {
     pub aggregate: Aggregate,
 }
 
-// The names by their length, the frequent names of each first.
+// The names by their length, the frequent names of each first. A `match` on all of them would be plainer, but has too many arms for the prover.
 static OF_TWO: [(&[u8], Operation); 8] = [
     (b"Ne", Operation::Branch),
     (b"Eq", Operation::Branch),

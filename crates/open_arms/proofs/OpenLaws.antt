@@ -25,9 +25,9 @@ use Rattle.model.specs.Good.{SortedColumn, SortedColumns}
 use Rattle.model.specs.Meaning.{Meaning}
 use Rattle.model.proofs.IntMap.{total_insert}
 use Rattle.model.proofs.Sorted.{sorted_dense, dense_cells, each-replicate}
-use Rattle.area.specs.Cells.{cell, blank}
+use Rattle.area.specs.Cells.{blank}
 use Rattle.area.specs.declared.Cell.{Cell}
-use Rattle.intmap.specs.Pack.{head, class_key}
+use Rattle.intmap.specs.Pack.{class_key}
 use Rattle.intmap.specs.Runs.{Agree}
 use Rattle.intmap.specs.Entries.{Runs, span}
 use Rattle.intmap.specs.Map.{runs_at, Frame}
@@ -39,7 +39,7 @@ use Rattle.intmap.proofs.EntryLaws.{length-span}
 use Rattle.intmap.proofs.MapLaws.{placed_room}
 use Rattle.intmap.proofs.StoreLaws.{frame_same}
 use Rattle.intmap.proofs.SignedLaws.{count_below, count_above}
-use Rattle.encoding.specs.Encode.{single, run_table}
+use Rattle.encoding.specs.Encode.{single, columns_head, run_table}
 use Rattle.encoding.proofs.Dense.{numbered-count, elem_run}
 use Rattle.encoding.proofs.Standing.{table-whole}
 use Rattle.encoding.proofs.Held.{held_elsewhere}
@@ -162,13 +162,13 @@ module _ (limit : ℕ) (cs es : List Cell) (a : IntMap) (n : ℕ) (current : Cur
 
 -- ---- an empty table's run
 
-module _ (cs es ds : List Cell) (p n h : ℕ) (c : Cell) (fits : p + (1 + n) ≤ length cs) (he : h ≡ head 2 0 2 0) (ee : es ≡ set cs p (cell h n)) (ce : c ≡ single 0 2 0) (elem : FromElem es ds (p + 1) c n) where
-  head_there : get_or ds p blank ≡ cell (head 2 0 2 0) n
-  head_there = elem.frame.below p (omega arith) ∙ ap (λ l. get_or l p blank) ee ∙ get_or-set_same cs p (cell h n) blank (omega arith) ∙ ap (λ z. cell z n) he
+module _ (cs es ds : List Cell) (p n : ℕ) (c : Cell) (fits : p + (1 + n) ≤ length cs) (ee : es ≡ set cs p (columns_head n 2 0)) (ce : c ≡ single 0 2 0) (elem : FromElem es ds (p + 1) c n) where
+  head_there : get_or ds p blank ≡ columns_head n 2 0
+  head_there = elem.frame.below p (omega arith) ∙ ap (λ l. get_or l p blank) ee ∙ get_or-set_same cs p (columns_head n 2 0) blank (omega arith)
 
-  table_run : cell (head 2 0 2 0) n ∷ elems (single 0 2 0) 0 n ≡ run_table 0 (empty_table n)
+  table_run : columns_head n 2 0 ∷ elems (single 0 2 0) 0 n ≡ run_table 0 (empty_table n)
   unfolding run_table
-  table_run = ap₂ (λ (k : ℕ) (l : List Cell). cell (head 2 0 2 0) k ∷ l) (sym (numbered-count 0 (replicate n null) ∙ length-replicate n null)) (sym (elem_run Null (Some true) 0 n))
+  table_run = ap₂ (λ (k : ℕ) (l : List Cell). columns_head k 2 0 ∷ l) (sym (numbered-count 0 (replicate n null) ∙ length-replicate n null)) (sym (elem_run Null (Some true) 0 n))
 
   pub table_put : PutsTable cs ds p n
   unfolding span
@@ -177,7 +177,7 @@ module _ (cs es ds : List Cell) (p n h : ℕ) (c : Cell) (fits : p + (1 + n) ≤
       record {
         run = ap (span ds p) z ∙ ap₂ (λ (x : Cell) (l : List Cell). x ∷ l) head_there (elem.cells ∙ ap (λ x. elems x 0 n) ce) ∙ table_run;
         frame =
-            frame_then cs es ds p (1 + n) (frame-within cs es p 1 p (1 + n) (omega arith) (omega arith) (frame-set cs es p (cell h n) ee))
+            frame_then cs es ds p (1 + n) (frame-within cs es p 1 p (1 + n) (omega arith) (omega arith) (frame-set cs es p (columns_head n 2 0) ee))
             (frame-within es ds (p + 1) n p (1 + n) (omega arith) (omega arith) elem.frame);
       }
 

@@ -13,7 +13,6 @@ ghost use Rattle.state.specs.Arms.{CursorArm};
 ghost use Rattle.state.specs.Stores.{cells_in, IsCurrent, Changes};
 ghost use Rattle.open_arms.specs.Tables.{IsTable, OpensTable, PutsTable};
 
-use area::Cell;
 use refusal::Refusal;
 use rows::Row;
 use state::Store;
@@ -26,7 +25,8 @@ fn insert_table(store: &mut Store, row: u64, from: usize, n: usize) -> Result<()
 {
     let key = intmap::class_key(intmap::Class::Tables, row);
     let found = store.place_of(intmap::Class::Tables, row);
-    if found.left == 0 {
+    let (Ok(place) | Err(place)) = found;
+    if place.left == 0 {
         store.map = store.map.append_run(store.area, key, from, n, store.limit)?;
         return Ok(());
     }
@@ -50,15 +50,7 @@ fn put_table(area: &mut [u8], p: usize, n: usize)
     requires { Inside area.old p (1 + n) }
     ensures { PutsTable (cells area.old) (cells area.new) p n }
 {
-    let head = intmap::pack(intmap::RECORD, 0, state::nullable_code(Some(true)), 0);
-    area::put_cell(
-        area,
-        p,
-        Cell {
-            head,
-            payload: n as u64,
-        },
-    );
+    area::put_cell(area, p, state::columns_head(n as u64, Some(true)));
     let c = state::single(DataType::Null, Some(true));
     intmap::from_elem(area, p + 1, c, n);
 }

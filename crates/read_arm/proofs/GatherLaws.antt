@@ -4,11 +4,13 @@ use Rattle.refusal.specs.declared.Refusal.{Refusal}
 use Rattle.std.specs.Prelude.{Ok, Err}
 use mathlib.Core.Path.{◌≡◌, refl, sym, ap, subst, ◌∙◌}
 use mathlib.Core.Bool.{Bool, true, false, ◌&&◌, ◌||◌}
-use mathlib.Core.Logic.{◌⊎◌, inl, inr}
+use mathlib.Core.Logic.{◌⊎◌, inl, inr, ∥∥₁_elim}
+use mathlib.Core.HLevel.{⊥_prop}
 use mathlib.Core.List.{List, [], ◌∷◌, ◌++◌, append-nil, append_assoc}
 use Prim.Native.Nat.{ℕ, zero, suc, ◌+◌, ◌-◌, ◌%◌, ◌<◌, ◌≤◌, compare, Ordering}
 use native.Mathlib.Omega.{arith}
 use native.Mathlib.Nat.{mod-lt}
+use native.Mathlib.Bridge.{le_prop}
 use lib.Dec.{eqb, leb}
 use lib.IntN.{pos}
 use lib.ListN.{length, get_or}
@@ -21,7 +23,7 @@ use Rattle.model.specs.Cells.{column_cells, columns_cells}
 use Rattle.model.specs.Catalogue.{CatalogueRecord, record_column, is_for, add_if, columns_after, columns_at}
 use Rattle.model.specs.CursorArms.{columns_if}
 use Rattle.model.specs.Good.{Each}
-use Rattle.area.specs.Cells.{blank, cells, Inside}
+use Rattle.area.specs.Cells.{blank, cells}
 use Rattle.area.specs.declared.Cell.{Cell}
 use Rattle.intmap.specs.Pack.{tag_of, key_of}
 use Rattle.intmap.specs.Pick.{pick}
@@ -249,20 +251,21 @@ module _ {limit : ℕ} {cs ds : List Cell} {base : ℕ} {bs : List ℕ} {x : Row
     linked : (records : List CatalogueRecord) (h : HasBlocks bs records) → Link (cells bs) link (g.says records h).rest
     linked records h = let f = g.says records h in chain_link (cells bs) f.low link f.rest lt f.chain
 
-    pub gathering_inside : IsBlocks bs → Inside bs (link - 1) 1
-    gathering_inside w = let l = linked w.records w.has in record { within = omega (arith, l.fits); small = w.has.small }
+    pub gathering_inside : ∥ IsBlocks bs ∥₁ → link ≤ length (cells bs)
+    gathering_inside h = ∥∥₁_elim h le_prop (λ w. (linked w.records w.has).fits)
 
     module _ (c : Cell) (ce : c ≡ get_or (cells bs) (link - 1) blank) where
       block : (records : List CatalogueRecord) (h : HasBlocks bs records) → IsBlock c (linked records h).one
       block records h = subst (λ d. IsBlock d (linked records h).one) (sym ce) (linked records h).is
 
-      pub gathering_plain : IsBlocks bs → tag_of (column_of c) ≡ 2 → ⊥
-      gathering_plain w = column_plain c (linked w.records w.has).one (block w.records w.has)
+      pub gathering_plain : ∥ IsBlocks bs ∥₁ → tag_of (column_of c) ≡ 2 → ⊥
+      gathering_plain h tag = ∥∥₁_elim h ⊥_prop (λ w. column_plain c (linked w.records w.has).one (block w.records w.has) tag)
 
-      pub gathering_less : IsBlocks bs → ahead (length (cells bs)) (next_of c) < ahead (length (cells bs)) link
-      gathering_less w =
-          let l = linked w.records w.has in
-          ahead_less (length (cells bs)) link (next_of c) lt l.fits (subst (λ d. (next_of d ≡ 0) ⊎ (link < next_of d)) (sym ce) (chain_on (cells bs) link (next_of (get_or (cells bs) (link - 1) blank)) l.more l.chain))
+      pub gathering_less : ∥ IsBlocks bs ∥₁ → ahead (length (cells bs)) (next_of c) < ahead (length (cells bs)) link
+      gathering_less h =
+          ∥∥₁_elim h le_prop (λ w.
+          (let l = linked w.records w.has in
+          ahead_less (length (cells bs)) link (next_of c) lt l.fits (subst (λ d. (next_of d ≡ 0) ⊎ (link < next_of d)) (sym ce) (chain_on (cells bs) link (next_of (get_or (cells bs) (link - 1) blank)) l.more l.chain))))
 
       module _ (es : List Cell) (z : Stored) (a : Adds limit ds es m c x z) where
         -- the records passed then

@@ -8,12 +8,12 @@ ghost use Rattle.model.specs.Equality.{eq_int};
 ghost use Rattle.area.specs.Cells.{cells};
 ghost use Rattle.intmap.specs.Signed.{int_of};
 ghost use Rattle.state.specs.Stores.{IsCurrent, Changes};
-ghost use Rattle.root_block.specs.Blocks.{IsBlocks};
 ghost use Rattle.read_arm.specs.Gathers.{block_for, at_page, at_database, Gathers, ReadsTable};
 
 use area::Cell;
 use intmap::IntMap;
 use refusal::Refusal;
+use root_block::Blocks;
 use rows::Row;
 use state::Store;
 
@@ -43,20 +43,20 @@ fn is_block_for(c: Cell, x: Row) -> bool
 // order of their columns.
 fn columns_at(
     area: &mut [u8],
-    blocks: &[u8],
+    blocks: Blocks<'_>,
     base: usize,
     x: Row,
     limit: usize,
 ) -> Result<IntMap, Refusal>
-    requires { (base + limit ≤ length (cells area.old)) × (length (cells area.old) ≤ 1048576) × IsBlocks blocks.now }
-    ensures { Gathers limit (cells area.old) (cells area.new) base blocks.now (at_page x) result }
+    requires { (base + limit ≤ length (cells area.old)) × (length (cells area.old) ≤ 1048576) }
+    ensures { Gathers limit (cells area.old) (cells area.new) base blocks.entry.bytes.now (at_page x) result }
 {
     let mut m = IntMap::new(base);
     let mut bound: u64 = 0;
-    let mut link = root_block::first_link(blocks, x.p2);
-    // No `for`: a block tells where the next one is.
+    let mut link = blocks.first_link(x.p2);
+    // A `while`: `successors` over the links has no end that is known, and its closure would need a contract that each link leads to a cell.
     while 0 < link {
-        let c = area::cell_at(blocks, link - 1);
+        let c = blocks.record_at(link);
         link = (c.payload / root_block::LINK) as usize;
         if !is_block_for(c, x) {
             continue;
@@ -79,13 +79,13 @@ fn columns_at(
 // The same, and none if P3 is no database.
 fn opened_columns(
     area: &mut [u8],
-    blocks: &[u8],
+    blocks: Blocks<'_>,
     base: usize,
     x: Row,
     limit: usize,
 ) -> Result<IntMap, Refusal>
-    requires { (base + limit ≤ length (cells area.old)) × (length (cells area.old) ≤ 1048576) × IsBlocks blocks.now }
-    ensures { Gathers limit (cells area.old) (cells area.new) base blocks.now (at_database x) result }
+    requires { (base + limit ≤ length (cells area.old)) × (length (cells area.old) ≤ 1048576) }
+    ensures { Gathers limit (cells area.old) (cells area.new) base blocks.entry.bytes.now (at_database x) result }
 {
     if x.p3 < intmap::ZERO {
         return Ok(IntMap::new(base));
@@ -97,9 +97,9 @@ fn opened_columns(
 }
 
 // OpenRead, OpenWrite: cursor P1 on the table of page P2 in database P3. It is not known whether it is empty.
-pub fn open_read(store: &mut Store, blocks: &[u8], row: u64, x: Row) -> Result<(), Refusal>
-    requires { IsCurrent store.old × (row ≤ 65535) × (store.old.limit ≤ 65535) × IsBlocks blocks.now }
-    ensures { Changes (λ limit cs ds a r. ReadsTable limit cs ds a blocks.now row x r) store.old store.new result }
+pub fn open_read(store: &mut Store, blocks: Blocks<'_>, row: u64, x: Row) -> Result<(), Refusal>
+    requires { IsCurrent store.old × (row ≤ 65535) × (store.old.limit ≤ 65535) }
+    ensures { Changes (λ limit cs ds a r. ReadsTable limit cs ds a blocks.entry.bytes.now row x r) store.old store.new result }
 {
     let limit = store.limit;
     if limit == 0 {
@@ -107,8 +107,6 @@ pub fn open_read(store: &mut Store, blocks: &[u8], row: u64, x: Row) -> Result<(
     }
     let from = store.map.base + limit;
     let m = opened_columns(store.area, blocks, from + 1, x, limit - 1)?;
-    let head = intmap::pack(intmap::RECORD, 0, state::nullable_code(None), 0);
-    let payload = m.len;
-    store.put_cell(from, Cell { head, payload });
+    store.put_cell(from, state::columns_head(m.len, None));
     open_arms::open_table(store, row, x.p1, from, 1 + m.used)
 }

@@ -3,7 +3,7 @@
 use Rattle.state.proofs.LeadsLaws.{frame-within, frame_then, frame-set, unchanged}
 use mathlib.Core.Path.{◌≡◌, refl, sym, ap, ap₂, subst, ◌∙◌}
 use mathlib.Core.Bool.{Bool, true, false}
-use Rattle.std.specs.Prelude.{Some, None, Option}
+use Rattle.std.specs.Prelude.{Some, None, Option, Ok, Err}
 use mathlib.Core.List.{List, [], ◌∷◌, flatten}
 use Prim.Native.Nat.{ℕ, zero, suc, ◌+◌, ◌-◌, ◌<◌, ◌≤◌}
 use native.Mathlib.Omega.{arith}
@@ -18,18 +18,18 @@ use Rattle.intmap.specs.Pack.{head, tag_of, with_key, class_key}
 use Rattle.intmap.specs.Pick.{pick}
 use Rattle.intmap.specs.Runs.{size, sizes, Agree, IsColumn}
 use Rattle.intmap.specs.Entries.{Runs, span, entries, total}
-use Rattle.intmap.specs.Find.{seek}
+use Rattle.intmap.specs.Find.{seek_place, seek_found, seek}
 use Rattle.intmap.specs.Swap.{lookup}
 use Rattle.intmap.specs.Map.{levels, runs_at, Frame}
 use Rattle.intmap.specs.Change.{on_head, rekey, rekeyed}
-use Rattle.intmap.specs.declared.Found.{Found}
+use Rattle.intmap.specs.declared.Place.{Place}
 use Rattle.intmap.specs.declared.IntMap.{IntMap}
 use Rattle.intmap.proofs.RunLaws.{size-single, size_record, size-pos}
 use Rattle.intmap.proofs.EntryLaws.{span_same, length-span, total-sizes, entries-same}
 use Rattle.intmap.proofs.SameCells.{copied, agree_head, size_same, sizes_same}
 use Rattle.intmap.proofs.MapLaws.{copied_frame, copied_agree}
-use Rattle.intmap.proofs.FindLaws.{found-whole}
-use Rattle.intmap.proofs.Swapped.{seek_some, seek_none}
+use Rattle.intmap.proofs.FindLaws.{answered_ok, answered_err, seek_left, found-whole}
+use Rattle.intmap.proofs.Swapped.{seek_ok, seek_err}
 use Rattle.intmap.proofs.ChangeLaws.{with_size, total-rekeyed}
 use Rattle.encoding.specs.Encode.{single, run_column}
 use Rattle.encoding.specs.Heads.{as_column}
@@ -38,7 +38,7 @@ use Rattle.encoding.proofs.Standing.{entries_flat}
 use Rattle.state.specs.Leads.{Current}
 use Rattle.record_arms.specs.Records.{runs_from, Flat, Puttable, Ahead, PutOr, PutsColumn, Laid, LaidOr, PutsColumns, BuildsRecord}
 use Rattle.record_arms.specs.declared.Progress.{Progress}
-use Rattle.record_arms.proofs.SearchLaws.{seek_left, ahead_there, ahead_behind}
+use Rattle.record_arms.proofs.SearchLaws.{ahead_there, ahead_behind}
 
 -- ---- a head changed
 
@@ -76,21 +76,18 @@ column_long (c ∷ run) = refl
 
 -- ---- the column of a register
 
-module _ (cs : List Cell) (at left k key to end : ℕ) (ok : Puttable cs at left k to end) (found : ℕ) (ke : found ≡ class_key 0 k) (w : Found) (we : w ≡ seek cs levels found left at) where
+module _ (cs : List Cell) (at left k key to end : ℕ) (ok : Puttable cs at left k to end) (found : ℕ) (ke : found ≡ class_key 0 k) (w : Place) where
   abbrev runs : Runs
   runs = entries cs levels left at
 
-  there : w ≡ seek cs levels (class_key 0 k) left at
-  there = we ∙ ap (λ z. seek cs levels z left at) ke
-
-  present_is : (b : Bool) → w.present ≡ b → (seek cs levels (class_key 0 k) left at).present ≡ b
-  present_is b e = ap (λ (v : Found). v.present) (sym there) ∙ e
+  keyed : seek cs levels found left at ≡ seek cs levels (class_key 0 k) left at
+  keyed = ap (λ z. seek cs levels z left at) ke
 
   -- it is absent
-  module _ (e : w.present ≡ false) where
+  module _ (e : Err w ≡ seek cs levels found left at) where
     its_one : column_run (lookup (class_key 0 k) runs) ≡ single 0 0 0 ∷ []
     unfolding run_column
-    its_one = ap column_run (seek_none cs levels (class_key 0 k) left at (present_is false e))
+    its_one = ap column_run (seek_err cs levels (class_key 0 k) left at w (e ∙ keyed))
 
     pub absent_full : end ≤ to → PutsColumn cs cs at left k key to end None
     absent_full h = record { answer = omega (arith, ap length its_one); frame = unchanged cs to (end - to) }
@@ -111,28 +108,29 @@ module _ (cs : List Cell) (at left k key to end : ℕ) (ok : Puttable cs at left
           record {
             answer = (
               record { within = omega arith; ends = omega (arith, default_size); run = ap (span ds to) default_size ∙ default_span ∙ sym (ap (rekey key) its_one) },
-              subst (λ (v : Found). Ahead cs at left k v.at v.left) (sym there) (ahead_there cs at left k),
+              subst (λ (v : Place). Ahead cs at left k v.at v.left) (sym (answered_err cs levels (class_key 0 k) left at w (e ∙ keyed)).0) (ahead_there cs at left k),
             );
             frame = frame-within cs ds to 1 to (end - to) (omega arith) (omega arith) (frame-set cs ds to x de);
           }
 
   -- it is present
-  module _ (e : w.present ≡ true) where
+  module _ (e : Ok w ≡ seek cs levels found left at) where
+    there : (w ≡ seek_place cs levels (class_key 0 k) left at) × (seek_found cs levels (class_key 0 k) left at ≡ true)
+    there = answered_ok cs levels (class_key 0 k) left at w (e ∙ keyed)
+
     pub present_within : w.at + size cs levels w.at ≤ to
-    present_within = omega (arith, found-whole cs levels found left at w we e, ok.below)
+    present_within = omega (arith, found-whole cs levels found left at w e, ok.below)
 
     pub present_column : IsColumn cs levels w.at
     present_column = record { fits = omega (arith, present_within, ok.ordered, ok.fits); small = ok.small }
 
     pub present_left : 0 < w.left
-    present_left = subst (λ (v : Found). 0 < v.left) (sym there) (seek_left cs levels (class_key 0 k) left at (present_is true e))
+    present_left = subst (λ (v : Place). 0 < v.left) (sym there.0) (seek_left cs levels (class_key 0 k) left at there.1)
 
     -- and takes n cells
     module _ (n : ℕ) (counted : n ≡ size cs levels w.at) where
       run_found : lookup (class_key 0 k) runs ≡ Some (span cs w.at n)
-      run_found =
-          seek_some cs levels (class_key 0 k) left at (present_is true e)
-          ∙ ap (λ (v : Found). Some (span cs v.at (size cs levels v.at))) (sym there) ∙ ap (λ z. Some (span cs w.at z)) (sym counted)
+      run_found = seek_ok cs levels (class_key 0 k) left at w (e ∙ keyed) ∙ ap (λ z. Some (span cs w.at z)) (sym counted)
 
       present_some : 0 < n
       present_some = omega (arith, size-pos cs levels w.at)
@@ -143,7 +141,7 @@ module _ (cs : List Cell) (at left k key to end : ℕ) (ok : Puttable cs at left
       behind : Ahead cs at left k (w.at + n) (w.left - 1)
       behind =
           subst (λ z. Ahead cs at left k (w.at + z) (w.left - 1)) (sym counted)
-          (subst (λ (v : Found). Ahead cs at left k (v.at + size cs levels v.at) (v.left - 1)) (sym there) (ahead_behind cs at left k (present_is true e)))
+          (subst (λ (v : Place). Ahead cs at left k (v.at + size cs levels v.at) (v.left - 1)) (sym there.0) (ahead_behind cs at left k there.1))
 
       pub present_full : end < to + n → PutsColumn cs cs at left k key to end None
       present_full h =

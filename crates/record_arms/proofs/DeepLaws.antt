@@ -24,13 +24,14 @@ use Rattle.intmap.specs.Pick.{pick}
 use Rattle.intmap.specs.Runs.{size, Agree, sizes, IsColumn}
 use Rattle.intmap.specs.Depth.{nesting}
 use Rattle.intmap.specs.Entries.{Runs, span, entries, key_run}
-use Rattle.intmap.specs.Find.{place, seek}
+use Rattle.intmap.specs.Find.{place, has_entry, seek_place, seek_found}
 use Rattle.intmap.specs.Map.{levels, runs_at}
 use Rattle.intmap.specs.declared.IntMap.{IntMap}
 use Rattle.intmap.proofs.RunLaws.{size-pos, sizes_step}
 use Rattle.intmap.proofs.EntryLaws.{key-span, length-span}
 use Rattle.intmap.proofs.SameCells.{size_same}
 use Rattle.intmap.proofs.DepthLaws.{nesting-single, size_deep}
+use Rattle.intmap.proofs.FindLaws.{entry_told}
 use Rattle.intmap.proofs.Swapped.{seek_some, seek_none}
 use Rattle.encoding.specs.Encode.{run_register, run_cursor, run_table, run_map, runs_of}
 use Rattle.encoding.specs.Holds.{Stands}
@@ -147,19 +148,19 @@ module _ (cs : List Cell) (low high : ℕ) where
         ∙ sym (below (n - 1) at (omega (arith, first_key))) ∙ ap (λ m. any_deep cs low high m at) back
 
   -- where nothing is deep, what a search finds is not
-  found_flat : (key n at : ℕ) → low ≤ key → key < high → any_deep cs low high n at ≡ false → (seek cs levels key n at).present ≡ true → nesting cs levels (seek cs levels key n at).at ≤ 7
-  unfolding seek
-  found_flat key zero at l h e f = absurd (false≢true f)
+  found_flat : (key n at : ℕ) → low ≤ key → key < high → any_deep cs low high n at ≡ false → seek_found cs levels key n at ≡ true → nesting cs levels (seek_place cs levels key n at).at ≤ 7
+  unfolding seek_place
+  found_flat key zero at l h e f = absurd (omega (arith, (entry_told cs key (place at 0) f).0))
   found_flat key (suc n) at l h e f = go (ltb (key_of (get_or cs at blank)) key) refl f (found_flat key n (at + size cs levels at) l h)
     where
-      go : (t : Bool) → ltb (key_of (get_or cs at blank)) key ≡ t → (pick t (seek cs levels key n (at + size cs levels at)) (place at (suc n) (eqb (key_of (get_or cs at blank)) key))).present ≡ true
-          → (any_deep cs low high n (at + size cs levels at) ≡ false → (seek cs levels key n (at + size cs levels at)).present ≡ true → nesting cs levels (seek cs levels key n (at + size cs levels at)).at ≤ 7)
-          → nesting cs levels (pick t (seek cs levels key n (at + size cs levels at)) (place at (suc n) (eqb (key_of (get_or cs at blank)) key))).at ≤ 7
+      go : (t : Bool) → ltb (key_of (get_or cs at blank)) key ≡ t → has_entry cs key (pick t (seek_place cs levels key n (at + size cs levels at)) (place at (suc n))) ≡ true
+          → (any_deep cs low high n (at + size cs levels at) ≡ false → seek_found cs levels key n (at + size cs levels at) ≡ true → nesting cs levels (seek_place cs levels key n (at + size cs levels at)).at ≤ 7)
+          → nesting cs levels (pick t (seek_place cs levels key n (at + size cs levels at)) (place at (suc n))).at ≤ 7
       go true g f more =
           let passed = ltb-true (key_of (get_or cs at blank)) key g in
           more (picked (deep_at cs low at) (any_deep cs low high n (at + size cs levels at)) (sym (below n at (omega arith)) ∙ e)).1 f
       go false g f more =
-          let same = eqb-true (key_of (get_or cs at blank)) key f in
+          let same = (entry_told cs key (place at (suc n)) f).1 in
           not_deep cs low at (picked (deep_at cs low at) (any_deep cs low high n (at + size cs levels at)) (sym (below n at (omega arith)) ∙ e)).0 (omega arith)
 
 -- the first of n entries that lie within the area is a column
@@ -193,11 +194,11 @@ module _ (cs : List Cell) (a : IntMap) (first end : ℕ) (flat : any_deep cs (cl
   its = class_key 0 k
 
   pub flat_registers : Flat k (runs_at cs a)
-  flat_registers run e = go (seek cs levels its a.len a.base).present refl
+  flat_registers run e = go (seek_found cs levels its a.len a.base) refl
     where
-      go : (b : Bool) → (seek cs levels its a.len a.base).present ≡ b → (es : List Cell) (p : ℕ) → Stands es p run → size es 8 p ≡ length run
+      go : (b : Bool) → seek_found cs levels its a.len a.base ≡ b → (es : List Cell) (p : ℕ) → Stands es p run → size es 8 p ≡ length run
       go true f es p st =
-          let at = (seek cs levels its a.len a.base).at in
+          let at = (seek_place cs levels its a.len a.base).at in
           let is : span cs at (size cs levels at) ≡ run = same (sym (seek_some cs levels its a.len a.base f) ∙ e) in
           subst (λ r. Stands es p r → size es 8 p ≡ length r) is (flat_run cs at (found_flat cs (class_key 0 first) (class_key 0 end) its a.len a.base (omega arith) (omega arith) flat f) es p) st
         where
@@ -310,16 +311,16 @@ module _ (limit bound : ℕ) (cs : List Cell) (a : IntMap) (m : MemoryState) (ho
       some_deep m n first 0 7 w.key (omega (arith, w.above)) (omega (arith, w.below)) (subst (λ o. 7 < column_depth (register_column o)) (sym w.found) (omega (arith, w.deep, column_depth_lem w.value)))
 
   -- no register of the range that is there nests more than seven deep
-  pub held_shallow : ((i : ℕ) → first ≤ i → i < first + n → (seek cs levels (class_key 0 i) a.len a.base).present ≡ true → nesting cs levels (seek cs levels (class_key 0 i) a.len a.base).at ≤ 7) → columns_depth (from_dense_record (columns_from n first m)) ≤ 7
+  pub held_shallow : ((i : ℕ) → first ≤ i → i < first + n → seek_found cs levels (class_key 0 i) a.len a.base ≡ true → nesting cs levels (seek_place cs levels (class_key 0 i) a.len a.base).at ≤ 7) → columns_depth (from_dense_record (columns_from n first m)) ≤ 7
   held_shallow flat = most_deep m n first 0 7 each
     where
       each : (i : ℕ) → first ≤ i → i < first + n → column_depth (register_column (get i m.r)) ≤ 7
-      each i l g = go (seek cs levels (class_key 0 i) a.len a.base).present refl
+      each i l g = go (seek_found cs levels (class_key 0 i) a.len a.base) refl
         where
           at : ℕ
-          at = (seek cs levels (class_key 0 i) a.len a.base).at
+          at = (seek_place cs levels (class_key 0 i) a.len a.base).at
 
-          go : (b : Bool) → (seek cs levels (class_key 0 i) a.len a.base).present ≡ b → column_depth (register_column (get i m.r)) ≤ 7
+          go : (b : Bool) → seek_found cs levels (class_key 0 i) a.len a.base ≡ b → column_depth (register_column (get i m.r)) ≤ 7
           go true f =
               let v = (told_register_at holds i (omega arith)).present _ (ap done (seek_some cs levels (class_key 0 i) a.len a.base f)) in
               let long : length (run_register (class_key 0 i) v.value) ≡ size cs levels at = ap length (sym v.is) ∙ length-span cs at (size cs levels at) in

@@ -18,7 +18,7 @@ use Rattle.area.specs.declared.Cell.{Cell}
 use Rattle.intmap.specs.Change.{rekey, rekeyed}
 use Rattle.intmap.specs.Depth.{nesting}
 use Rattle.intmap.specs.Entries.{Runs, span}
-use Rattle.intmap.specs.Find.{seek}
+use Rattle.intmap.specs.Find.{seek_place, seek_found}
 use Rattle.intmap.specs.Get.{Judges, Index}
 use Rattle.intmap.specs.Map.{levels, runs_at, IsMap, Frame}
 use Rattle.intmap.specs.Over.{Plain, Overlaid}
@@ -32,7 +32,7 @@ use Rattle.intmap.specs.declared.IntMap.{IntMap}
 use Rattle.intmap.proofs.ChangeLaws.{key-rekey}
 use Rattle.intmap.proofs.DepthLaws.{nesting-single}
 use Rattle.intmap.proofs.EntryLaws.{length-span}
-use Rattle.intmap.proofs.FindLaws.{seek_key}
+use Rattle.intmap.proofs.FindLaws.{answers_found, seek_key}
 use Rattle.intmap.proofs.JudgedLaws.{store_tried}
 use Rattle.intmap.proofs.OverLaws.{plain_record, overwritten_run}
 use Rattle.intmap.proofs.PackLaws.{keyed_tag}
@@ -65,7 +65,7 @@ pub record Beside (cs : List Cell) (p k d : ℕ) : Type 0 where
 pub entry-within : (cs : List Cell) (a : IntMap) (class k p : ℕ) → IsMap cs a → entry_slot cs a class k ≡ Some p → (a.base ≤ p) × (p ≤ a.base + a.used)
 entry-within cs a class k p map e =
     let w = entry_led cs a class k p e in
-    let f = found_in cs a (class_key class k) (seek cs levels (class_key class k) a.len a.base) map refl in
+    let f = found_in cs a (class_key class k) map _ (answers_found cs levels (class_key class k) a.len a.base w.0) in
     (omega (arith, f.0, w.1), omega (arith, f.1, w.1))
 
 -- ---- put as columns
@@ -131,12 +131,11 @@ module _ (limit : ℕ) (cs ds : List Cell) (a : IntMap) (first n i k p q : ℕ) 
     (target : entry_slot cs a 0 k ≡ Some q) (low : a.base ≤ p) (at : RecordAt cs ds (a.base + a.used) p q first n)
   where
     -- each register is where it is told
-    found : (j : ℕ) → j < n → ((seek cs levels (class_key 0 (first + j)) a.len a.base).at ≡ p + j) × ((seek cs levels (class_key 0 (first + j)) a.len a.base).present ≡ true)
+    found : (j : ℕ) → j < n → ((seek_place cs levels (class_key 0 (first + j)) a.len a.base).at ≡ p + j) × (seek_found cs levels (class_key 0 (first + j)) a.len a.base ≡ true)
     found j lt =
         let key = at.source.keys j lt in
         let w = held_place current.holds (p + j) (omega (arith, low)) (omega (arith, at.source.inside, lt)) (omega (arith, key)) in
-        let same = ap (λ s. seek cs levels s a.len a.base) (sym key) in
-        (ap (λ f. f.at) same ∙ w.0, ap (λ f. f.present) same ∙ w.1)
+        (ap (λ s. (seek_place cs levels s a.len a.base).at) (sym key) ∙ w.0, ap (λ s. seek_found cs levels s a.len a.base) (sym key) ∙ w.1)
 
     one_cell : (j : ℕ) → j < n → 1 ≡ size cs levels (p + j)
     one_cell j lt = size-single cs levels (p + j) (get_or cs (p + j) blank) refl (at.source.plain.none j lt)
@@ -157,7 +156,7 @@ module _ (limit : ℕ) (cs ds : List Cell) (a : IntMap) (first n i k p q : ℕ) 
     long : length (rekey (class_key 0 k) run) ≡ suc n
     long = ap suc (ap length (sym columns) ∙ length-span ds (q + 1) n)
 
-    led : ((seek cs levels (class_key 0 k) a.len a.base).present ≡ true) × ((seek cs levels (class_key 0 k) a.len a.base).at ≡ q)
+    led : (seek_found cs levels (class_key 0 k) a.len a.base ≡ true) × ((seek_place cs levels (class_key 0 k) a.len a.base).at ≡ q)
     led = entry_led cs a 0 k q target
 
     its_key : key_of (get_or cs q blank) ≡ class_key 0 k
@@ -182,14 +181,14 @@ module _ (limit : ℕ) (cs ds : List Cell) (a : IntMap) (first n i k p q : ℕ) 
     stores : (depth : ℕ) → depth ≤ 8 → Stores cs ds limit a 0 i depth run (Ok a)
     stores depth low =
         store_tried cs ds limit a 0 i depth run x judges.answer k xe (class_key 0 k) (rekey (class_key 0 k) run) (Ok a) low refl refl
-        (overwritten_run cs ds limit a (class_key 0 k) q (rekey (class_key 0 k) run) current.room led.1 led.0 (key-rekey (class_key 0 k) run (omega arith)) over)
+        (overwritten_run cs ds limit a (class_key 0 k) q (rekey (class_key 0 k) run) current.room _ (answers_found cs levels (class_key 0 k) a.len a.base led.0) led.1 (key-rekey (class_key 0 k) run (omega arith)) over)
 
-    shallow : (r : ℕ) → first ≤ r → r < first + n → (seek cs levels (class_key 0 r) a.len a.base).present ≡ true → nesting cs levels (seek cs levels (class_key 0 r) a.len a.base).at ≤ 7
+    shallow : (r : ℕ) → first ≤ r → r < first + n → seek_found cs levels (class_key 0 r) a.len a.base ≡ true → nesting cs levels (seek_place cs levels (class_key 0 r) a.len a.base).at ≤ 7
     shallow r ge lt e =
         let j = r - first in
         let back : first + j ≡ r = omega (arith, ge) in
         let less : j < n = omega (arith, ge, lt) in
-        let here : (seek cs levels (class_key 0 r) a.len a.base).at ≡ p + j = ap (λ s. (seek cs levels (class_key 0 s) a.len a.base).at) (sym back) ∙ (found j less).0 in
+        let here : (seek_place cs levels (class_key 0 r) a.len a.base).at ≡ p + j = ap (λ s. (seek_place cs levels (class_key 0 s) a.len a.base).at) (sym back) ∙ (found j less).0 in
         let none = nesting-single cs levels (p + j) (get_or cs (p + j) blank) refl (at.source.plain.none j less) in
         subst (λ s. nesting cs levels s ≤ 7) (sym here) (omega (arith, none))
 

@@ -9,9 +9,9 @@ use Rattle.model.specs.Walk.{Tried, refused, done}
 use Rattle.model.specs.IntMap.{get}
 use Rattle.model.specs.State.{ColumnType, Record, Column, MemoryState, from_dense_record}
 use Rattle.model.specs.Access.{register_column, read_columns, store_register}
-use Rattle.area.specs.Cells.{blank, cell}
+use Rattle.area.specs.Cells.{blank}
 use Rattle.area.specs.declared.Cell.{Cell}
-use Rattle.intmap.specs.Pack.{head, key_of, class_key}
+use Rattle.intmap.specs.Pack.{key_of, class_key}
 use Rattle.intmap.specs.Pick.{pick}
 use Rattle.intmap.specs.Runs.{size, sizes}
 use Rattle.intmap.specs.Depth.{nesting}
@@ -22,6 +22,7 @@ use Rattle.intmap.specs.Change.{rekey, rekeyed}
 use Rattle.intmap.specs.Signed.{int_of}
 use Rattle.intmap.specs.declared.IntMap.{IntMap}
 use Rattle.encoding.specs.Changes.{column_run}
+use Rattle.encoding.specs.Encode.{columns_head}
 use Rattle.encoding.specs.Holds.{Stands}
 use Rattle.record_arms.specs.declared.Progress.{Progress}
 
@@ -126,7 +127,7 @@ pub record PutsColumns (cs ds : List Cell) (es : Runs) (k n low end : ℕ) (r : 
 pub record Built (ds : List Cell) (es : Runs) (k n low end p : ℕ) : Type 0 where
   pub above : low ≤ p
   pub ends : p + size ds levels p ≤ end
-  pub run : span ds p (size ds levels p) ≡ cell (head 2 0 0 0) n ∷ flatten (rekeyed 0 (runs_from n k es))
+  pub run : span ds p (size ds levels p) ≡ columns_head n 0 0 ∷ flatten (rekeyed 0 (runs_from n k es))
 
 abbrev pub BuiltOr : List Cell → Runs → ℕ → ℕ → ℕ → ℕ → ℕ → Option ℕ → Type 0
 BuiltOr ds es k n limit low end None = limit ≤ total (runs_from n k es)

@@ -106,34 +106,37 @@ fn put_column(area: &mut [u8], from: Progress, k: u64, key: u64, end: usize) -> 
     ensures { PutsColumn (cells area.old) (cells area.new) from.at from.left k key from.to end result }
 {
     let its = intmap::class_key(intmap::Class::Registers, k);
-    let found = intmap::find_from(area, from.at, from.left, its, intmap::LEVELS);
     let to = from.to;
-    let p = found.at;
-    if found.present {
-        let c = area::cell_at(area, p);
-        let n = intmap::count_from(area, p, c, intmap::LEVELS);
-        if end < to + n {
-            return None;
+    match intmap::find_from(area, from.at, from.left, its, intmap::LEVELS) {
+        Ok(place) => {
+            let p = place.at;
+            let c = area::cell_at(area, p);
+            let n = intmap::count_from(area, p, c, intmap::LEVELS);
+            if end < to + n {
+                return None;
+            }
+            area::move_cells(area, p, to, n);
+            let x = map_to_columntype(c);
+            area::put_cell(area, to, intmap::with_key(x, key));
+            Some(Progress {
+                to: to + n,
+                at: p + n,
+                left: place.left - 1,
+            })
         }
-        area::move_cells(area, p, to, n);
-        let x = map_to_columntype(c);
-        area::put_cell(area, to, intmap::with_key(x, key));
-        return Some(Progress {
-            to: to + n,
-            at: p + n,
-            left: found.left - 1,
-        });
+        Err(place) => {
+            if end <= to {
+                return None;
+            }
+            let c = state::single(DataType::Null, None);
+            area::put_cell(area, to, intmap::with_key(c, key));
+            Some(Progress {
+                to: to + 1,
+                at: place.at,
+                left: place.left,
+            })
+        }
     }
-    if end <= to {
-        return None;
-    }
-    let c = state::single(DataType::Null, None);
-    area::put_cell(area, to, intmap::with_key(c, key));
-    Some(Progress {
-        to: to + 1,
-        at: p,
-        left: found.left,
-    })
 }
 
 // Puts the columns of the registers at `low`, one after the other, unless they would end behind `end`. Entries are passed once.
@@ -167,9 +170,7 @@ fn build_record(store: &mut Store, registers: Registers) -> Option<usize>
     let p = map.base + store.limit;
     let end = p + store.limit;
     let _ = put_columns(map, store.area, registers, p + 1, end)?;
-    let head = intmap::RECORD;
-    let payload = registers.count;
-    store.put_cell(p, Cell { head, payload });
+    store.put_cell(p, state::columns_head(registers.count, None));
     Some(p)
 }
 
@@ -242,12 +243,8 @@ fn put_record(area: &mut [u8], end: usize, p: usize, q: usize, registers: Regist
         return false;
     }
     put_over(area, p, q + 1, n);
-    let head = intmap::RECORD;
-    area::put_cell(
-        area,
-        q,
-        intmap::with_key(Cell { head, payload: n }, intmap::key_of(d)),
-    );
+    let head = state::columns_head(n, None);
+    area::put_cell(area, q, intmap::with_key(head, intmap::key_of(d)));
     true
 }
 

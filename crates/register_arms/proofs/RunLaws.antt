@@ -83,6 +83,10 @@ pub run_none : (limit : ℕ) (cs : List Cell) (a : IntMap) (from n : ℕ) → Cu
 run_none limit cs a from n current =
     record { few = omega arith; leads = reached_end (reached_first limit cs a (null_many limit 0 (int_of from)) current) (null_stops limit 0 from (omega arith)) }
 
+-- where the first of them is
+pub got_inside : {cs : List Cell} {a : IntMap} {from p : ℕ} {x : Slot} → Gets cs a 0 from x → x ≡ Ok (Some p) → (a.base ≤ p) × (p ≤ a.base + a.used)
+got_inside {cs} {a} {from} gets e = let g = subst (Gets cs a 0 from) e gets in (omega (arith, g.place.0), omega (arith, g.place.1))
+
 -- d of them are null from cs to ds, and the next is to be looked for at p + d
 pub record Nulling (limit : ℕ) (cs ds : List Cell) (a : IntMap) (p from n d : ℕ) : Type 0 where
   pub run : NullsRun limit cs ds a from n d
@@ -90,10 +94,9 @@ pub record Nulling (limit : ℕ) (cs ds : List Cell) (a : IntMap) (p from n d : 
   pub low : a.base ≤ p + d
   pub most : p + d ≤ a.base + a.used
 
-pub nulling_first : (limit : ℕ) (cs : List Cell) (a : IntMap) (p from n : ℕ) → Current limit cs a → (x : Slot) → Gets cs a 0 from x → x ≡ Ok (Some p) → Nulling limit cs cs a p from n 0
-nulling_first limit cs a p from n current x gets e =
-    let g = subst (Gets cs a 0 from) e gets in
-    record { run = run_none limit cs a from n current; current = current; low = omega (arith, g.place.0); most = omega (arith, g.place.1) }
+pub nulling_first : (limit : ℕ) (cs : List Cell) (a : IntMap) (p from n : ℕ) → Current limit cs a → a.base ≤ p → p ≤ a.base + a.used → Nulling limit cs cs a p from n 0
+nulling_first limit cs a p from n current low most =
+    record { run = run_none limit cs a from n current; current = current; low = omega (arith, low); most = omega (arith, most) }
 
 module _ {limit : ℕ} {cs ds : List Cell} {a : IntMap} {p from n d : ℕ} (nulling : Nulling limit cs ds a p from n d) {es : List Cell} {c : Cell} {r : Bool} (over : Overwrites ds es a (p + d) (from + d) c r) where
   pub nulling_on : Current limit cs a → d < n → c ≡ single (datatype_code Null) (nullable_code (Some true)) 0 → r ≡ true → Nulling limit cs es a p from n (d + 1)

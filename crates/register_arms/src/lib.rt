@@ -3,7 +3,7 @@
 // two operands, OP_AGG_STEP, OP_AGG_FINAL, OP_NULL, OP_CAST and OP_HALT_IF_NULL, with `map_to_datatype` and `map_to_nullable`.
 #![tactic(auto)]
 
-ghost use Rattle.std.specs.Prelude.{◌≡◌, ◌+◌, ◌%◌, ◌<◌, get_or, None, Some};
+ghost use Rattle.std.specs.Prelude.{◌≡◌, ◌+◌, ◌%◌, ◌<◌, ◌≤◌, get_or, None, Some};
 ghost use Rattle.model.specs.Functions.{by_p2, is_nullable, sum_datatype};
 ghost use Rattle.model.specs.RegisterArms.{summed, from_other_row, copy_to, null_many};
 ghost use Rattle.model.specs.State.{first_datatype, either_nullable};
@@ -12,11 +12,11 @@ ghost use Rattle.area.specs.Cells.{cells};
 ghost use Rattle.intmap.specs.Signed.{int_of};
 ghost use Rattle.state.specs.Leads.{Current, Leads};
 ghost use Rattle.state.specs.Arms.{RegisterArm};
-ghost use Rattle.state.specs.Stores.{IsCurrent, Changes};
+ghost use Rattle.state.specs.Stores.{IsCurrent, Changes, Writes};
 ghost use Rattle.register_arms.specs.Nulls.{NullsRun};
 ghost use Rattle.register_arms.specs.Values.{IsDatatype, IsNullable, AreNullable};
 
-use intmap::IntMap;
+use intmap::{Class, IntMap};
 use opcode::{Aggregate, FunctionValue};
 use refusal::Refusal;
 use rows::Row;
@@ -216,15 +216,12 @@ pub fn agg_final(store: &mut Store, x: Row) -> Result<(), Refusal>
     }
 }
 
-// Null in the registers from `from` on where they stand side by side as plain cells, at most n. Gives how many. Over the words of the map: read of
-// the store at each turn they were never faster, and slower by the place of the code.
-fn null_run(map: IntMap, area: &mut [u8], from: u64, n: u64, limit: usize) -> u64
-    requires { Current limit (cells area.old) map × (from + n < 18446744073709551616) }
+// Null in the registers from `from` on where they stand side by side as plain cells from p on, at most n. Gives how many. Over the words of the map:
+// read of the store at each turn they were never faster, and slower by the place of the code.
+fn null_run(map: IntMap, area: &mut [u8], p: usize, from: u64, n: u64, limit: usize) -> u64
+    requires { Current limit (cells area.old) map × (map.base ≤ p) × (p ≤ map.base + map.used) × (from + n < 18446744073709551616) }
     ensures { NullsRun limit (cells area.old) (cells area.new) map from n result }
 {
-    let Ok(Some(p)) = state::get(map, area, intmap::Class::Registers, from) else {
-        return 0;
-    };
     let c = state::single(DataType::Null, Some(true));
     for done in 0..n {
         if !state::overwrite(map, area, p + done as usize, from + done, c) {
@@ -234,13 +231,24 @@ fn null_run(map: IntMap, area: &mut [u8], from: u64, n: u64, limit: usize) -> u6
     n
 }
 
+// The same from where the first of them is, if it is there.
+fn null_first(store: &mut Store, from: u64, n: u64) -> u64
+    requires { IsCurrent store.old × (from + n < 18446744073709551616) }
+    ensures { Writes (λ cs ds a. NullsRun store.old.limit cs ds a from n result) store.old store.new }
+{
+    let Ok(Some(p)) = store.get(Class::Registers, from) else {
+        return 0;
+    };
+    null_run(store.map, store.area, p, from, n, store.limit)
+}
+
 // Null in n registers from `from` on, first those that stand side by side; a refusal ends it. Each turn leaves one more register of the range
 // present, which is at least a cell, so that the turns are at most one more than the limit, however many n are.
 fn null_many(store: &mut Store, from: u64, n: u64) -> Result<(), Refusal>
     requires { IsCurrent store.old × (from + n < 18446744073709551616) }
     ensures { Changes (λ limit cs ds a r. Leads limit cs ds a r (null_many limit n (int_of from))) store.old store.new result }
 {
-    let first = null_run(store.map, store.area, from, n, store.limit);
+    let first = null_first(store, from, n);
     for i in from + first..from + n {
         store.store_single(i, DataType::Null, Some(true))?;
     }

@@ -1,9 +1,9 @@
 -- Rewind by the emptiness of the cursor's table, and by the cursor that was read. Assumes nothing.
 use Rattle.refusal.specs.Numbers.{number_of}
 use Rattle.refusal.specs.declared.Refusal.{Refusal}
-use mathlib.Core.Path.{◌≡◌, refl, sym, ap, subst, ◌∙◌, ap₂}
+use mathlib.Core.Path.{◌≡◌, refl, sym, ap, subst, ◌∙◌}
 use mathlib.Core.Bool.{Bool, true, false, not}
-use Rattle.std.specs.Prelude.{Option, None, Some, Ok, Err}
+use Rattle.std.specs.Prelude.{Option, None, Some, Ok, Err, Result}
 use mathlib.Core.List.{List, [], ◌∷◌}
 use Prim.Native.Nat.{ℕ, ◌+◌, ◌≤◌}
 use native.Mathlib.Omega.{arith}
@@ -18,34 +18,31 @@ use Rattle.model.specs.Good.{Good, OnSome}
 use Rattle.model.specs.Offer.{offers, branch_if, stay_if}
 use Rattle.model.specs.Operation.{op_rewind}
 use Rattle.model.specs.JumpArms.{rewind_cursor, rewind_if, jump_arm}
-use Rattle.model.proofs.Tried.{value}
+use Rattle.model.proofs.Tried.{Kept, value}
 use Rattle.area.specs.declared.Cell.{Cell}
-use Rattle.intmap.specs.Map.{HasRoom, CopiedMap}
+use Rattle.intmap.specs.Map.{HasRoom, Frame}
 use Rattle.intmap.specs.Signed.{offset, int_of}
-use Rattle.intmap.specs.declared.IntMap.{IntMap}
 use Rattle.encoding.proofs.Updates.{table_kept}
 use Rattle.rows.specs.Judged.{Judged}
 use Rattle.rows.specs.declared.row.Row.{Row}
 use Rattle.state.specs.Leads.{Current}
 use Rattle.state.specs.Steps.{HoldsState, Offered, TellsStep, JumpArm, Step, offered}
+use Rattle.state.specs.Stores.{cells_in, stored_in, Changes, Writes}
 use Rattle.state.specs.declared.MemoryState.{MemoryState}
+use Rattle.state.specs.declared.store.Store.{Store}
 use Rattle.state.proofs.LeadsLaws.{unchanged}
-use Rattle.jump_arms.specs.Arms.{at, Puts, BothArm, both_at}
+use Rattle.state.proofs.StoreLeads.{wider}
+use Rattle.jump_arms.specs.Arms.{at, Puts, BothArm}
 use Rattle.jump_arms.proofs.StepLaws.{zero_word, other_word, held_at, held_next, ends_here, goes_on_lem, branches_only, lies_here}
-use Rattle.jump_arms.proofs.BothLaws.{behind_room, state_room, both_arm}
+use Rattle.jump_arms.proofs.StoreSteps.{SameRow, same_store}
 use Rattle.cursor_arms.specs.Cursors.{Reading, ReadsCursor}
 use Rattle.cursor_arms.specs.StandsFor.{TellsEmpty, CursorTableChanged}
 use Rattle.cursor_arms.specs.declared.CursorDataType.TheVariants as cursor
 use Rattle.rewind_arm.specs.Rewinds.{RewindsTable}
-use Rattle.state.specs.declared.Ways.{Ways}
-
--- both ways, as the code has them
-pub both_offered : {v : Ways} {b : MemoryState} {p w : ℕ} {a c d : IntMap} → v ≡ both_at b w d → (b.map ≡ c) × (b.row ≡ p) → c ≡ a → offered (Some (at p a)) (Some (at w d)) ≡ Ok v
-both_offered {w} {d} is told same = sym (ap Ok (is ∙ ap₂ (λ q m. both_at (at q m) w d) told.1 (told.0 ∙ same)))
 
 -- ---- what the definition offers, by the emptiness
 
-abbrev emptied : ℕ → Defined → Defined
+abbrev pub emptied : ℕ → Defined → Defined
 emptied row m = update_cursor_table (set_empty (Some true)) (Some (Normal row)) m
 
 rewound : (l : Listed) (m : Defined) (row : ℕ) (e : Option Bool) → cursor_is_empty (Normal row) m ≡ e → rewind_cursor l m (Some (Normal row)) ≡ offers (branch_if (not (is_false e)) (emptied row (go_to l.p2 m))) (stay_if (not (is_true e)) (next m))
@@ -94,50 +91,49 @@ module _ (limit : ℕ) (cs : List Cell) (s : MemoryState) (x : Row) (row : ℕ) 
         frame = unchanged cs _ _;
       }
 
-  -- the branch behind the map
-  module _ (is : e ≡ None) (there two : List Cell) (behind : IntMap) (copied : CopiedMap cs there s.map (s.map.base + limit) behind) (changed : CursorTableChanged (set_empty (Some true)) there two behind (cursor.Normal row)) where
-    room : HasRoom there limit behind
-    room = behind_room limit cs there s.map current behind copied
+  pub table_unknown : e ≡ None → (ds : List Cell) (r : Step) → BothArm limit cs ds s x (λ m. done (emptied row m)) (λ m. done m) r → RewindsTable limit cs ds s x row r
+  table_unknown is ds r both =
+      record {
+        says = λ l j bound m le h. subst (TellsStep limit bound ds r) (sym (rewound l m row None (sym (emptiness bound m h) ∙ is))) (both.says l j bound m le h);
+        leaves = both.leaves;
+        frame = both.frame;
+      }
 
-    put : Puts limit there two behind (Ok behind) (λ m. done (emptied row m))
-    put =
-        record {
-          leads =
-              record {
-                says = λ bound m le h. record { state = emptied row m; answer = refl; holds = changed.holds limit bound m h (Some (Normal row)) (record { answer = refl; index = within }) };
-                leaves = record { base = refl; room = changed.room limit room };
-                frame = record { long = changed.frame.long; below = changed.frame.below; above = λ j le. changed.frame.above j (omega (arith, room.most)) };
-              };
-          frame = record { long = changed.frame.long; below = changed.frame.below; above = λ j le. changed.frame.above j (omega (arith, room.most)) };
-        }
+-- ---- the changes of both ways
 
-    kept_here : Puts limit two two s.map (Ok s.map) (λ m. done m)
-    kept_here =
-        record {
-          leads =
-              record {
-                says = λ bound m le h. record { state = m; answer = refl; holds = h };
-                leaves = record { base = refl; room = state_room limit cs there s.map current behind copied two put.frame };
-                frame = unchanged two _ _;
-              };
-          frame = unchanged two _ _;
-        }
+pub emptied-row : (row : ℕ) (m : Defined) → Kept (SameRow m) (done (emptied row m))
+unfolding update_cursor_table update_table
+emptied-row row m = value refl
 
-    both : BothArm limit cs two s x (λ m. done (emptied row m)) (λ m. done m) (offered (Some (at x.p2 behind)) (Some (at (s.row + 1) s.map)))
-    unfolding update_cursor_table update_table
-    both =
-        both_arm limit cs there s current behind copied x two (λ m. done (emptied row m)) (λ m. done m) (λ m. value refl) (λ m. value refl) behind (Ok behind) put refl two
-        (Ok s.map) kept_here
+module _ {a b : Store} {q : Result (Unit {0}) Refusal} (room : HasRoom (cells_in a) a.limit a.map) (done-well : q ≡ Ok tt) where
+  pub makes_empty : (row : ℕ) → row ≤ 65535 → Writes (λ cs ds m. CursorTableChanged (set_empty (Some true)) cs ds m (cursor.Normal row)) a b → Changes (λ limit cs ds m r. Puts limit cs ds m r (λ m. done (emptied row m))) a b q
+  makes_empty row within w =
+      let frame : Frame (cells_in a) (cells_in b) a.map.base a.limit = record { long = w.is.frame.long; below = w.is.frame.below; above = λ j le. w.is.frame.above j (omega (arith, room.most)) } in
+      record {
+        same = w.same;
+        is =
+            subst (λ r. Puts a.limit (cells_in a) (cells_in b) a.map r (λ m. done (emptied row m))) (sym (ap (stored_in b) done-well ∙ ap Ok w.map))
+            (record {
+              leads =
+                  record {
+                    says = λ bound m le h. record { state = emptied row m; answer = refl; holds = w.is.holds a.limit bound m h (Some (Normal row)) (record { answer = refl; index = within }) };
+                    leaves = record { base = refl; room = w.is.room a.limit room };
+                    frame = wider (cells_in a) (cells_in b) a.map.base a.limit frame;
+                  };
+              frame = frame;
+            });
+      }
 
-    pub table_unknown : RewindsTable limit cs two s x row (offered (Some (at x.p2 behind)) (Some (at (s.row + 1) s.map)))
-    table_unknown =
-        record {
-          says = λ l j bound m le h.
-              subst (Offered limit bound two (Some (at x.p2 behind)) (Some (at (s.row + 1) s.map))) (sym (rewound l m row None (sym (emptiness bound m h) ∙ is)))
-              (both.says l j bound m le h);
-          leaves = both.leaves;
-          frame = both.frame;
-        }
+  pub makes_nothing : b ≡ a → Changes (λ limit cs ds m r. Puts limit cs ds m r (λ m. done m)) a b q
+  makes_nothing e =
+      rw (e, done-well) (record {
+        same = same_store;
+        is =
+            record {
+              leads = record { says = λ bound m le h. record { state = m; answer = refl; holds = h }; leaves = record { base = refl; room = room }; frame = unchanged (cells_in a) _ _ };
+              frame = unchanged (cells_in a) _ _;
+            };
+      })
 
 -- ---- the arm
 

@@ -2,7 +2,7 @@
 // src/connection/explain.rs.
 #![tactic(auto)]
 
-ghost use Rattle.std.specs.Prelude.{◌≤◌, Ok};
+ghost use Rattle.std.specs.Prelude.{◌≤◌};
 ghost use Rattle.model.specs.Operation.{op_rewind};
 ghost use Rattle.state.specs.Stores.{cells_in, SameStore};
 ghost use Rattle.state.specs.Steps.{JumpArm};
@@ -16,23 +16,24 @@ use state::{Store, Ways};
 
 // The arm on the table that a row opened. Where it is not known whether the table is empty, the state that goes on keeps it so, and the
 // branch, in which it is empty, is built in the room behind the map.
-fn rewind_table(store: &mut Store, row: u64, x: Row, opened: u64) -> Ways
+fn rewind_table(store: &mut Store, row: u64, x: Row, opened: u64) -> Result<Ways, Refusal>
     requires { ReadyStore store.old row × (opened ≤ 65535) }
-    ensures { SameStore store.old store.new × RewindsTable store.old.limit (cells_in store.old) (cells_in store.new) (at row store.old.map) x opened (Ok result) }
+    ensures { SameStore store.old store.new × RewindsTable store.old.limit (cells_in store.old) (cells_in store.new) (at row store.old.map) x opened result }
 {
     let p = CursorDataType::Normal(opened);
     match p.is_empty(store) {
-        Some(false) => jump_arms::go_on(store, row + 1),
-        Some(true) => jump_arms::branch_at(store, x.p2),
-        None => {
-            let map = store.map;
-            let limit = store.limit;
-            store.map = map.copy_to(store.area, map.base + limit);
-            p.set_empty(store, Some(true));
-            let branch = store.at(x.p2);
-            store.map = map;
-            jump_arms::branch_and_go(branch, store, row + 1)
-        }
+        Some(false) => Ok(jump_arms::go_on(store, row + 1)),
+        Some(true) => Ok(jump_arms::branch_at(store, x.p2)),
+        None => jump_arms::both_ways(
+            store,
+            row,
+            x.p2,
+            |s| {
+                p.set_empty(s, Some(true));
+                Ok(())
+            },
+            |_| Ok(()),
+        ),
     }
 }
 
@@ -45,11 +46,8 @@ pub fn rewind(store: &mut Store, row: u64, x: Row) -> Result<Ways, Refusal>
         return Ok(jump_arms::go_on(store, row + 1));
     }
     match cursor_arms::read_cursor(store, x.p1)? {
-        None => Ok(Ways {
-            branch: None,
-            stays: None,
-        }),
-        Some(CursorDataType::Normal(opened)) => Ok(rewind_table(store, row, x, opened)),
+        None => Ok(Ways::default()),
+        Some(CursorDataType::Normal(opened)) => rewind_table(store, row, x, opened),
         Some(CursorDataType::Pseudo(_)) => Ok(jump_arms::go_on(store, row + 1)),
     }
 }

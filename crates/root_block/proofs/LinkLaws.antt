@@ -15,7 +15,7 @@ use Rattle.area.specs.declared.Cell.{Cell}
 use Rattle.area.proofs.CellLaws.{cells-kept}
 use Rattle.intmap.specs.Pick.{pick}
 use Rattle.intmap.specs.Signed.{offset}
-use Rattle.root_block.specs.Blocks.{page_of, db_of, next_of, column_of, first_of, IsBlock, in_bucket, Chain}
+use Rattle.root_block.specs.Blocks.{page_of, db_of, next_of, column_of, first_of, IsBlock, in_bucket, Chain, IsBlocks}
 use Rattle.root_block.specs.Build.{Indexable, Indexed, StandFrom, Stand, with_next, with_first, bucket_at, follows, linked, linked_all}
 use Rattle.root_block.proofs.FillLaws.{at_set}
 
@@ -244,3 +244,7 @@ module _ (t xs ys : List ℕ) (n : ℕ) (h : Indexable t xs) (s : Stand t xs ys 
             });
         bytes = l.bytes ∙ s.bytes;
       }
+
+-- the bytes are then the blocks of some records
+pub made_blocks : (t xs zs : List ℕ) → Indexable t xs → Indexed t xs zs → ∥ IsBlocks zs ∥₁
+made_blocks t xs zs h made = ∣ record { records = h.records; has = made.says h.records h.reads } ∣₁

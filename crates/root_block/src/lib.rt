@@ -8,7 +8,10 @@ ghost use Rattle.catalogue.specs.Records.{record_of};
 ghost use Rattle.root_block.specs.Blocks.{first_of};
 ghost use Rattle.root_block.specs.Build.{Indexable, Indexed, IsColumn, Unlinked, Stand, linked, linked_all};
 
+mod blocks;
+
 use area::Cell;
+pub use blocks::Blocks;
 use catalogue::Record;
 use text::Reader;
 use type_info::DataType;
@@ -50,7 +53,7 @@ fn read_records(catalogue: &[u8], blocks: &mut [u8]) -> usize
 {
     let mut reader = Reader { rest: catalogue };
     let mut n: usize = 0;
-    // A `while`: how many records there are is not known before the last is read.
+    // A `while let`: a `for` over `from_fn` needs an end that is known, as a range of cells beside it, and would count the records all the same.
     while let Some(r) = catalogue::read_record(&mut reader) {
         area::put_cell(blocks, n, block_of(r));
         n += 1;
@@ -66,7 +69,7 @@ fn bucket(blocks: &[u8], page: u64) -> usize
     (page % ((blocks.len() / 16) as u64)) as usize
 }
 
-// The link to the first record in the bucket of a page's word, 0 for none: a link is a word of the blocks.
+// The link to the first record in the bucket of a page's word, 0 for none, of blocks that may be in the making.
 pub fn first_link(blocks: &[u8], page: u64) -> usize
     requires { (0 < length (cells blocks.now)) × (length (cells blocks.now) ≤ 1048576) }
     ensures { (result ≡ first_of (get_or (cells blocks.now) (page % length (cells blocks.now)) blank)) × (result < 16777216) }

@@ -22,6 +22,23 @@ impl Row {
     }
 }
 
+// Where rows are in the area, and how many: a cell each, from `from` on.
+#[derive(Clone, Copy)]
+pub struct Rows {
+    pub from: usize,
+    pub count: usize,
+}
+
+impl Rows {
+    // Row i of them.
+    pub fn row_at(self, area: &[u8], i: usize) -> Row
+        requires { Inside area.now (self.from + i) 1 }
+        ensures { parts result ≡ row_in (get_or (cells area.now) (self.from + i) blank) }
+    {
+        unpack_row(area::cell_at(area, self.from + i))
+    }
+}
+
 // The word of −2^31, the least operand.
 const LEAST: u64 = 9223372034707292160;
 
@@ -116,14 +133,6 @@ pub fn unpack_row(c: Cell) -> Row
         p2: c.payload % 4294967296 + LEAST,
         p3: c.payload / 4294967296 + LEAST,
     }
-}
-
-// Row i of those that begin at the cell `from`.
-pub fn row_at(area: &[u8], from: usize, i: usize) -> Row
-    requires { Inside area.now (from + i) 1 }
-    ensures { parts result ≡ row_in (get_or (cells area.now) (from + i) blank) }
-{
-    unpack_row(area::cell_at(area, from + i))
 }
 
 // Makes r row i of those that begin at the cell `from`.

@@ -1,8 +1,8 @@
 -- An arm that writes registers is an access to the map, a refusal, or nothing. Assumes nothing.
 use Rattle.refusal.specs.Numbers.{number_of}
 use Rattle.refusal.specs.declared.Refusal.{Refusal}
-use Rattle.std.specs.Prelude.{Ok, Err}
-use mathlib.Core.Path.{◌≡◌, refl, subst}
+use Rattle.std.specs.Prelude.{Ok, Err, None}
+use mathlib.Core.Path.{◌≡◌, refl, ap₂, subst}
 use mathlib.Core.List.{List}
 use Prim.Native.Nat.{ℕ, ◌+◌}
 use Rattle.model.specs.Walk.{Tried, refused, done}
@@ -19,6 +19,12 @@ use Rattle.rows.specs.Judged.{Judged}
 use Rattle.rows.specs.declared.row.Row.{Row}
 use Rattle.state.specs.Leads.{Current, HoldsMap, Tells, Leads}
 use Rattle.state.specs.Arms.{Standard, RegisterArm}
+use Rattle.state.specs.Steps.{Way}
+use Rattle.state.specs.declared.Ways.{Ways}
+
+-- none of the ways, which is what `Default` gives
+pub no_ways : {w : Ways} → (w.branch ≡ None) × (w.stays ≡ None) → w ≡ record { branch = None; stays = None }
+no_ways e = ap₂ (λ (b : Way) (s : Way). record { branch = b; stays = s }) e.0 e.1
 
 -- f is what the arm gives, of every state that is held
 module _ {limit : ℕ} {cs ds : List Cell} {a : IntMap} {r : Stored} {f : MemoryState → Tried MemoryState} (led : Leads limit cs ds a r f) {x : Row} {o : RegisterOperation} where

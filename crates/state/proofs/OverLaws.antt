@@ -1,7 +1,8 @@
 -- A record put over another where that stands is what an insertion leaves, and a store. Assumes nothing.
-use Rattle.std.specs.Prelude.{Ok, Some, Option}
+use Rattle.std.proofs.lemmas.Option.{none-some}
+use Rattle.std.specs.Prelude.{Ok, None, Some, Option}
 use mathlib.Core.Path.{◌≡◌, refl, sym, ap, subst, ◌∙◌}
-use mathlib.Core.Bool.{Bool, true}
+use mathlib.Core.Bool.{Bool, true, false, true≢false}
 use mathlib.Core.List.{List, ◌∷◌}
 use Prim.Native.Nat.{ℕ, suc, ◌+◌, ◌-◌}
 use native.Mathlib.Omega.{arith}
@@ -12,7 +13,7 @@ use Rattle.area.specs.Cells.{blank}
 use Rattle.area.specs.declared.Cell.{Cell}
 use Rattle.intmap.specs.Change.{rekey}
 use Rattle.intmap.specs.Entries.{span}
-use Rattle.intmap.specs.Find.{seek}
+use Rattle.intmap.specs.Find.{seek_place, seek_found}
 use Rattle.intmap.specs.Get.{index_of, Judges, Index}
 use Rattle.intmap.specs.Map.{levels, IsMap}
 use Rattle.intmap.specs.Over.{Coverable, CopiesOver, Overlaid}
@@ -22,7 +23,7 @@ use Rattle.intmap.specs.Signed.{int_of}
 use Rattle.intmap.specs.declared.IntMap.{IntMap}
 use Rattle.intmap.proofs.ChangeLaws.{key-rekey}
 use Rattle.intmap.proofs.EntryLaws.{opened}
-use Rattle.intmap.proofs.FindLaws.{seek_key}
+use Rattle.intmap.proofs.FindLaws.{answers_found, seek_key}
 use Rattle.intmap.proofs.JudgedLaws.{store_tried}
 use Rattle.intmap.proofs.OverLaws.{overwritten_run}
 use Rattle.intmap.proofs.RunLaws.{size-pos}
@@ -38,11 +39,11 @@ judged (done k) = suc k
 
 -- the entry that was found
 module _ (cs : List Cell) (a : IntMap) (class k p : ℕ) (s : Option ℕ) (is : s ≡ entry_slot cs a class k) (e : s ≡ Some p) where
-  led : ((seek cs levels (class_key class k) a.len a.base).present ≡ true) × ((seek cs levels (class_key class k) a.len a.base).at ≡ p)
+  led : (seek_found cs levels (class_key class k) a.len a.base ≡ true) × ((seek_place cs levels (class_key class k) a.len a.base).at ≡ p)
   led = entry_led cs a class k p (sym is ∙ e)
 
   pub entry_column : IsMap cs a → IsColumn cs levels p
-  entry_column map = subst (IsColumn cs levels) led.1 (found_column cs a (class_key class k) (seek cs levels (class_key class k) a.len a.base) map refl led.0)
+  entry_column map = subst (IsColumn cs levels) led.1 (found_column cs a (class_key class k) map (answers_found cs levels (class_key class k) a.len a.base led.0))
 
   its_key : key_of (get_or cs p blank) ≡ class_key class k
   its_key = subst (λ q. key_of (get_or cs q blank) ≡ class_key class k) led.1 (seek_key cs levels (class_key class k) a.len a.base led.0)
@@ -53,7 +54,7 @@ module _ (cs : List Cell) (a : IntMap) (class k p : ℕ) (s : Option ℕ) (is : 
         flat = copies.flat;
         yes = λ y limit has.
             (let over = subst (λ n. Overlaid cs ds p (rekey n (headed cs at c))) its_key (copies.yes y) in
-            overwritten_run cs ds limit a (class_key class k) p (rekey (class_key class k) (headed cs at c)) has led.1 led.0 (key-rekey (class_key class k) (headed cs at c) (omega arith)) over);
+            overwritten_run cs ds limit a (class_key class k) p (rekey (class_key class k) (headed cs at c)) has _ (answers_found cs levels (class_key class k) a.len a.base led.0) led.1 (key-rekey (class_key class k) (headed cs at c) (omega arith)) over);
         none = λ y q at-q able. copies.none y (subst (λ z. Coverable cs at z c) (same_place (sym at-q ∙ sym is ∙ e)) able);
         no = copies.no;
       }

@@ -1,7 +1,9 @@
 -- A cell with an entry's key, in cells that hold a state, is the entry: what is read there is what `get` reads, and a store over it is the store of
 -- its class and index. Assumes nothing.
-use Rattle.std.proofs.lemmas.Option.{same_Some}
+use Rattle.std.proofs.lemmas.Option.{none-some, same_Some}
+use Rattle.std.specs.Bool.{then_some}
 use Rattle.std.specs.Prelude.{Ok, Err, Some, None, Option, Result}
+use Rattle.std.specs.Result.{result_ok}
 use mathlib.Core.Path.{◌≡◌, refl, sym, ap, ap₂, subst, ◌∙◌}
 use mathlib.Core.Logic.{◌⊎◌, inl, inr}
 use mathlib.Core.Bool.{Bool, true, false, ◌&&◌, true≢false}
@@ -17,16 +19,16 @@ use Rattle.model.specs.Walk.{Tried, refused, done}
 use Rattle.model.specs.State.{MemoryState}
 use Rattle.area.specs.Cells.{blank}
 use Rattle.area.specs.declared.Cell.{Cell}
-use Rattle.intmap.specs.Find.{place, seek}
+use Rattle.intmap.specs.Find.{place, has_entry, seek_place, seek_found, Sought, seek}
 use Rattle.intmap.specs.Runs.{size, sizes}
 use Rattle.intmap.specs.Get.{index_of, Judges, Gets, Index}
 use Rattle.intmap.specs.Map.{levels, IsMap, HasRoom, Frame}
 use Rattle.intmap.specs.Pack.{tag_of, key_of, with_key, class_key}
 use Rattle.intmap.specs.Pick.{pick}
 use Rattle.intmap.specs.Store.{NewAt, Stores, Stored}
-use Rattle.intmap.specs.declared.Found.{Found}
+use Rattle.intmap.specs.declared.Place.{Place}
 use Rattle.intmap.specs.declared.IntMap.{IntMap}
-use Rattle.intmap.proofs.FindLaws.{found_within, found-whole, found-key, seek_last, seek_stop, seek_beyond, seek_mono}
+use Rattle.intmap.proofs.FindLaws.{answered_err, answered_ok, answers_end, answers_found, answers_none, found_within, seek_behind, seek_beyond, seek_key, seek_last, seek_mono, seek_stop, seek_whole}
 use Rattle.intmap.proofs.RunLaws.{size-pos, size_record}
 use Rattle.intmap.proofs.GetLaws.{get_absent, get_at}
 use Rattle.intmap.proofs.JudgedLaws.{store_tried}
@@ -67,8 +69,22 @@ module _ (cs : List Cell) (end key p : ℕ) where
 pub guess_at : {cs : List Cell} {base end key p : ℕ} → KeyAt cs base end key p → Guesses cs base end key (Some p)
 guess_at {cs} {base} {end} {key} {p} k = record { is = λ q e. subst (KeyAt cs base end key) (same_Some p q e) k }
 
+-- a result that has a value
+pub was_ok : {A E : Type 0} {x : Result A E} {v : A} → result_ok x ≡ Some v → x ≡ Ok v
+was_ok {x = Ok w} {v} e = ap Ok (same_Some w v e)
+was_ok {x = Err k} {v} e = absurd (none-some v e)
+
+-- a value where a test holds
+pub then_some_by : {A : Type 0} (P : Option A → Type 0) (b : Bool) {x : A} → (b ≡ true → P (Some x)) → (b ≡ false → P None) → P (then_some b x)
+then_some_by P true some none = some refl
+then_some_by P false some none = none refl
+
 pub guessed : (cs : List Cell) (end key p base : ℕ) → base ≤ p → is_at cs end key p ≡ true → Guesses cs base end key (Some p)
 guessed cs end key p base low e = guess_at (key_told cs end key p base low e)
+
+pub guessed_if : (cs : List Cell) (end key p base : ℕ) (b : Bool) → base ≤ p → b ≡ is_at cs end key p → Guesses cs base end key (then_some b p)
+guessed_if cs end key p base b low is =
+    then_some_by (Guesses cs base end key) b (λ t. guessed cs end key p base low (sym is ∙ t)) (λ f. record { is = λ q e. absurd (none-some q e) })
 
 pub has_key : (cs : List Cell) (a : IntMap) (key p : ℕ) → a.base ≤ p → is_at cs (a.base + a.used) key p ≡ true → HasKey cs a key p
 has_key cs a key p low e = record { low = low; inside = (told_key cs (a.base + a.used) key p e).0; is = (told_key cs (a.base + a.used) key p e).1 }
@@ -87,10 +103,10 @@ module _ {cs : List Cell} {base end : ℕ} (h : HeldAmong cs base end) where
   pub among_inside : (end ≤ length cs) × (length cs ≤ 1048576)
   among_inside = (omega (arith, h.last, h.held.map.inside), h.held.map.small)
 
-  abbrev sought : ℕ → Found
-  sought p = seek cs levels (key_of (get_or cs p blank)) h.map.len h.map.base
+  abbrev sought : ℕ → Place
+  sought p = seek_place cs levels (key_of (get_or cs p blank)) h.map.len h.map.base
 
-  at_place : (p : ℕ) → base ≤ p → p < end → 65536 ≤ key_of (get_or cs p blank) → ((sought p).at ≡ p) × ((sought p).present ≡ true)
+  at_place : (p : ℕ) → base ≤ p → p < end → 65536 ≤ key_of (get_or cs p blank) → ((sought p).at ≡ p) × (has_entry cs (key_of (get_or cs p blank)) (sought p) ≡ true)
   at_place p from to outer = held_place h.held.holds p (omega (arith, h.first, from)) (omega (arith, h.last, to)) outer
 
   -- an entry of a higher key is beyond the other
@@ -111,7 +127,7 @@ module _ {cs : List Cell} {base end : ℕ} (h : HeldAmong cs base end) where
         go false true e f = absurd (omega (arith, less, size-pos cs levels p, above p q (omega (arith, from, less)) to from (omega (arith, less, to)) outer-p (ltb-true (key_of (get_or cs p blank)) (key_of (get_or cs q blank)) f)))
         go false false e f =
             let same : key_of (get_or cs q blank) ≡ key_of (get_or cs p blank) = omega (arith, ltb-false (key_of (get_or cs q blank)) (key_of (get_or cs p blank)) e, ltb-false (key_of (get_or cs p blank)) (key_of (get_or cs q blank)) f) in
-            let places = ap (λ k. (seek cs levels k h.map.len h.map.base).at) same in
+            let places = ap (λ k. (seek_place cs levels k h.map.len h.map.base).at) same in
             absurd (omega (arith, less, places, (at_place q from (omega (arith, less, to)) outer-q).0, (at_place p (omega (arith, from, less)) to outer-p).0))
 
     pub beyond : q + size cs levels q ≤ p
@@ -164,8 +180,8 @@ belongs_there {cs} {base} {end} {key} {p} h big low lt c ce k ke is =
 
 -- the place where a key belongs is where a search for it ends
 module _ {cs : List Cell} {a : IntMap} (held : Held cs a) {key p : ℕ} (big : 65536 ≤ key) (b : Belongs cs a.base (a.base + a.used) key p) where
-  abbrev w : Found
-  w = seek cs levels key a.len a.base
+  abbrev w : Place
+  w = seek_place cs levels key a.len a.base
 
   within : (a.base ≤ w.at) × (w.at ≤ a.base + sizes (size cs levels) a.len a.base)
   within = found_within cs levels key a.len a.base w refl
@@ -192,19 +208,19 @@ module _ {cs : List Cell} {a : IntMap} (held : Held cs a) {key p : ℕ} (big : 6
   -- the key is new, if it is not there
   pub belongs_new : is_at cs (a.base + a.used) key p ≡ false → NewAt cs a key p
   unfolding is_at
-  belongs_new absent = record { here = belongs_at; none = go w.present refl }
+  belongs_new absent = record { left = w.left; is = ap (λ z. Err (place z w.left)) (sym belongs_at) ∙ answers_none cs levels key a.len a.base (go (has_entry cs key w) refl) }
     where
-      go : (t : Bool) → w.present ≡ t → t ≡ false
+      go : (t : Bool) → has_entry cs key w ≡ t → t ≡ false
       go false e = refl
       go true e =
-          let whole = found-whole cs levels key a.len a.base w refl e in
-          let is = found-key cs levels key a.len a.base w refl e in
+          let whole = seek_whole cs levels key a.len a.base e in
+          let is = seek_key cs levels key a.len a.base e in
           absurd (true≢false (sym (ap₂ (λ s t. s && t) (lt-ltb p (a.base + a.used) (omega (arith, belongs_at, whole, size-pos cs levels w.at, held.map.used))) (eq-eqb (key_of (get_or cs p blank)) key (sym (ap (λ z. key_of (get_or cs z blank)) belongs_at) ∙ is))) ∙ absent))
 
-  pub belongs_last : p ≡ a.base + a.used → place (a.base + a.used) 0 false ≡ seek cs levels key a.len a.base
+  pub belongs_last : p ≡ a.base + a.used → Err (place (a.base + a.used) 0) ≡ seek cs levels key a.len a.base
   belongs_last e =
       let last : a.base + a.used ≡ a.base + sizes (size cs levels) a.len a.base = omega (arith, held.map.used) in
-      ap (λ z. place z 0 false) last ∙ sym (seek_last cs levels key a.len a.base (belongs_at ∙ e ∙ last))
+      answers_end cs levels key a.len a.base _ (ap (λ z. place z 0) last ∙ sym (seek_behind cs levels key a.len a.base (seek_last cs levels key a.len a.base (belongs_at ∙ e ∙ last)))) refl
 
 -- where a key was located
 pub guess_locates : {cs : List Cell} {base end key p : ℕ} {r : Option ℕ} → Guesses cs base end key r → r ≡ Some p → Locates cs base end key (Ok p)
@@ -250,25 +266,23 @@ module _ (cs : List Cell) (a : IntMap) (at n : ℕ) where
 
 -- ---- an entry that a search finds
 
-module _ (cs : List Cell) (a : IntMap) (class k key : ℕ) (ke : key ≡ class_key class k) where
-  module _ (w : Found) (found : w ≡ seek cs levels key a.len a.base) where
-    same_found : w ≡ seek cs levels (class_key class k) a.len a.base
-    same_found = found ∙ ap (λ n. seek cs levels n a.len a.base) ke
+-- one that was found at once
+pub entry_hinted : (cs : List Cell) (a : IntMap) (class k key : ℕ) → key ≡ class_key class k → Held cs a → (p : ℕ) → HasKey cs a key p → Some p ≡ entry_slot cs a class k
+unfolding entry_slot
+entry_hinted cs a class k key ke held p has =
+    let w = held_place held.holds p has.low has.inside (omega (arith, has.is, ke)) in
+    let same : key_of (get_or cs p blank) ≡ class_key class k = has.is ∙ ke in
+    ap Some (sym w.0) ∙ ap found_slot (answers_found cs levels (key_of (get_or cs p blank)) a.len a.base w.1) ∙ ap (λ n. found_slot (seek cs levels n a.len a.base)) same
 
-    pub entry_there : w.present ≡ true → Some w.at ≡ entry_slot cs a class k
-    unfolding entry_slot
-    entry_there e = ap (λ b. pick b (Some w.at) None) (sym e) ∙ ap found_slot same_found
+-- and none where its key belongs
+pub entry_none : (cs : List Cell) (a : IntMap) (class k key : ℕ) → key ≡ class_key class k → {p : ℕ} → NewAt cs a key p → None ≡ entry_slot cs a class k
+unfolding entry_slot
+entry_none cs a class k key ke new = ap found_slot new.is ∙ ap (λ n. found_slot (seek cs levels n a.len a.base)) ke
 
-    pub entry_none : w.present ≡ false → None ≡ entry_slot cs a class k
-    unfolding entry_slot
-    entry_none e = ap (λ b. pick b (Some w.at) None) (sym e) ∙ ap found_slot same_found
-
-  -- and one that was found at once
-  pub entry_hinted : Held cs a → (p : ℕ) → HasKey cs a key p → Some p ≡ entry_slot cs a class k
-  entry_hinted held p has =
-      let w = held_place held.holds p has.low has.inside (omega (arith, has.is, ke)) in
-      let same = ap (λ n. seek cs levels n a.len a.base) has.is in
-      ap Some (sym w.0 ∙ ap (λ f. f.at) same) ∙ entry_there (seek cs levels key a.len a.base) refl (sym (ap (λ f. f.present) same) ∙ w.1)
+-- and one that was located, or is nowhere
+pub located_entry : {cs : List Cell} {a : IntMap} (class k : ℕ) {key : ℕ} → key ≡ class_key class k → Held cs a → 65536 ≤ key → {r : Result ℕ ℕ} → Locates cs a.base (a.base + a.used) key r → result_ok r ≡ entry_slot cs a class k
+located_entry {cs} {a} class k {key} ke held big {r = Ok p} l = entry_hinted cs a class k key ke held p (located_key l refl)
+located_entry {cs} {a} class k {key} ke held big {r = Err p} l = entry_none cs a class k key ke (located_nowhere held big l refl)
 
 -- which of a slot's cases it is, as a number
 abbrev pub case : Option ℕ → ℕ
@@ -276,13 +290,13 @@ case None = 1
 case (Some p) = 2
 
 -- what an entry that is there says of the search
-pub entry_led : (cs : List Cell) (a : IntMap) (class k p : ℕ) → entry_slot cs a class k ≡ Some p → ((seek cs levels (class_key class k) a.len a.base).present ≡ true) × ((seek cs levels (class_key class k) a.len a.base).at ≡ p)
+pub entry_led : (cs : List Cell) (a : IntMap) (class k p : ℕ) → entry_slot cs a class k ≡ Some p → (seek_found cs levels (class_key class k) a.len a.base ≡ true) × ((seek_place cs levels (class_key class k) a.len a.base).at ≡ p)
 unfolding entry_slot
-entry_led cs a class k p e = go (seek cs levels (class_key class k) a.len a.base).present refl e
+entry_led cs a class k p e = go (seek cs levels (class_key class k) a.len a.base) refl e
   where
-    go : (b : Bool) → (seek cs levels (class_key class k) a.len a.base).present ≡ b → pick b (Some (seek cs levels (class_key class k) a.len a.base).at) None ≡ Some p → ((seek cs levels (class_key class k) a.len a.base).present ≡ true) × ((seek cs levels (class_key class k) a.len a.base).at ≡ p)
-    go true h s = (h, cc)
-    go false h s = absurd (omega (arith, ap case s))
+    go : (s : Sought) → s ≡ seek cs levels (class_key class k) a.len a.base → found_slot s ≡ Some p → (seek_found cs levels (class_key class k) a.len a.base ≡ true) × ((seek_place cs levels (class_key class k) a.len a.base).at ≡ p)
+    go (Ok w) h f = let t = answered_ok cs levels (class_key class k) a.len a.base w h in (t.1, ap (λ (x : Place). x.at) (sym t.0) ∙ cc)
+    go (Err w) h f = absurd (omega (arith, ap case f))
 
 -- by its index
 module _ (cs : List Cell) (a : IntMap) (class i : ℕ) (x : Index) (judged : Judges i x) where
@@ -298,23 +312,19 @@ pub entry_gets : (cs : List Cell) (a : IntMap) (class i k : ℕ) (x : Index) →
 unfolding entry_slot
 entry_gets cs a class i k x judges is xe r re = subst (λ o. Gets cs a class i (Ok o)) (sym re) (go (seek cs levels (class_key class k) a.len a.base) refl)
   where
-    by : (w : Found) → w ≡ seek cs levels (class_key class k) a.len a.base → (b : Bool) → w.present ≡ b → Gets cs a class i (Ok (pick b (Some w.at) None))
-    by w e true p = get_at cs a class i x judges.answer is k xe w e p
-    by w e false p = get_absent cs a class i x judges.answer is k xe w e p
-
-    go : (w : Found) → w ≡ seek cs levels (class_key class k) a.len a.base → Gets cs a class i (Ok (found_slot w))
-    go w e = by w e w.present refl
+    go : (s : Sought) → s ≡ seek cs levels (class_key class k) a.len a.base → Gets cs a class i (Ok (found_slot s))
+    go (Ok w) e = get_at cs a class i x judges.answer is k xe e
+    go (Err w) e = get_absent cs a class i x judges.answer is k xe e
 
 module _ {cs : List Cell} {a : IntMap} {class i p : ℕ} (own : Own cs a class i p) where
   abbrev key : ℕ
   key = class_key class own.place
 
   module _ {limit bound : ℕ} {m : MemoryState} (h : HoldsMap limit bound cs a m) where
-    found : ((seek cs levels key a.len a.base).at ≡ p) × ((seek cs levels key a.len a.base).present ≡ true)
+    found : ((seek_place cs levels key a.len a.base).at ≡ p) × (seek_found cs levels key a.len a.base ≡ true)
     found =
         let w = held_place h p own.has.low own.has.inside (omega (arith, own.has.is)) in
-        let same = ap (λ k. seek cs levels k a.len a.base) (sym own.has.is) in
-        (ap (λ f. f.at) same ∙ w.0, ap (λ f. f.present) same ∙ w.1)
+        (ap (λ k. (seek_place cs levels k a.len a.base).at) (sym own.has.is) ∙ w.0, ap (λ k. seek_found cs levels k a.len a.base) (sym own.has.is) ∙ w.1)
 
   -- the cell c with the key, written over it
   module _ (limit : ℕ) (c x : Cell) (has : HasRoom cs limit a) (plain : tag_of c ≡ 2 → ⊥) (xe : x ≡ with_key key c) (ds : List Cell) (e : ds ≡ set cs p x) where
@@ -337,7 +347,7 @@ module _ {cs : List Cell} {a : IntMap} {class i p : ℕ} (own : Own cs a class i
         record {
           says = λ bound m h.
               store_tried cs ds limit a class i 0 (c ∷ []) (Ok own.place) (sym own.judged) own.place refl key (x ∷ []) (Ok a) (omega arith) refl (ap (λ y. y ∷ []) xe)
-              (overwritten cs ds limit a key p x has own.plain new same_key (found h).0 (found h).1 e);
+              (overwritten cs ds limit a key p x has own.plain new same_key _ (answers_found cs levels key a.len a.base (found h).1) (found h).0 e);
           leaves = record { base = refl; room = alike_room (alike cs ds p x e (omega (arith, own.has.inside, has.most, has.room)) own.plain new (same_key ∙ sym own.has.is)) has };
           frame = frame;
         }
@@ -367,7 +377,7 @@ module _ {cs : List Cell} {a : IntMap} {class i k key : ℕ} {x : Index} (judges
 
   -- has no own cell, if its key is new
   pub new_own : Held cs a → {p : ℕ} → NewAt cs a key p → (q : ℕ) → Own cs a class i q → ⊥
-  new_own held new q own = true≢false (sym (found own held.holds).1 ∙ ap (λ n. (seek cs levels n a.len a.base).present) (its_key own) ∙ new.none)
+  new_own held new q own = true≢false (sym (found own held.holds).1 ∙ ap (λ n. seek_found cs levels n a.len a.base) (its_key own) ∙ (answered_err _ _ _ _ _ _ new.is).1)
 
   -- c was written over the cell that has its key, or that is a record's
   module _ {ds : List Cell} {p : ℕ} {c : Cell} {r : Bool} (has : HasKey cs a key p) (plain : tag_of c ≡ 2 → ⊥) (o : PutsPlain cs ds p key c r) where
@@ -388,7 +398,7 @@ module _ {cs : List Cell} {a : IntMap} {class i k key : ℕ} {x : Index} (judges
         same : (q : ℕ) → Own cs a class i q → q ≡ p
         same q own =
             let there = held_place held.holds p has.low has.inside (omega (arith, has.is, ke)) in
-            sym (found own held.holds).0 ∙ ap (λ n. (seek cs levels n a.len a.base).at) (its_key own ∙ sym has.is) ∙ there.0
+            sym (found own held.holds).0 ∙ ap (λ n. (seek_place cs levels n a.len a.base).at) (its_key own ∙ sym has.is) ∙ there.0
 
     pub its_overwritten : (r ≡ true → p < a.base + a.used) × (Own cs a class i p → r ≡ true)
     its_overwritten = (λ e. has.inside, λ own. go r refl own)
@@ -410,6 +420,10 @@ near_written {p = p} judges xe ke guess e plain o =
       yes = λ f a first last limit room. put_stored judges xe ke (record { low = omega (arith, first, k.low); inside = omega (arith, last, k.inside); is = k.is }) plain o f limit room;
       no = λ f. (o.no f).1;
     }
+
+-- another write, where nothing has changed
+pub near_again : {cs es ds : List Cell} {base end i : ℕ} {c : Cell} {r s : Bool} → WritesNear cs es base end i c r → r ≡ false → WritesNear es ds base end i c s → WritesNear cs ds base end i c s
+near_again {ds = ds} {base} {end} {i} {c} {s = s} w e v = subst (λ l. WritesNear l ds base end i c s) (w.no e) v
 
 -- register i's entry is where its key was guessed
 pub gets_near : {cs : List Cell} {base end i k key : ℕ} {x : Index} {r : Option ℕ} → Judges i x → x ≡ Ok k → key ≡ class_key 0 k → Guesses cs base end key r → GetsNear cs base end i r
@@ -446,8 +460,8 @@ keyed_new {cs} {a} {key} {p} new c x xe plain = (λ t. plain (sym (keyed_tag key
 pub cell_leads : {limit : ℕ} {cs ds : List Cell} {a : IntMap} {class i : ℕ} {c : Cell} {r : Stored} {f : MemoryState → Tried MemoryState} → StoresCell limit cs ds a class i c r → (Stores cs ds limit a class i 0 (c ∷ []) r → Leads limit cs ds a r f) → Leads limit cs ds a r f
 cell_leads {limit} {cs} {ds} {a} st leads = record { says = λ bound m le h. (leads (st.says bound m h)).says bound m le h; leaves = st.leaves; frame = wider cs ds a.base limit st.frame }
 
-pub key_as : (cs : List Cell) (a : IntMap) (key k : ℕ) (w : Found) → key ≡ k → w ≡ seek cs levels key a.len a.base → w ≡ seek cs levels k a.len a.base
-key_as cs a key k w e f = f ∙ ap (λ n. seek cs levels n a.len a.base) e
+pub key_as : (cs : List Cell) (a : IntMap) (key k : ℕ) (s : Sought) → key ≡ k → s ≡ seek cs levels key a.len a.base → s ≡ seek cs levels k a.len a.base
+key_as cs a key k s e f = f ∙ ap (λ n. seek cs levels n a.len a.base) e
 
 pub near_leads : {cs ds : List Cell} {base end i : ℕ} {c : Cell} {r : Bool} {f : ℕ → MemoryState → Tried MemoryState} → WritesNear cs ds base end i c r → ((a : IntMap) (limit : ℕ) → Stores cs ds limit a 0 i 0 (c ∷ []) (Ok a) → Leads limit cs ds a (Ok a) (f limit)) → LeadsNear cs ds base end f r
 near_leads w leads = record { yes = λ e a first last limit current. cell_leads (w.yes e a first last limit current.room) (leads a limit); no = w.no }

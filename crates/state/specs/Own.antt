@@ -7,20 +7,20 @@ use Rattle.model.specs.State.{MemoryState}
 use Rattle.model.specs.Access.{index, ◌>>=◌}
 use Rattle.area.specs.Cells.{blank}
 use Rattle.area.specs.declared.Cell.{Cell}
-use Rattle.intmap.specs.Find.{seek}
+use Rattle.intmap.specs.Find.{Sought, seek}
 use Rattle.intmap.specs.Get.{Gets, Slot}
 use Rattle.intmap.specs.Map.{levels, HasRoom, Frame}
 use Rattle.intmap.specs.Pack.{tag_of, key_of, with_key, class_key}
 use Rattle.intmap.specs.Pick.{pick}
 use Rattle.intmap.specs.Signed.{int_of}
 use Rattle.intmap.specs.Store.{Stores, Stored}
-use Rattle.intmap.specs.declared.Found.{Found}
 use Rattle.intmap.specs.declared.IntMap.{IntMap}
 use Rattle.state.specs.Leads.{HoldsMap, Leaves, Held, Current, Leads}
 
 -- where a search led, if it found the key
-abbrev pub found_slot : Found → Option ℕ
-found_slot w = pick w.present (Some w.at) None
+abbrev pub found_slot : Sought → Option ℕ
+found_slot (Ok w) = Some w.at
+found_slot (Err w) = None
 
 -- the entry of an index in a class
 unfoldable pub entry_slot : List Cell → IntMap → ℕ → ℕ → Option ℕ
@@ -43,6 +43,10 @@ pub record FindsIndex (cs : List Cell) (a : IntMap) (class i : ℕ) (r : Slot) :
 -- whether p is before `end` and the cell there has the key
 unfoldable pub is_at : List Cell → ℕ → ℕ → ℕ → Bool
 is_at cs end key p = ltb p end && eqb (key_of (get_or cs p blank)) key
+
+-- the cell at `at` is the map's
+abbrev pub InMap : IntMap → ℕ → Type 0
+InMap a at = (a.base ≤ at) × (at < a.base + a.used)
 
 -- whether the n cells behind `at` are followed by an entry or by the map's end: then n columns behind a head there have one cell each
 unfoldable pub is_flat : List Cell → IntMap → ℕ → ℕ → Bool

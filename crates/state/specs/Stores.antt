@@ -1,9 +1,11 @@
 -- A state's map in the area as one value, lent: what is asked of it, and what a change of it gives, said of the limit, the cells before and
 -- after, and the map. Assumes nothing.
-use Rattle.std.specs.Prelude.{◌≡◌, List, ℕ, Ok, Err, Result}
+use Rattle.std.specs.Prelude.{◌≡◌, List, ℕ, ◌+◌, ◌≤◌, Ok, Err, Result}
 use Rattle.refusal.specs.declared.Refusal.{Refusal}
 use Rattle.area.specs.Cells.{cells}
 use Rattle.area.specs.declared.Cell.{Cell}
+use Rattle.intmap.specs.Map.{levels}
+use Rattle.intmap.specs.Runs.{size}
 use Rattle.intmap.specs.Store.{Stored}
 use Rattle.intmap.specs.declared.IntMap.{IntMap}
 use Rattle.state.specs.Leads.{Held, Current}
@@ -17,6 +19,10 @@ IsHeld s = Held (cells_in s) s.map
 
 abbrev pub IsCurrent : Store → Type 0
 IsCurrent s = Current s.limit (cells_in s) s.map
+
+-- the column at `at` lies in the map with all its cells. It is of cells that are lent, so no ghost field can hold it
+abbrev pub HasRun : Store → ℕ → Type 0
+HasRun s at = (s.map.base ≤ at) × (at + size (cells_in s) levels at ≤ s.map.base + s.map.used)
 
 -- the same buffer, and the same limit
 pub record SameStore (s t : Store) : Type 0 where

@@ -1,7 +1,7 @@
 // Accesses to the state in the area by value: a register read, and values of one cell stored.
 #![tactic(auto)]
 
-ghost use Rattle.std.specs.Prelude.{◌≡◌, true, false, ◌+◌, ◌<◌, ◌≤◌, length, get_or, None};
+ghost use Rattle.std.specs.Prelude.{◌≡◌, true, false, ◌+◌, ◌<◌, ◌≤◌, length, None};
 ghost use Rattle.model.specs.State.{Column, Single, Int, datatype_code};
 ghost use Rattle.model.specs.Access.{store_register};
 ghost use Rattle.area.specs.Cells.{cell, cells, Inside};
@@ -9,11 +9,11 @@ ghost use Rattle.intmap.specs.Find.{seek};
 ghost use Rattle.intmap.specs.Map.{levels, IsMap, HasRoom};
 ghost use Rattle.intmap.specs.Pack.{tag_of, with_nullable, class_number, class_key};
 ghost use Rattle.intmap.specs.Signed.{int_of};
-ghost use Rattle.encoding.specs.Encode.{nullable_code, single};
+ghost use Rattle.encoding.specs.Encode.{nullable_code, single, int, columns_head};
 ghost use Rattle.encoding.specs.Decode.{datatype_in, nullable_in};
 ghost use Rattle.rows.specs.Parts.{Operand};
 ghost use Rattle.state.specs.Leads.{Held, Current, Leads};
-ghost use Rattle.state.specs.Own.{entry_slot, is_at, is_flat, HeldAmong, Guesses, FindsIndex, FlatSize, Reaches, EntryBelow, Belongs, Locates, PutsPlain, OverwritesOwn, StoresCell, WritesNear, LeadsNear, GetsNear, EntryNear, FlatBefore, Overwrites};
+ghost use Rattle.state.specs.Own.{is_at, HeldAmong, Guesses, FlatSize, Reaches, EntryBelow, Belongs, Locates, PutsPlain, OverwritesOwn, StoresCell, WritesNear, LeadsNear, GetsNear, EntryNear, FlatBefore, Overwrites, entry_slot, InMap, is_flat, FindsIndex};
 ghost use Rattle.state.specs.Over.{IsHead, OverEntry, OverRegister};
 ghost use Rattle.state.specs.Reads.{register_in, Reads};
 
@@ -21,7 +21,7 @@ mod registers;
 mod store;
 
 use area::Cell;
-use intmap::{Class, Found, IntMap};
+use intmap::{Class, IntMap, Place};
 use refusal::Refusal;
 pub use registers::Registers;
 pub use store::Store;
@@ -35,8 +35,8 @@ pub struct MemoryState {
     pub row: u64,
 }
 
-// The ways that a row offers: a branch, and the state that goes on.
-#[derive(Clone, Copy)]
+// The ways that a row offers: a branch, and the state that goes on. None by default.
+#[derive(Clone, Copy, Default)]
 pub struct Ways {
     pub branch: Option<MemoryState>,
     pub stays: Option<MemoryState>,
@@ -85,6 +85,26 @@ pub fn single(d: DataType, nullable: Option<bool>) -> Cell
     Cell {
         head: intmap::pack(intmap::SINGLE, d.code(), nullable_code(nullable), 0),
         payload: 0,
+    }
+}
+
+// A known number's cell, under key 0: `value` is an operand's word.
+pub fn int(value: u64) -> Cell
+    ensures { result ≡ int value 0 }
+{
+    Cell {
+        head: intmap::INT,
+        payload: value,
+    }
+}
+
+// The head of n columns, a record's or a table's, under key 0. Of a table, nullable says whether it is empty.
+pub fn columns_head(n: u64, nullable: Option<bool>) -> Cell
+    ensures { result ≡ columns_head n (nullable_code nullable) 0 }
+{
+    Cell {
+        head: intmap::pack(intmap::RECORD, 0, nullable_code(nullable), 0),
+        payload: n,
     }
 }
 
@@ -149,7 +169,8 @@ fn flat_size(c: Cell) -> usize
 }
 
 // Looks for a key at its distance from the first entry of a map, whose cells are from `base` on and before `end`: it is there, if the entries of all
-// keys between are, of one cell each.
+// keys between are, of one cell each. These take the map's two ends, not the map: what they promise is of every map with these ends, whatever its
+// number of entries, and a map goes in memory, not in registers.
 fn near_first(area: &[u8], base: usize, end: usize, key: u64) -> Option<usize>
     requires { HeldAmong (cells area.now) base end × (key < 1099511627776) }
     ensures { Guesses (cells area.now) base end key result }
@@ -165,10 +186,7 @@ fn near_first(area: &[u8], base: usize, end: usize, key: u64) -> Option<usize>
         return None;
     }
     let p = base + (key - k) as usize;
-    if is_at(area, end, p, key) {
-        return Some(p);
-    }
-    None
+    is_at(area, end, p, key).then_some(p)
 }
 
 // How many of the last entries are tried for a cursor or table.
@@ -260,6 +278,8 @@ fn top_near(area: &[u8], base: usize, end: usize, p: usize, key: u64) -> usize
 }
 
 // Looks for a register's key near its distance from the first entry, from where a record before it, or a register that is absent, has moved it.
+// Always inlined, as `near` needs it.
+#[inline(always)]
 fn near_moved(area: &[u8], base: usize, end: usize, key: u64) -> Option<usize>
     requires { HeldAmong (cells area.now) base end }
     ensures { Guesses (cells area.now) base end key result }
@@ -406,9 +426,9 @@ pub fn flat_before(area: &[u8], end: usize, at: usize, n: u64) -> bool
     intmap::begins(area::cell_at(area, next))
 }
 
-// The same, of a map.
+// The same, of a map. This and the readers below are methods of `Store` too, each a call of these: who is lent the area for reading has no `Store`.
 pub fn is_flat(map: IntMap, area: &[u8], at: usize, n: u64) -> bool
-    requires { IsMap (cells area.now) map × (map.base ≤ at) × (at < map.base + map.used) }
+    requires { IsMap (cells area.now) map × InMap map at }
     ensures { result ≡ is_flat (cells area.now) map at n }
 {
     flat_before(area, map.base + map.used, at, n)
@@ -420,25 +440,18 @@ pub fn entry_at(map: IntMap, area: &[u8], class: Class, k: u64) -> Option<usize>
     ensures { result ≡ entry_slot (cells area.now) map (class_number class) k }
 {
     let key = intmap::class_key(class, k);
-    match locate(area, map.base, map.base + map.used, key) {
-        Ok(p) => Some(p),
-        Err(_) => None,
-    }
+    locate(area, map.base, map.base + map.used, key).ok()
 }
 
 // Where a place in a class is or belongs: at the map's end, if its key is above all, or by a search of all entries.
-pub fn place_of(map: IntMap, area: &[u8], class: Class, k: u64) -> Found
+pub fn place_of(map: IntMap, area: &[u8], class: Class, k: u64) -> Result<Place, Place>
     requires { Held (cells area.now) map × (k ≤ 65535) }
     ensures { result ≡ seek (cells area.now) levels (class_key (class_number class) k) map.len map.base }
 {
     let key = intmap::class_key(class, k);
     let end = map.base + map.used;
     if place(area, map.base, end, key) == end {
-        return Found {
-            at: end,
-            left: 0,
-            present: false,
-        };
+        return Err(Place { at: end, left: 0 });
     }
     map.find(area, key)
 }
@@ -561,6 +574,23 @@ pub fn write_near(area: &mut [u8], base: usize, end: usize, i: u64, head: u64, p
     put_plain(area, p, key, Cell { head, payload })
 }
 
+// The same where a record before it, or a register that is absent, has moved the cell. It stays a call: where `write_near` looked so far, Column and
+// Integer got a tenth dearer.
+#[inline(never)]
+fn write_moved(area: &mut [u8], base: usize, end: usize, i: u64, head: u64, payload: u64) -> bool
+    requires { HeldAmong (cells area.old) base end × (tag_of (cell head payload) ≡ 2 → ⊥) }
+    ensures { WritesNear (cells area.old) (cells area.new) base end i (cell head payload) result }
+{
+    let Ok(k) = intmap::judge_index(i) else {
+        return false;
+    };
+    let key = intmap::class_key(Class::Registers, k);
+    let Some(p) = near_moved(area, base, end, key) else {
+        return false;
+    };
+    put_plain(area, p, key, Cell { head, payload })
+}
+
 // Where the entry of place k in a class is, if it is one of the last.
 pub fn last_near(area: &[u8], base: usize, end: usize, class: Class, k: u64) -> Option<usize>
     requires { HeldAmong (cells area.now) base end × (k ≤ 65535) }
@@ -574,9 +604,7 @@ pub fn register_near(area: &[u8], base: usize, end: usize, i: u64) -> Option<usi
     requires { HeldAmong (cells area.now) base end }
     ensures { GetsNear (cells area.now) base end i result }
 {
-    let Ok(k) = intmap::judge_index(i) else {
-        return None;
-    };
+    let k = intmap::judge_index(i).ok()?;
     near_first(area, base, end, intmap::class_key(Class::Registers, k))
 }
 
@@ -596,12 +624,16 @@ pub fn single_near(
     write_near(area, base, end, i, c.head, c.payload)
 }
 
-// Stores a known number, as an operand's word, over register i's own cell, as `write_near` does.
+// Stores a known number, as an operand's word, over register i's own cell, also where that has been moved: Gosub and InitCoroutine keep one behind a
+// record.
 pub fn int_near(area: &mut [u8], base: usize, end: usize, i: u64, value: u64) -> bool
     requires { HeldAmong (cells area.old) base end × Operand value }
     ensures { LeadsNear (cells area.old) (cells area.new) base end (λ limit. store_register limit (int_of i) (Int (int_of value))) result }
 {
-    write_near(area, base, end, i, intmap::INT, value)
+    if write_near(area, base, end, i, intmap::INT, value) {
+        return true;
+    }
+    write_moved(area, base, end, i, intmap::INT, value)
 }
 
 // Stores a cell that is no record's in register i.
@@ -648,9 +680,7 @@ fn store_int(
     requires { Current limit (cells area.old) map × Operand value }
     ensures { Leads limit (cells area.old) (cells area.new) map result (store_register limit (int_of i) (Int (int_of value))) }
 {
-    let head = intmap::INT;
-    let payload = value;
-    store_register(map, area, i, Cell { head, payload }, limit)
+    store_register(map, area, i, int(value), limit)
 }
 
 // What a register holds. A plain column is told by its kind and nullable, a record by the place of its run, a known number by its word.

@@ -1,6 +1,6 @@
 // A state's map in the area, lent as one value.
 
-ghost use Rattle.std.specs.Prelude.{◌≡◌, ◌∷◌, [], ◌+◌, ◌<◌, ◌≤◌, get_or, set};
+ghost use Rattle.std.specs.Prelude.{◌≡◌, ◌∷◌, [], ◌<◌, ◌≤◌, get_or, set};
 ghost use Rattle.model.specs.State.{Column, Single, Int};
 ghost use Rattle.model.specs.Access.{store_register};
 ghost use Rattle.area.specs.Cells.{blank, Inside};
@@ -16,13 +16,13 @@ ghost use Rattle.intmap.specs.Store.{RunAbove, Stores};
 ghost use Rattle.rows.specs.Parts.{Operand};
 ghost use Rattle.state.specs.Leads.{Leads};
 ghost use Rattle.state.specs.Over.{IsHead, OverEntry, OverRegister};
-ghost use Rattle.state.specs.Own.{entry_slot, is_flat, FindsIndex, OverwritesOwn, StoresCell};
+ghost use Rattle.state.specs.Own.{entry_slot, InMap, is_flat, FindsIndex, OverwritesOwn, StoresCell};
 ghost use Rattle.state.specs.Reads.{Reads};
 ghost use Rattle.state.specs.Stores.{cells_in, IsHeld, IsCurrent, Changes, Writes};
 
 use super::{MemoryState, Register};
 use area::Cell;
-use intmap::{Class, Found, IntMap};
+use intmap::{Class, IntMap, Place};
 use refusal::Refusal;
 use type_info::DataType;
 
@@ -50,7 +50,7 @@ impl Store<'_> {
         area::cell_at(self.area, at)
     }
 
-    pub fn find(&self, key: u64) -> Found
+    pub fn find(&self, key: u64) -> Result<Place, Place>
         requires { IsMap (cells_in self.now) self.now.map }
         ensures { result ≡ seek (cells_in self.now) levels key self.now.map.len self.now.map.base }
     {
@@ -59,13 +59,13 @@ impl Store<'_> {
 
     // Whether the n cells behind `at` are followed by an entry or by the map's end.
     pub fn is_flat(&self, at: usize, n: u64) -> bool
-        requires { IsMap (cells_in self.now) self.now.map × (self.now.map.base ≤ at) × (at < self.now.map.base + self.now.map.used) }
+        requires { IsMap (cells_in self.now) self.now.map × InMap self.now.map at }
         ensures { result ≡ is_flat (cells_in self.now) self.now.map at n }
     {
         super::is_flat(self.map, self.area, at, n)
     }
 
-    // Where the entry of a place in a class is.
+    // Where the entry of a place in a class is: at once, or by a search of all entries.
     pub fn entry_at(&self, class: Class, k: u64) -> Option<usize>
         requires { IsHeld self.now × (k ≤ 65535) }
         ensures { result ≡ entry_slot (cells_in self.now) self.now.map (class_number class) k }
@@ -73,8 +73,8 @@ impl Store<'_> {
         super::entry_at(self.map, self.area, class, k)
     }
 
-    // Where a place in a class is or belongs.
-    pub fn place_of(&self, class: Class, k: u64) -> Found
+    // Where a place in a class is or belongs: at the map's end, if its key is above all, or by a search of all entries.
+    pub fn place_of(&self, class: Class, k: u64) -> Result<Place, Place>
         requires { IsHeld self.now × (k ≤ 65535) }
         ensures { result ≡ seek (cells_in self.now) levels (class_key (class_number class) k) self.now.map.len self.now.map.base }
     {

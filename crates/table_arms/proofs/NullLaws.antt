@@ -28,7 +28,7 @@ use Rattle.area.specs.declared.Cell.{Cell}
 use Rattle.intmap.specs.Map.{levels, IsMap, HasRoom, Frame}
 use Rattle.intmap.specs.Pack.{tag_of, nullable_of, with_nullable}
 use Rattle.intmap.specs.Pick.{pick}
-use Rattle.intmap.specs.Runs.{size, sizes, AreColumns, Agree}
+use Rattle.intmap.specs.Runs.{size, sizes, IsColumn, AreColumns, Agree}
 use Rattle.intmap.specs.Signed.{int_of}
 use Rattle.intmap.specs.declared.IntMap.{IntMap}
 use Rattle.intmap.proofs.StoreLaws.{room_map}
@@ -113,6 +113,9 @@ module _ (f : Cell → Cell) (d : ℕ) (g : Cell → ℕ) (keeps : (c : Cell) �
 
 -- ---- a turn of the loop
 
+pub first_column : (cs : List Cell) (n p : ℕ) → 0 < n → AreColumns cs 8 n p → IsColumn cs 8 p
+first_column cs n p some are = record { fits = omega (arith, sizes_step (size cs 8) n p some, are.fits); small = are.small }
+
 module _ (now after : List Cell) (left p r : ℕ) (c x : Cell) (lt : 0 < left) (ce : c ≡ get_or now p blank) (re : r ≡ size now 8 p) (xe : x ≡ single_nullable 2 c) (w : after ≡ set now p x) where
   after_is : after ≡ changed (single_nullable 2) 8 now p
   after_is = w ∙ ap (set now p) (xe ∙ ap (λ y. single_nullable 2 y) ce)
@@ -125,8 +128,13 @@ module _ (now after : List Cell) (left p r : ℕ) (c x : Cell) (lt : 0 < left) (
       one zero lt = absurd (omega arith)
       one (suc n) lt = let z : suc n - 1 ≡ n = omega arith in rw z
 
-  pub null_room : (most : ℕ) → p + sizes (size now 8) left p ≤ most → p + r + sizes (size after 8) (left - 1) (p + r) ≤ most
-  null_room most le = rw (after_is, re) (omega (arith, changed_sizes (single_nullable 2) 8 now p (left - 1), sizes_step (size now 8) left p lt))
+  pub null_rest : AreColumns now 8 left p → AreColumns after 8 (left - 1) (p + r)
+  null_rest are =
+      let long : length after ≡ length now = ap length w ∙ length-set now p x in
+      record {
+        fits = rw long (rw (after_is, re) (omega (arith, are.fits, changed_sizes (single_nullable 2) 8 now p (left - 1), sizes_step (size now 8) left p lt)));
+        small = omega (arith, long, are.small);
+      }
 
 -- columns of one cell
 module _ (now after : List Cell) (left p : ℕ) (lt : 0 < left) (w : after ≡ set now p (single_nullable 2 (get_or now p blank))) (flat : sizes (size now 8) left p ≡ left) where

@@ -4,13 +4,12 @@
 ghost use Rattle.std.specs.Prelude.{◌≡◌, length, ℕ, ◌+◌, ◌≤◌};
 ghost use Rattle.model.specs.Operation.{op_null_row, op_insert};
 ghost use Rattle.area.specs.Cells.{cells, Inside};
-ghost use Rattle.intmap.specs.Map.{levels};
 ghost use Rattle.intmap.specs.Runs.{size, sizes, AreColumns};
 ghost use Rattle.intmap.specs.Signed.{int_of};
 ghost use Rattle.encoding.specs.Heads.{single_nullable};
 ghost use Rattle.state.specs.Leads.{Current, SomeCurrent, Leads};
 ghost use Rattle.state.specs.Arms.{CursorArm};
-ghost use Rattle.state.specs.Stores.{cells_in, IsCurrent, Changes};
+ghost use Rattle.state.specs.Stores.{cells_in, IsCurrent, HasRun, Changes};
 ghost use Rattle.table_arms.specs.Nulled.{NulledCell, AreNullable, Nulled};
 ghost use Rattle.table_arms.specs.Inserted.{fill_table, StoresTable, InsertsRecord, InsertsFrom};
 
@@ -39,14 +38,11 @@ fn null_columns(area: &mut [u8], from: usize, n: u64)
     ensures { Nulled (cells area.old) (cells area.new) n from }
 {
     let mut p = from;
-    let mut left = n;
-    // No `for`: each turn goes on by as many cells as its column has.
-    while 0 < left {
+    for _ in 0..n {
         let c = area::cell_at(area, p);
         let size = intmap::count_from(area, p, c, DEPTH);
         area::put_cell(area, p, as_nullable(c));
         p += size;
-        left -= 1;
     }
 }
 
@@ -68,19 +64,16 @@ fn nullable_cells(area: &[u8], from: usize, n: u64) -> u64
     requires { (from + n ≤ length (cells area.now)) × (length (cells area.now) ≤ 1048576) }
     ensures { (result ≤ n) × AreNullable (cells area.now) from result }
 {
-    let mut k: u64 = 0;
-    // No iterator: one over pairs of cells would need the bytes as cells, and they are none.
-    while k + 1 < n {
-        let p = from + k as usize;
+    for k in 0..n / 2 {
+        let p = from + 2 * k as usize;
         if state::nullable_in(area::cell_at(area, p)) != Some(true) {
-            return k;
+            return 2 * k;
         }
         if state::nullable_in(area::cell_at(area, p + 1)) != Some(true) {
-            return k + 1;
+            return 2 * k + 1;
         }
-        k += 2;
     }
-    k
+    n / 2 * 2
 }
 
 // As `null_columns`, where each of the columns has one cell.
@@ -114,7 +107,7 @@ pub fn null_row(store: &mut Store, x: Row) -> Result<(), Refusal>
 // Stores the columns of the record at `at` of the map as the table that a row opened, which is not empty then. A store may move that record, so it
 // goes to the room behind the map first.
 fn store_behind(store: &mut Store, row: u64, at: usize) -> Result<(), Refusal>
-    requires { IsCurrent store.old × (store.old.map.base ≤ at) × (at + size (cells_in store.old) levels at ≤ store.old.map.base + store.old.map.used) × (row ≤ 65535) }
+    requires { IsCurrent store.old × HasRun store.old at × (row ≤ 65535) }
     ensures { Changes (λ limit cs ds a r. StoresTable limit cs ds a row at r) store.old store.new result }
 {
     let map = store.map;
@@ -127,7 +120,7 @@ fn store_behind(store: &mut Store, row: u64, at: usize) -> Result<(), Refusal>
 
 // The same, at once where the table has as many columns, of one cell each.
 fn store_table(store: &mut Store, row: u64, at: usize) -> Result<(), Refusal>
-    requires { IsCurrent store.old × (store.old.map.base ≤ at) × (at + size (cells_in store.old) levels at ≤ store.old.map.base + store.old.map.used) × (row ≤ 65535) }
+    requires { IsCurrent store.old × HasRun store.old at × (row ≤ 65535) }
     ensures { Changes (λ limit cs ds a r. StoresTable limit cs ds a row at r) store.old store.new result }
 {
     let c = state::with_nullable(store.cell_at(at), Some(false));
@@ -139,7 +132,7 @@ fn store_table(store: &mut Store, row: u64, at: usize) -> Result<(), Refusal>
 
 // Insert of the record at `at` of the map: it replaces the table of cursor P1, if there is one.
 fn insert_record(store: &mut Store, x: Row, at: usize) -> Result<(), Refusal>
-    requires { IsCurrent store.old × (store.old.map.base ≤ at) × (at + size (cells_in store.old) levels at ≤ store.old.map.base + store.old.map.used) }
+    requires { IsCurrent store.old × HasRun store.old at }
     ensures { Changes (λ limit cs ds a r. InsertsRecord limit cs ds a x at r) store.old store.new result }
 {
     let Some(p) = cursor_arms::read_cursor(store, x.p1)? else {
@@ -168,7 +161,7 @@ fn insert_null(store: &mut Store, x: Row) -> Result<(), Refusal>
 
 // Insert of the value at `at` of the map: a record, a plain Null, or another, which changes nothing.
 fn insert_from(store: &mut Store, x: Row, at: usize) -> Result<(), Refusal>
-    requires { IsCurrent store.old × (store.old.map.base ≤ at) × (at + size (cells_in store.old) levels at ≤ store.old.map.base + store.old.map.used) }
+    requires { IsCurrent store.old × HasRun store.old at }
     ensures { Changes (λ limit cs ds a r. InsertsFrom limit cs ds a x at r) store.old store.new result }
 {
     let c = store.cell_at(at);

@@ -1,7 +1,9 @@
 -- Readers in a row: the second reads what the first left. Assumes nothing.
 use mathlib.Core.Path.{◌≡◌, refl, sym, ap, ◌∙◌, subst}
 use mathlib.Core.Bool.{Bool, true, false}
-use Rattle.std.specs.Prelude.{Option, None, Some, OnSome}
+use Rattle.std.specs.Prelude.{Option, None, Some, OnSome, option_copied, MatchOption}
+use Rattle.std.specs.Bool.{then_some}
+use denote.Ref.{Bor}
 use mathlib.Core.List.{List}
 use Prim.Native.Nat.{ℕ, ◌<◌}
 use native.Mathlib.Omega.{arith}
@@ -57,12 +59,22 @@ module _ (key : List ℕ) {t rest : List ℕ} {v : Option (List ℕ)} (h : Reads
   unfolding take_field
   value_read o e k = read_given h (λ value. given (read value)) o e (ap given (sym k))
 
--- bytes that pass a test
-module _ (key : List ℕ) {t rest : List ℕ} {v : Option (List ℕ)} (h : Reads (take_value key) t rest v) (test : List ℕ → Bool) where
-  pub value_bad : {bs : List ℕ} → v ≡ Some bs → test bs ≡ false → Reads (take_field key (read_if test Some)) t rest None
-  unfolding read_if
-  value_bad {bs} e k = value_read key h (read_if test Some) None e (ap (λ b. only_if b (Some bs)) (sym k))
+-- what passes a test
+pub some_if : {A : Type 0} (b : Bool) (x : A) → then_some b x ≡ only_if b (Some x)
+some_if true x = refl
+some_if false x = refl
 
-  pub value_good : {bs : List ℕ} → v ≡ Some bs → test bs ≡ true → Reads (take_field key (read_if test Some)) t rest (Some bs)
+pub copied_if : (b : Bool) (x : Bor (List ℕ)) → option_copied (then_some b x) ≡ then_some b x.now
+copied_if true x = refl
+copied_if false x = refl
+
+-- bytes that are kept where they pass a test
+module _ (key : List ℕ) {t rest : List ℕ} (test : List ℕ → Bool) {Q : Bor (List ℕ) → Bool → Type 0} (tells : (x : Bor (List ℕ)) (b : Bool) → Q x b → b ≡ test x.now) where
+  pub value_kept :
+      (v r : Option (Bor (List ℕ))) → Reads (take_value key) t rest (option_copied v) →
+      MatchOption v (r ≡ None) (λ x. (b : Bool) × Q x b × (r ≡ then_some b x)) →
+      Reads (take_field key (read_if test Some)) t rest (option_copied r)
   unfolding read_if
-  value_good {bs} e k = value_read key h (read_if test Some) (Some bs) e (ap (λ b. only_if b (Some bs)) (sym k))
+  value_kept None r h e = subst (λ o. Reads (take_field key (read_if test Some)) t rest (option_copied o)) (sym e) (no_value key h (read_if test Some) refl)
+  value_kept (Some x) r h (b, q, e) =
+      value_read key h (read_if test Some) (option_copied r) refl (ap option_copied e ∙ copied_if b x ∙ ap (λ u. then_some u x.now) (tells x b q) ∙ some_if (test x.now) x.now)

@@ -43,10 +43,7 @@ fn line_end(t: &[u8]) -> Option<usize>
 fn digit(b: u8) -> Option<u64>
     ensures { result ≡ digit_of b }
 {
-    match b {
-        b'0'..=b'9' => Some((b - b'0') as u64),
-        _ => None,
-    }
+    (b as char).to_digit(10).map(u64::from)
 }
 
 // The number of digits, leading zeros among them. It stops once that is above `most`, so that no number of digits is too long.

@@ -10,6 +10,7 @@ use Rattle.model.specs.State.{MemoryState as Defined}
 use Rattle.model.specs.Results.{ResultRow}
 use Rattle.model.specs.Explain.{row_of}
 use Rattle.merge.specs.declared.columns.Columns.{Columns}
+use Rattle.branches.specs.Header.{link_of}
 use Rattle.walk.specs.Walks.{Given, HoldsWalk, Few, HoldsEnd}
 use Rattle.counters.specs.Counted.{one_gasstop}
 use Rattle.counters.specs.declared.Counters.{Counters}
@@ -89,7 +90,7 @@ pub record ClosedSo (p : Program) (g : Given) (blocks xs : List ℕ) (cols : Col
 
 pub record Closing (p : Program) (xs : List ℕ) (w v : Walk) : Type 0 where
   pub says : (g : Given) (blocks : List ℕ) (cols : Columns 2000) (ls : List (Lineage Defined)) (n : Notes Defined ResultRow) → HoldsWalk p g blocks xs cols w ls n → ClosedSo p g blocks xs cols v ls n
-  pub few : v.counts.gasstops + v.branches.last ≤ w.counts.gasstops + w.branches.last
+  pub few : v.counts.gasstops + link_of v.branches.last ≤ w.counts.gasstops + link_of w.branches.last
 
 module _ {p : Program} {xs : List ℕ} {w v : Walk} (c : Closing p xs w v) where
   pub closing_walking : Walking p xs w → Walking p xs v
@@ -98,7 +99,7 @@ module _ {p : Program} {xs : List ℕ} {w v : Walk} (c : Closing p xs w v) where
       record { given = a.given; blocks = a.blocks; cols = a.cols; waiting = h.waiting; notes = h.notes; holds = h.holds }
 
   -- nothing that waits stands on a row
-  pub closing_end : (u : Walk) → Takes p xs v u None → w.counts.gasstops + w.branches.last < 4294967295 → Closes p xs w u
+  pub closing_end : (u : Walk) → Takes p xs v u None → w.counts.gasstops + link_of w.branches.last < 4294967295 → Closes p xs w u
   closing_end u takes lt =
       record {
         says = λ g blocks cols ls n h.
@@ -127,7 +128,7 @@ module _ {p : Program} {xs : List ℕ} {w v : Walk} (c : Closing p xs w v) where
         let t = takes.says b.given b.blocks b.cols b.waiting b.notes b.holds in
         t.holds.counts.gasstops ∙ taken_notes b.given b.waiting b.notes _ _ _ _ t.is ∙ sym b.holds.counts.gasstops
 
-    pub closing_stop : Walking p xs w → w.counts.gasstops + w.branches.last < 4294967295 → u.counts.gasstops + 1 < 18446744073709551616
+    pub closing_stop : Walking p xs w → w.counts.gasstops + link_of w.branches.last < 4294967295 → u.counts.gasstops + 1 < 18446744073709551616
     closing_stop a lt = omega (arith, taken_stops a, c.few, lt)
 
     pub closing_next : Walking p xs w → (k : Counters) → k ≡ one_gasstop u.counts → Closing p xs w (with_counts u k)
@@ -149,9 +150,9 @@ module _ {p : Program} {xs : List ℕ} {w v : Walk} (c : Closing p xs w v) where
 -- ---- the current lineage first
 
 module _ (p : Program) (xs : List ℕ) (w : Walk) (k : Counters) (e : k ≡ one_gasstop w.counts) where
-  pub stopped_walking : Walking p xs w → w.counts.gasstops + w.branches.last < 4294967294 → Walking p xs (with_counts w k) × (k.gasstops + w.branches.last < 4294967295)
+  pub stopped_walking : Walking p xs w → w.counts.gasstops + link_of w.branches.last < 4294967294 → Walking p xs (with_counts w k) × (k.gasstops + link_of w.branches.last < 4294967295)
   stopped_walking a lt =
-      subst (λ x. Walking p xs (with_counts w x) × (x.gasstops + w.branches.last < 4294967295)) (sym e)
+      subst (λ x. Walking p xs (with_counts w x) × (x.gasstops + link_of w.branches.last < 4294967295)) (sym e)
       (record { given = a.given; blocks = a.blocks; cols = a.cols; waiting = a.waiting; notes = gas_stop a.notes; holds = stopped a.holds }, omega (arith, lt))
 
   pub closes_current : (v : Walk) → Closes p xs (with_counts w k) v → ClosesCurrent p xs w v

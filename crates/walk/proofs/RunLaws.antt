@@ -2,14 +2,13 @@
 use Rattle.refusal.specs.Numbers.{number_of}
 use Rattle.refusal.specs.declared.Refusal.{Refusal}
 use mathlib.Core.Path.{◌≡◌, refl, sym, ap, ap₂, subst, ◌∙◌}
-use mathlib.Core.Logic.{inl}
 use mathlib.Core.Bool.{Bool, true, false}
 use Rattle.std.specs.Prelude.{Option, None, Some, Ok, Err, min}
-use mathlib.Core.List.{List, [], ◌∷◌}
+use mathlib.Core.List.{List, ◌∷◌}
 use Prim.Native.Nat.{ℕ, zero, suc, ◌+◌, ◌-◌, ◌<◌, ◌≤◌}
 use native.Mathlib.Omega.{arith}
 use lib.ListN.{length}
-use Rattle.model.specs.Walk.{◌∈◌, refused, done, Ways, Lineage, Notes, add_row, gas_stop, charge, loop_stop, note_handled, note_ways, onward, Front as Fronted, on_row, notes_at, take_up, go_on, close_all, Offered, full, offered, offer, Turn as Turned, over, goes, after_turn, Walked, refused_with, answered, paused, ended, under_limit, handled_before, settle, close, follow_ways, handle_if, turn, run}
+use Rattle.model.specs.Walk.{refused, done, Ways, Lineage, Notes, add_row, gas_stop, charge, loop_stop, note_handled, note_ways, onward, Front as Fronted, on_row, notes_at, take_up, go_on, close_all, Offered, full, offered, offer, Turn as Turned, over, goes, after_turn, Walked, refused_with, answered, paused, ended, under_limit, handled_before, settle, close, follow_ways, handle_if, turn, run}
 use Rattle.model.specs.State.{MemoryState as Defined}
 use Rattle.model.specs.Equality.{eq_state}
 use Rattle.model.specs.Results.{ResultRow}
@@ -18,10 +17,10 @@ use Rattle.model.specs.Explain.{row_of, ways, units}
 use Rattle.model.proofs.LoopLaws.{run_turn}
 use Rattle.model.proofs.Runs.{run_none}
 use Rattle.area.specs.Cells.{cells}
-use Rattle.branches.specs.Entries.{Kept, Waiting}
-use Rattle.branches.proofs.BlockLaws.{blocks_span}
+use Rattle.branches.proofs.BlockLaws.{blocks_span, waiting_low}
 use Rattle.state.specs.declared.MemoryState.{MemoryState}
 use Rattle.merge.specs.declared.columns.Columns.{Columns}
+use Rattle.branches.specs.Header.{link_of}
 use Rattle.walk.specs.Walks.{Given, HoldsWalk, HoldsRow, the_following, the_turn, the_run, HoldsNone, Few, Moved}
 use Rattle.explain.specs.Handles.{meaning_of}
 use Rattle.walk.specs.Loop.{Walking, Standing, Turns, ClosesCurrent, Running, Runs}
@@ -114,20 +113,17 @@ module _ {p : Program} {blocks xs ys : List ℕ} {cols dols : Columns 2000} {w v
     none_stopped : v.counts.gasstops ≡ 0
     none_stopped = now.holds.walk.counts.gasstops ∙ ap (λ f. (notes_at f).gasstops) (sym now.holds.is) ∙ now.stops
 
-    -- few wait
-    waits_few : (ws all : List Kept) → Waiting (cells ys) v.branches.last ws → ((k : Kept) → k ∈ ws → k ∈ all) → ((k : Kept) → k ∈ all → k.at < 1048576) → v.branches.last < 1048576
-    waits_few [] all h among small = omega (arith, h)
-    waits_few (k ∷ ks) all h among small = omega (arith, h.0, small k (among k (inl refl)))
-
-    pub may_close : Walking p ys v × (v.counts.gasstops + v.branches.last < 4294967294)
+    pub may_close : Walking p ys v × (v.counts.gasstops + link_of v.branches.last < 4294967294)
     may_close = (record { given = a.given; blocks = blocks; cols = dols; waiting = now.holds.waiting; notes = now.holds.notes; holds = now.holds.walk }, omega (arith, none_stopped, few))
       where
         h : HoldsWalk p a.given blocks ys dols v now.holds.waiting now.holds.notes
         h = now.holds.walk
 
-        few : v.branches.last < 1048576
-        few = waits_few h.list.wait h.list.all h.list.remembers.waiting h.list.remembers.among
-            (λ k e. let b = blocks_span (cells ys) p.size v.branches.first v.branches.top h.list.all h.list.remembers.blocks k e in omega (arith, b.1, h.list.remembers.inside, h.list.remembers.small))
+        few : link_of v.branches.last < 1048576
+        few = let r = h.list.remembers in
+            waiting_low (cells ys) v.branches.last 1048576 h.list.wait (omega arith)
+            (λ k e. let b = blocks_span (cells ys) p.size v.branches.first v.branches.top h.list.all r.blocks k (r.among k e) in omega (arith, b.1, r.inside, r.small))
+            r.waiting
 
   -- the budget is used up
   pub runs_pause : min budget w.gas ≤ turns → 0 < v.gas → Runs p blocks xs ys cols dols w v s budget (Ok (Some m))

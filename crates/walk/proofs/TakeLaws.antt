@@ -4,7 +4,7 @@ use mathlib.Core.Logic.{inl}
 use mathlib.Core.Bool.{true, false}
 use Rattle.std.specs.Prelude.{None, Some}
 use mathlib.Core.List.{List, [], ◌∷◌}
-use Prim.Native.Nat.{ℕ, ◌+◌, ◌-◌, ◌<◌, ◌≤◌}
+use Prim.Native.Nat.{ℕ, ◌-◌, ◌<◌, ◌≤◌}
 use native.Mathlib.Omega.{arith}
 use lib.ListN.{length}
 use Rattle.model.specs.Walk.{◌∈◌, Lineage, Notes, none_left, on_row, note_taken, take_up}
@@ -13,8 +13,8 @@ use Rattle.model.specs.Results.{ResultRow}
 use Rattle.model.specs.Explain.{row_of}
 use Rattle.area.specs.Cells.{cells, Inside}
 use Rattle.intmap.specs.Signed.{offset, int_of}
-use Rattle.branches.specs.Header.{row_at}
-use Rattle.branches.specs.Entries.{Kept, lineages, Waiting, IsKept}
+use Rattle.branches.specs.Header.{row_at, link_of}
+use Rattle.branches.specs.Entries.{lineages, Waiting, IsKept}
 use Rattle.branches.specs.Lists.{Taken}
 use Rattle.branches.specs.declared.BranchList.{BranchList}
 use Rattle.merge.specs.declared.columns.Columns.{Columns}
@@ -24,6 +24,7 @@ use Rattle.branches.specs.Changes.{Latest, PopsAny}
 use Rattle.walk.specs.declared.Program.{Program}
 use Rattle.walk.specs.declared.Walk.{Walk}
 use Rattle.branches.proofs.BlockLaws.{blocks_span}
+use Rattle.branches.proofs.PopLaws.{latest}
 use Rattle.walk.proofs.BranchLaws.{with_branches}
 use Rattle.walk.proofs.ListLaws.{in_listing_lem, outside, stands}
 
@@ -36,7 +37,7 @@ pub record Reached (p : Program) (g : Given) (blocks xs : List ℕ) (cols : Colu
 
 pub record Reaching (p : Program) (xs : List ℕ) (w v : Walk) : Type 0 where
   pub says : (g : Given) (blocks : List ℕ) (cols : Columns 2000) (ls : List (Lineage Defined)) (n : Notes Defined ResultRow) → HoldsWalk p g blocks xs cols w ls n → Reached p g blocks xs cols v ls n
-  pub few : v.branches.last ≤ w.branches.last
+  pub few : link_of v.branches.last ≤ link_of w.branches.last
 
 -- a turn of the definition
 module _ (g : Given) where
@@ -107,13 +108,7 @@ module _ {p : Program} {xs : List ℕ} {w v : Walk} (r : Reaching p xs w v) wher
 
   -- that one can be taken
   pub reach_latest : Walking p xs w → Latest xs v.branches
-  reach_latest a = record { header = λ ne. there (now a).holds.list.wait ne (now a).holds.list.remembers.waiting (now a).holds.list.remembers.among; small = (now a).holds.list.remembers.small }
-    where
-      there : (ws : List Kept) → (v.branches.last ≡ 0 → ⊥) → Waiting (cells xs) v.branches.last ws → ((k : Kept) → k ∈ ws → k ∈ (now a).holds.list.all) → v.branches.last + 2 ≤ length (cells xs)
-      there [] ne h among = absurd (ne h)
-      there (k ∷ ks) ne h among =
-          let span = blocks_span (cells xs) p.size v.branches.first v.branches.top (now a).holds.list.all (now a).holds.list.remembers.blocks k (among k (inl refl)) in
-          omega (arith, span.1, h.0, (now a).holds.list.remembers.inside)
+  reach_latest a = let l = (now a).holds.list in latest p.limit (bound_of v) p.size xs v.branches l.all l.wait l.remembers
 
   -- nothing waits: no lineage is left
   pub reach_end : (c : BranchList) → PopsAny xs v.branches c None → Takes p xs w (with_branches v c) None
@@ -184,7 +179,7 @@ module _ {p : Program} {xs : List ℕ} {w v : Walk} (r : Reaching p xs w v) wher
       some_taken : Taken p.limit (bound_of v) p.size xs (now a).holds.list.all (now a).holds.list.wait v.branches c at
       some_taken = one (now a).holds
 
-      pub reach_less : c.last < v.branches.last
+      pub reach_less : link_of c.last < link_of v.branches.last
       reach_less = some_taken.last
 
       pub reach_inside : Inside xs at 1

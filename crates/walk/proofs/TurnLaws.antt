@@ -42,7 +42,6 @@ use Rattle.branches.proofs.RememberLaws.{Bytes, counted-kept}
 use Rattle.branches.proofs.BlockLaws.{blocks_low}
 use Rattle.merge.specs.declared.columns.Columns.{Columns}
 use Rattle.walk.specs.Walks.{rows_from, counts_from, first_from, Given, bound_of, HoldsList, Counts, HoldsWalk, HoldsRow, TellsTurn, the_following, the_turn}
-use Rattle.root_block.specs.Blocks.{IsBlocks}
 use Rattle.in_place.specs.InPlace.{ReadyAt, HandlesNear}
 use Rattle.explain.specs.Handles.{row_on, meaning_of, TellsHandling, LeavesHandling, Handles, Handled}
 use Rattle.counters.specs.Counted.{one_loopstop}
@@ -159,9 +158,6 @@ module _ {p : Program} {g : Given} {blocks xs : List ℕ} {cols : Columns 2000} 
   row_is : k ≡ r.row
   row_is = omega (arith, r.at)
 
-  pub is_blocks : IsBlocks blocks
-  is_blocks = record { records = g.records; has = r.walk.list.records }
-
   pub count_inside : Inside xs (home (counts_from p) k) 1
   count_inside = record { within = omega (arith, row_is, r.within, fits_inside r.walk.list); small = r.walk.list.remembers.small }
 
@@ -237,13 +233,12 @@ module _ {p : Program} {g : Given} {blocks xs : List ℕ} {cols : Columns 2000} 
         record { inside = omega (arith, fits_inside raised_list); rows = g.rows; have = raised_list.rows; size = r.walk.list.size }
 
     -- where it was not handled in place, nothing has changed, and it can be handled
-    pub may_handle : (cs : List Cell) → cs ≡ cells ys → Ready p.limit cs s × SomeRows cs (rows_from p) p.size × (s.row < offset + p.size) × (p.limit ≤ 65535) × IsBlocks blocks
+    pub may_handle : (cs : List Cell) → cs ≡ cells ys → Ready p.limit cs s × SomeRows cs (rows_from p) p.size × (s.row < offset + p.size) × (p.limit ≤ 65535)
     may_handle cs same = (
       subst (λ l. Ready p.limit l s) (sym same) is_ready,
       subst (λ l. SomeRows l (rows_from p) p.size) (sym same) some_rows,
       omega (arith, r.at, r.within),
       raised_list.remembers.limited,
-      is_blocks,
     )
 
     -- ---- and it is handled

@@ -15,7 +15,7 @@ use Rattle.state.specs.Steps.{HoldsState, TellsWay, StaysAt, branch_of, Way}
 use Rattle.state.specs.declared.MemoryState.{MemoryState}
 use Rattle.state.specs.declared.registers.Registers.{Registers}
 use Rattle.merge.specs.Columns.{HasColumns}
-use Rattle.branches.specs.Header.{row_at}
+use Rattle.branches.specs.Header.{row_at, link_of}
 use Rattle.branches.specs.Entries.{Kept, Counted}
 use Rattle.branches.specs.Lists.{Below, Offers as Below-them}
 use Rattle.counters.specs.Counted.{one_charged}
@@ -94,7 +94,7 @@ TellsTaken p g blocks xs cols w (Some at) f = OneAt p g blocks xs cols w at f
 -- fewer wait
 abbrev pub Shorter : Walk → Walk → Option ℕ → Type 0
 Shorter w v None = Unit {0}
-Shorter w v (Some at) = v.branches.last < w.branches.last
+Shorter w v (Some at) = link_of v.branches.last < link_of w.branches.last
 
 -- it is taken from those that wait
 pub record Takes (p : Program) (xs : List ℕ) (w v : Walk) (r : Option ℕ) : Type 0 where

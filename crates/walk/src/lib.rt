@@ -5,6 +5,7 @@ ghost use Rattle.std.specs.Prelude.{◌≡◌, ◌+◌, ◌<◌, ◌^◌};
 ghost use Rattle.area.specs.Cells.{cells};
 ghost use Rattle.jump_arms.specs.Arms.{Ready};
 ghost use Rattle.in_place.specs.InPlace.{HandlesNear};
+ghost use Rattle.branches.specs.Header.{link_of};
 ghost use Rattle.walk.specs.Walks.{in_listing, first_from, layout_of};
 ghost use Rattle.walk.specs.Loop.{Walking, Takes, TakesUp, GoesOn, Holding, Turning, Offering, AddsBranch, MayOffer, AddsWay, note_repeated, FollowsWays, AddsThree, FollowsThree, Resulting, FollowsResult, MayFollow, Follows, charge_one, Standing, Turns, Closes, ClosesCurrent, Running, Runs};
 
@@ -13,7 +14,8 @@ use counters::Counters;
 use explain::Handling;
 use merge::Columns;
 use refusal::Refusal;
-use rows::Row;
+use root_block::Blocks;
+use rows::{Row, Rows};
 use state::{MemoryState, Registers, Ways};
 
 // The listing's rows, so many, behind the rooms of two states of at most `limit` cells.
@@ -23,7 +25,8 @@ pub struct Program {
     pub size: usize,
 }
 
-// A walk between rows: the units left, the four counts, and the branches.
+// A walk between rows: the units left, the four counts, and the branches. The program is no field of it: the contract of each method would have
+// to say that it stays.
 #[derive(Clone, Copy)]
 pub struct Walk {
     pub gas: u64,
@@ -238,22 +241,26 @@ impl Walk {
         s: MemoryState,
         area: &mut [u8],
         columns: &mut Columns<2000>,
-        blocks: &[u8],
+        blocks: Blocks<'_>,
         p: Program,
     ) -> Result<Option<MemoryState>, Refusal>
-        requires { Standing p blocks.now area.old columns.old self.old s }
-        ensures { Turns p blocks.now area.old area.new columns.old columns.new self.old self.new s result }
+        requires { Standing p blocks.bytes.now area.old columns.old self.old s }
+        ensures { Turns p blocks.entry.bytes.now area.old area.new columns.old columns.new self.old self.new s result }
     {
         self.charge();
         let k = (s.row - intmap::ZERO) as usize;
-        let from = p.limit + p.limit;
-        let handled = area::count_at(area, from + p.size, k);
+        let rows = Rows {
+            from: p.limit + p.limit,
+            count: p.size,
+        };
+        let counts = rows.from + rows.count;
+        let handled = area::count_at(area, counts, k);
         if 3 <= handled {
             self.counts.loop_stop();
             return Ok(self.take_up(area, p));
         }
-        area::raise_count(area, from + p.size, k);
-        let x = rows::row_at(area, from, k);
+        area::raise_count(area, counts, k);
+        let x = rows.row_at(area, k);
         let m = s.map;
         if let Some(row) = next_in_place(s, area, x, p) {
             return Ok(Some(MemoryState { map: m, row }));
@@ -266,8 +273,8 @@ impl Walk {
             area,
             blocks,
             0 < handled,
-            from,
-            p.size,
+            rows.from,
+            rows.count,
             p.limit,
         )?;
         self.follow(area, columns, p, h)
@@ -275,7 +282,7 @@ impl Walk {
 
     // With no unit left, each branch that waits on a row is closed.
     fn close_all(&mut self, area: &[u8], p: Program)
-        requires { Walking p area.now self.old × (self.old.counts.gasstops + self.old.branches.last < 4294967295) }
+        requires { Walking p area.now self.old × (self.old.counts.gasstops + link_of self.old.branches.last < 4294967295) }
         ensures { Closes p area.now self.old self.new }
     {
         while let Some(_at) = self.take(area, p) {
@@ -285,7 +292,7 @@ impl Walk {
 
     // With no unit left, the current lineage is closed, and then each that waits on a row.
     fn close(&mut self, area: &[u8], p: Program)
-        requires { Walking p area.now self.old × (self.old.counts.gasstops + self.old.branches.last < 4294967294) }
+        requires { Walking p area.now self.old × (self.old.counts.gasstops + link_of self.old.branches.last < 4294967294) }
         ensures { ClosesCurrent p area.now self.old self.new }
     {
         self.counts.gas_stop();
@@ -298,12 +305,12 @@ impl Walk {
         s: MemoryState,
         area: &mut [u8],
         columns: &mut Columns<2000>,
-        blocks: &[u8],
+        blocks: Blocks<'_>,
         p: Program,
         budget: u64,
     ) -> Result<Option<MemoryState>, Refusal>
-        requires { Running p blocks.now area.old columns.old self.old s }
-        ensures { Runs p blocks.now area.old area.new columns.old columns.new self.old self.new s budget result }
+        requires { Running p blocks.bytes.now area.old columns.old self.old s }
+        ensures { Runs p blocks.entry.bytes.now area.old area.new columns.old columns.new self.old self.new s budget result }
     {
         let mut current = s;
         for _turn in 0..budget.min(self.gas) {

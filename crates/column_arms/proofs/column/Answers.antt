@@ -2,11 +2,11 @@
 use Rattle.std.specs.Prelude.{Ok}
 use mathlib.Core.Path.{refl, ap, ◌∙◌}
 use Rattle.refusal.proofs.Passed.{passed}
-use Rattle.column_arms.proofs.ArmLaws.{head_above, head_tag, head_below, column_goes, column_default, arm_bad, arm_absent, arm_there}
+use Rattle.column_arms.proofs.ArmLaws.{head_run, head_tag, column_goes, column_default, arm_bad, arm_absent, arm_there}
 use Rattle.column_arms.proofs.column.Goals as goal
 
 pub store_column-requires : goal.store_column-requires
-store_column-requires c = (c.requires, head_above _ _ _ c.args.x c.requires _ c.columns_of.ensures _ (c.in_ok-at.was ∙ ap Ok c.in-Some.is), head_below _ _ _ c.args.x c.requires _ c.columns_of.ensures _ (c.in_ok-at.was ∙ ap Ok c.in-Some.is), head_tag _ _ _ c.args.x c.requires _ c.columns_of.ensures _ (c.in_ok-at.was ∙ ap Ok c.in-Some.is))
+store_column-requires c = (c.requires, head_run _ _ _ c.args.x c.requires _ c.columns_of.ensures _ (c.in_ok-at.was ∙ ap Ok c.in-Some.is), head_tag _ _ _ c.args.x c.requires _ c.columns_of.ensures _ (c.in_ok-at.was ∙ ap Ok c.in-Some.is))
 
 pub returns-in_err-at : goal.returns-in_err-at
 returns-in_err-at c = rw (passed _ _ c.from_residual.ensures.1) (record { same = record { buffer = refl; limit = refl }; is = arm_bad _ _ _ c.args.x c.requires _ c.columns_of.ensures _ _ (λ row. column_goes _ row c.args.x) _ c.in_err-at.was })

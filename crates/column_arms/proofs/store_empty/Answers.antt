@@ -1,7 +1,7 @@
 -- `column_arms::store_empty` judges the index and the cells, writes the record behind the map, and stores it. Assumes nothing.
 use mathlib.Core.Path.{refl, ◌∙◌}
 use Rattle.refusal.proofs.Passed.{passed}
-use Rattle.column_arms.proofs.RunLaws.{empty_bad, empty_full, empty_room, empty_above, empty_stored}
+use Rattle.column_arms.proofs.EmptyLaws.{empty_bad, empty_full, empty_room, empty_above, empty_stored}
 use Rattle.column_arms.proofs.store_empty.Goals as goal
 
 pub returns-in_err-judge_index : goal.returns-in_err-judge_index
@@ -11,9 +11,9 @@ pub returns-then-store-eq0 : goal.returns-then-store-eq0
 returns-then-store-eq0 c = record { same = record { buffer = refl; limit = refl }; is = empty_full _ _ _ _ _ c.judge_index.ensures _ c.in_ok-judge_index.was c.if-store-eq0.true }
 
 pub store_run-requires : goal.store_run-requires
-store_run-requires c = let put = c.put_cell.ensures in
-    rw (put.same.limit, put.map) (empty_room _ _ _ _ c.requires c.if-store-eq0.false put.is, empty_above _ _ _ _ c.requires c.if-store-eq0.false put.is)
+store_run-requires c = let put = c.put_cell.ensures in let is = rw c.columns_head.ensures at put.is in
+    rw (put.same.limit, put.map) (empty_room _ _ _ _ c.requires c.if-store-eq0.false is, empty_above _ _ _ _ c.requires c.if-store-eq0.false is)
 
 pub returns : goal.returns
-returns c = let put = c.put_cell.ensures in let st = rw (put.same.limit, put.map) at c.store_run.ensures.is in
-    record { same = record { buffer = c.store_run.ensures.same.buffer ∙ put.same.buffer; limit = c.store_run.ensures.same.limit ∙ put.same.limit }; is = empty_stored _ _ _ _ c.requires c.if-store-eq0.false put.is _ _ _ st }
+returns c = let put = c.put_cell.ensures in let is = rw c.columns_head.ensures at put.is in let st = rw (put.same.limit, put.map) at c.store_run.ensures.is in
+    record { same = record { buffer = c.store_run.ensures.same.buffer ∙ put.same.buffer; limit = c.store_run.ensures.same.limit ∙ put.same.limit }; is = empty_stored _ _ _ _ c.requires c.if-store-eq0.false is _ _ _ st }

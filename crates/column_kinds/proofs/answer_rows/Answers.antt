@@ -1,4 +1,5 @@
 -- `column_kinds::answer_rows`: the counts cleared, the blocks, the walk, the answer. Assumes nothing.
+use Rattle.root_block.proofs.LinkLaws.{made_blocks}
 use Rattle.column_kinds.proofs.CallLaws.{is_prepared, can_write, answers_walk}
 use Rattle.column_kinds.proofs.answer_rows.Goals as goal
 
@@ -10,3 +11,6 @@ write_walk-requires c = can_write c.requires.0 c.requires.1 _ _ c.clear_counts.e
 
 pub returns : goal.returns
 returns c = answers_walk c.requires.0 c.requires.1 _ _ c.clear_counts.ensures c.root_block_columns.ensures _ _ _ c.walk_rows-x.ensures _ _ _ c.write_walk.ensures
+
+pub invariant_of-blocks : goal.invariant_of-blocks
+invariant_of-blocks c = record { indexed = made_blocks _ _ _ c.requires.1 c.root_block_columns.ensures }

@@ -1,30 +1,32 @@
--- `copy_arms::store_behind` stores a cell alone, or moves the run behind the map and stores it from there. Assumes nothing.
-use mathlib.Core.Path.{refl, ap, ◌∙◌}
+-- `copy_arms::store_behind` stores a cell alone, or moves the run behind the map, writes its head, and stores it. Assumes nothing.
+use mathlib.Core.Path.{sym, ◌∙◌}
 use native.Mathlib.Omega.{arith}
-use Rattle.state.proofs.LeadsLaws.{value-within}
-use Rattle.copy_arms.proofs.CopyLaws.{behind_room, behind_fits, stores_from, stores-alone}
-use Rattle.state.specs.Stores.{cells_in}
-use Rattle.intmap.specs.Map.{HasRoom}
-use Rattle.intmap.specs.declared.IntMap.{IntMap}
-use Rattle.copy_arms.proofs.StoreLaws.{same_then, put_at, said_of}
+use Rattle.copy_arms.proofs.RunLaws.{head_within, run_room, run_above, stores_run, stores-alone}
+use Rattle.copy_arms.proofs.StoreLaws.{same_then}
 use Rattle.copy_arms.proofs.store_behind.Goals as goal
 
-pub cell_at-c-requires : goal.cell_at-c-requires
-cell_at-c-requires c = let inside = value-within c.requires.0 c.requires.2 in omega (arith, inside, c.requires.0.room.small)
-
 pub returns-then-tag_of-ne-RECORD : goal.returns-then-tag_of-ne-RECORD
-returns-then-tag_of-ne-RECORD c = record { same = c.store_cell.ensures.same; is = stores-alone _ _ _ _ _ _ _ _ c.cell_at-c.ensures (λ e. c.if-tag_of-ne-RECORD.true (c.tag_of.ensures ∙ e)) c.store_cell.ensures.is }
+returns-then-tag_of-ne-RECORD c = record { same = c.store_cell.ensures.same; is = stores-alone _ _ _ _ _ c.requires.2 (λ e. c.if-tag_of-ne-RECORD.true (c.tag_of.ensures ∙ e)) _ _ _ c.store_cell.ensures.is }
+
+pub put_cell-requires : goal.put_cell-requires
+put_cell-requires c =
+    let pre = c.requires in
+    omega (arith, head_within _ _ _ _ _ _ pre.0 pre.1.0 pre.1.1 c.count-n.ensures c.move_cells.ensures.is)
 
 pub store_run-requires : goal.store_run-requires
 store_run-requires c =
+    let pre = c.requires in
     let moved = c.move_cells.ensures in
-    let fits = behind_fits _ _ _ _ _ _ c.requires.0 c.requires.2 c.count-n.ensures c.requires.1 moved.is in
-    (put_at c.move_cells.new.self moved.same.limit moved.map (HasRoom (cells_in c.move_cells.new.self)) (behind_room _ _ _ _ _ _ c.requires.0 c.requires.2 c.count-n.ensures c.requires.1 moved.is), record { whole = refl; above = omega (arith, ap (λ (a : IntMap). a.base) moved.map, moved.same.limit); fits = fits })
+    let put = c.put_cell.ensures in
+    rw (put.same.limit ∙ moved.same.limit, put.map ∙ moved.map) (
+      run_room _ _ _ _ _ _ pre.0 pre.1.0 pre.1.1 c.count-n.ensures moved.is _ _ pre.2 pre.3 put.is,
+      run_above _ _ _ _ _ _ pre.0 pre.1.0 pre.1.1 c.count-n.ensures moved.is _ _ pre.2 pre.3 put.is (sym c.tag_of.ensures ∙ c.if-tag_of-ne-RECORD.false),
+    )
 
 pub returns : goal.returns
 returns c =
+    let pre = c.requires in
     let moved = c.move_cells.ensures in
-    record {
-      same = same_then moved.same c.store_run.ensures.same;
-      is = stores_from _ _ _ _ _ _ c.requires.0 c.requires.2 c.count-n.ensures c.requires.1 moved.is _ _ _ (said_of moved.same.limit moved.map c.store_run.ensures);
-    }
+    let put = c.put_cell.ensures in
+    let st = rw (put.same.limit ∙ moved.same.limit, put.map ∙ moved.map) at c.store_run.ensures.is in
+    record { same = same_then moved.same (same_then put.same c.store_run.ensures.same); is = stores_run _ _ _ _ _ _ pre.0 pre.1.0 pre.1.1 c.count-n.ensures moved.is _ _ pre.2 pre.3 put.is _ _ _ st }

@@ -5,11 +5,11 @@ use Rattle.coroutine_arms.proofs.yield_target.Goals as goal
 pub returns-then-w-lt-ZERO : goal.returns-then-w-lt-ZERO
 returns-then-w-lt-ZERO c = target_below _ _ _ _ c.if-w-lt-ZERO.true
 
-pub returns-then-n-k : goal.returns-then-n-k
-returns-then-n-k c = target_past _ _ _ _ c.if-w-lt-ZERO.false c.if-n-k.true
+pub returns-then-rows-k : goal.returns-then-rows-k
+returns-then-rows-k c = target_past _ _ _ _ c.if-w-lt-ZERO.false c.if-rows-k.true
 
 pub returns-in-Yield : goal.returns-in-Yield
-returns-in-Yield c = target_yield _ _ _ _ c.if-w-lt-ZERO.false c.row_at-x.result c.if-n-k.false c.row_at-x.ensures c.in-Yield.is
+returns-in-Yield c = target_yield _ _ _ _ c.if-w-lt-ZERO.false c.row_at-x.result c.if-rows-k.false c.row_at-x.ensures c.in-Yield.is
 
 pub returns-in_default : goal.returns-in_default
-returns-in_default c = target_other _ _ _ _ c.if-w-lt-ZERO.false c.row_at-x.result c.if-n-k.false c.row_at-x.ensures c.in_default.not-Yield
+returns-in_default c = target_other _ _ _ _ c.if-w-lt-ZERO.false c.row_at-x.result c.if-rows-k.false c.row_at-x.ensures c.in_default.not-Yield

@@ -37,6 +37,6 @@ returns-in-OpenEphemeral c = (c.open_ephemeral.ensures.same, λ from n. cursor_n
 pub returns-in_default : goal.returns-in_default
 unfolding NotThese numbers_from
 returns-in_default c =
-    let past = number_past c.args.x.op 33 8 (OpenEphemeral ∷ OpenRead ∷ OpenDup ∷ OpenPseudo ∷ Delete ∷ Insert ∷ RowData ∷ Column ∷ []) refl c.requires.3 (search rules) in
-    let last : c.args.x.op ≡ NullRow = operation_is NullRow (omega (arith, past, c.requires.4)) in
+    let past = number_past c.args.x.op 33 8 (OpenEphemeral ∷ OpenRead ∷ OpenDup ∷ OpenPseudo ∷ Delete ∷ Insert ∷ RowData ∷ Column ∷ []) refl c.requires.2 (search rules) in
+    let last : c.args.x.op ≡ NullRow = operation_is NullRow (omega (arith, past, c.requires.3)) in
     (c.null_row.ensures.same, λ from n. cursor_number (ap arm_of last) (c.null_row.ensures.is _ _ c.requires.0.current))

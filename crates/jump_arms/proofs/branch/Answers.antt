@@ -3,4 +3,4 @@ use Rattle.jump_arms.proofs.StepLaws.{branch_arm}
 use Rattle.jump_arms.proofs.branch.Goals as goal
 
 pub returns : goal.returns
-returns c = rw (c.branch_and_go.ensures, c.at.ensures.0, c.at.ensures.1) (branch_arm _ _ _ _ c.requires.current)
+returns c = rw c.both.ensures λ limit cs ready. branch_arm limit cs _ _ ready.current

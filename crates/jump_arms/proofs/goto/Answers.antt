@@ -3,4 +3,4 @@ use Rattle.jump_arms.proofs.StepLaws.{goto_arm}
 use Rattle.jump_arms.proofs.goto.Goals as goal
 
 pub returns : goal.returns
-returns c = rw c.go_on.ensures (goto_arm _ _ _ _ c.requires.current)
+returns c = rw c.goes_on.ensures λ limit cs ready. goto_arm limit cs _ _ ready.current

@@ -2,6 +2,7 @@
 use mathlib.Core.Path.{subst}
 use Rattle.refusal.proofs.Passed.{passed}
 use Rattle.state.specs.Steps.{JumpArm}
+use Rattle.state.proofs.ArmLaws.{no_ways}
 use Rattle.jump_arms.specs.Arms.{Asks}
 use Rattle.jump_arms.proofs.NullLaws.{change_bad, change_ends, change_branches, change_stays, change_both, not-null-arm, decided_kind}
 use Rattle.jump_arms.proofs.StoreSteps.{same_store, step_err, step_ok, branch_err, branch_ok}
@@ -26,4 +27,4 @@ pub returns-then-asked-3 : goal.returns-then-asked-3
 returns-then-asked-3 c = (c.put_never.ensures.same, subst (JumpArm _ _ _ _ _ _) (branch_ok c.put_never.new.store c.in_ok-put_never.was _ c.branch_at.ensures) (change_branches _ _ _ _ _ _ _ (not-null-arm _) (λ bound m h. decided_kind ((subst (Asks _ _ _) c.in_ok-asked.was c.ask.ensures).says _ bound m h.map) c.if-asked.false c.if-asked-3.true) _ _ c.put_never.ensures.is))
 
 pub returns : goal.returns
-returns c = (same_store, change_ends _ _ _ _ _ _ _ (not-null-arm _) (λ bound m h. decided_kind ((subst (Asks _ _ _) c.in_ok-asked.was c.ask.ensures).says _ bound m h.map) c.if-asked.false c.if-asked-3.false))
+returns c = rw (no_ways c.default.ensures) (same_store, change_ends _ _ _ _ _ _ _ (not-null-arm _) (λ bound m h. decided_kind ((subst (Asks _ _ _) c.in_ok-asked.was c.ask.ensures).says _ bound m h.map) c.if-asked.false c.if-asked-3.false))

@@ -4,7 +4,7 @@ use Rattle.std.specs.Prelude.{option_copied}
 use Rattle.type_info.specs.Ascii.{ascii}
 use Rattle.model.specs.Numbers.{read_index}
 use Rattle.text.proofs.ReadLaws.{no_value, value_read}
-use Rattle.listing.proofs.NameLaws.{index_none, index_other, index_is}
+use Rattle.listing.proofs.NameLaws.{index_none, index_tested}
 use Rattle.listing.proofs.address.Goals as goal
 
 pub returns-in_err-value : goal.returns-in_err-value
@@ -15,10 +15,6 @@ pub returns-in_err-n : goal.returns-in_err-n
 unfolding ascii
 returns-in_err-n c = rw c.from_residual-in_err-n.ensures (value_read _ c.value.ensures (read_index c.args.k) _ (ap option_copied c.in_ok-value.was) (index_none _ _ (sym c.in_err-n.was ∙ c.natural.ensures)))
 
-pub returns-then-n-k : goal.returns-then-n-k
+pub returns : goal.returns
 unfolding ascii
-returns-then-n-k c = value_read _ c.value.ensures (read_index c.args.k) _ (ap option_copied c.in_ok-value.was) (index_is _ _ (sym c.in_ok-n.was ∙ c.natural.ensures) c.if-n-k.true)
-
-pub returns-else-n-k : goal.returns-else-n-k
-unfolding ascii
-returns-else-n-k c = value_read _ c.value.ensures (read_index c.args.k) _ (ap option_copied c.in_ok-value.was) (index_other _ _ (sym c.in_ok-n.was ∙ c.natural.ensures) c.if-n-k.false)
+returns c = value_read _ c.value.ensures (read_index c.args.k) _ (ap option_copied c.in_ok-value.was) (c.then_some.ensures ∙ index_tested _ _ (sym c.in_ok-n.was ∙ c.natural.ensures))

@@ -12,7 +12,7 @@ use Rattle.register_arms.proofs.null_many.Goals as goal
 pub returns-in_err-store_single : goal.returns-in_err-store_single
 returns-in_err-store_single c =
     rw (passed _ _ c.from_residual.ensures.1)
-    (record { same = same_then c.loop-i.invariant.0 c.store_single.ensures.same; is = run_then _ c.requires.0 c.null_run-first.ensures (null_refused _ _ _ _ _ _ _ _ _ c.loop-i.invariant.1 _ _ (omega (arith, c.loop-i-test.true)) (said_of c.loop-i.invariant.0.limit refl c.store_single.ensures) _ (ap (stored_in c.store_single.new.self) c.in_err-store_single.was)) })
+    (record { same = same_then c.loop-i.invariant.0 c.store_single.ensures.same; is = run_then _ c.requires.0 c.null_first-first.ensures.is (null_refused _ _ _ _ _ _ _ _ _ c.loop-i.invariant.1 _ _ (omega (arith, c.loop-i-test.true)) (said_of c.loop-i.invariant.0.limit refl c.store_single.ensures) _ (ap (stored_in c.store_single.new.self) c.in_err-store_single.was)) })
 
 pub loop-i-preserved : goal.loop-i-preserved
 loop-i-preserved c =
@@ -21,4 +21,4 @@ loop-i-preserved c =
     rw one (same_then c.loop-i.invariant.0 single.same, null_again _ _ _ _ _ _ _ _ _ c.loop-i.invariant.1 _ _ (omega (arith, c.loop-i-test.true)) (said_of c.loop-i.invariant.0.limit refl single) _ (ap (stored_in c.store_single.new.self) c.in_ok-store_single.was))
 
 pub returns : goal.returns
-returns c = record { same = c.loop-i.invariant.0; is = run_then _ c.requires.0 c.null_run-first.ensures (null_ends _ _ _ _ _ _ _ _ _ c.loop-i.invariant.1 (λ h. omega (arith, h, c.loop-i-test.false))) }
+returns c = record { same = c.loop-i.invariant.0; is = run_then _ c.requires.0 c.null_first-first.ensures.is (null_ends _ _ _ _ _ _ _ _ _ c.loop-i.invariant.1 (λ h. omega (arith, h, c.loop-i-test.false))) }

@@ -5,4 +5,4 @@ use Rattle.state.specs.Stores.{cells_in, SameStore}
 use Rattle.register_arms.proofs.null_many.Given as goal
 
 abbrev pub invariant-loop-i : goal.invariant-loop-i
-invariant-loop-i l = SameStore l.fn.store l.store × Rest l.initial.store.limit (cells_in l.initial.store) (cells_in l.store) l.initial.store.map l.store.map (l.from + l.first) (l.n - l.first) l.i (l.from + l.n - l.i)
+invariant-loop-i l = SameStore l.fn.store l.store × Rest l.fn.store.limit (cells_in l.initial.store) (cells_in l.store) l.fn.store.map l.store.map (l.from + l.first) (l.n - l.first) l.i (l.from + l.n - l.i)

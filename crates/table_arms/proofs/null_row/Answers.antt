@@ -10,7 +10,7 @@ use Rattle.table_arms.proofs.NullLaws.{null_bad, null_absent, columns_within, nu
 use Rattle.table_arms.proofs.null_row.Goals as goal
 
 pub is_flat-requires : goal.is_flat-requires
-is_flat-requires c = let is = room_map c.requires.current.room in let led = cursor_led _ _ is _ _ _ c.columns_of.ensures (c.in_ok-at.was ∙ ap Ok c.in-Some.is) in (is, led.above, omega (arith, led.below))
+is_flat-requires c = let is = room_map c.requires.current.room in let led = cursor_led _ _ is _ _ _ c.columns_of.ensures (c.in_ok-at.was ∙ ap Ok c.in-Some.is) in (is, (led.above, omega (arith, led.below)))
 
 pub null_cells-requires : goal.null_cells-requires
 null_cells-requires c = let is = room_map c.requires.current.room in (columns_within _ _ is _ _ c.columns_of.ensures _ (c.in_ok-at.was ∙ ap Ok c.in-Some.is) _ c.cell_at-c.ensures, flat_there _ _ (current_held c.requires.current) _ _ c.columns_of.ensures _ (c.in_ok-at.was ∙ ap Ok c.in-Some.is) _ c.cell_at-c.ensures (sym c.is_flat.ensures ∙ c.if-is_flat.true))

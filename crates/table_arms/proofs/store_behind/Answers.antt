@@ -7,12 +7,12 @@ pub returns-in_err-store : goal.returns-in_err-store
 returns-in_err-store c =
     rw (passed _ _ c.from_residual.ensures.1) (record {
       same = record { buffer = c.run_behind-n.ensures.same.buffer; limit = c.run_behind-n.ensures.same.limit };
-      is = stores _ _ _ _ _ _ _ _ _ c.requires.3 c.class_key-key.ensures c.run_behind-n.ensures.is _ c.insert_run.ensures _ c.in_err-store.was;
+      is = stores _ _ _ _ _ _ _ _ _ c.requires.2 c.class_key-key.ensures c.run_behind-n.ensures.is _ c.insert_run.ensures _ c.in_err-store.was;
     })
 
 pub returns : goal.returns
 returns c =
     record {
       same = record { buffer = c.run_behind-n.ensures.same.buffer; limit = c.run_behind-n.ensures.same.limit };
-      is = stores _ _ _ _ _ _ _ _ _ c.requires.3 c.class_key-key.ensures c.run_behind-n.ensures.is _ c.insert_run.ensures _ c.in_ok-store.was;
+      is = stores _ _ _ _ _ _ _ _ _ c.requires.2 c.class_key-key.ensures c.run_behind-n.ensures.is _ c.insert_run.ensures _ c.in_ok-store.was;
     }

@@ -1,7 +1,8 @@
 -- `IntMap::append_run` copies the run behind all entries, and writes its head again under the key. Assumes nothing.
-use mathlib.Core.Path.{refl, sym}
+use mathlib.Core.Path.{refl, ap}
 use native.Mathlib.Omega.{arith}
 use Rattle.area.specs.Cells.{cells}
+use Rattle.intmap.specs.Find.{spot}
 use Rattle.intmap.proofs.StoreLaws.{room_map, few_entries, behind_full, behind_opened, run_pos, run_full, run_done}
 use Rattle.intmap.proofs.IntMap.append_run.Goals as goal
 
@@ -23,4 +24,4 @@ overflow_add-result c = let is = room_map c.requires.0 in omega (arith, few_entr
 
 pub returns : goal.returns
 returns c = let o = behind_opened (cells c.args.area.now) c.args.limit c.args.self c.args.key c.args.n c.requires.0 c.requires.3 c.if-limit-self.false in
-    run_done _ _ _ _ _ _ _ _ c.requires.0 c.requires.1 o _ _ (sym c.requires.3.here) refl _ _ _ _ c.cell_at-c.ensures c.move_cells.ensures.cells c.with_key.ensures c.put_cell.ensures.cells
+    run_done _ _ _ _ _ _ _ _ c.requires.0 c.requires.1 o _ _ (ap (λ s. (spot s).at) c.requires.3.is) refl _ _ _ _ c.cell_at-c.ensures c.move_cells.ensures.cells c.with_key.ensures c.put_cell.ensures.cells

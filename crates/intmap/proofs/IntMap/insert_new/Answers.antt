@@ -1,8 +1,6 @@
-use Rattle.intmap.specs.Find.{seek}
-use Rattle.intmap.specs.Map.{levels}
-use Rattle.intmap.specs.Pack.{key_of}
 use lib.ListN.{length}
-use mathlib.Core.Path.{refl, sym, ap, ◌∙◌}
+use mathlib.Core.Path.{refl, ap, ◌∙◌}
+use Rattle.intmap.specs.Find.{spot}
 use Rattle.area.specs.Cells.{cells}
 use Rattle.area.proofs.MoveLaws.{length_moved}
 use Rattle.intmap.specs.Entries.{key_run}
@@ -12,9 +10,7 @@ use Rattle.intmap.proofs.IntMap.insert_new.Goals as goal
 
 pub returns-then-limit-self : goal.returns-then-limit-self
 unfolding key_run
-returns-then-limit-self c = let a = c.args in
-    let w = seek (cells a.area.now) levels (key_of a.c) a.self.len a.self.base in
-    let o = new_full (cells a.area.now) a.limit a.self w w 1 refl c.requires.2.none (omega (arith, c.if-limit-self.true)) in
+returns-then-limit-self c = let o = new_full (cells c.args.area.now) c.args.limit c.args.self _ _ 1 c.requires.2.is (omega (arith, c.if-limit-self.true)) in
     cell_full _ _ _ _ _ _ _ c.requires.0 c.requires.1 refl o _ refl
 
 pub overflow_add-at : goal.overflow_add-at
@@ -39,7 +35,5 @@ overflow_add-result c = let is = room_map c.requires.0 in omega (arith, few_entr
 
 pub returns : goal.returns
 unfolding key_run
-returns c = let a = c.args in
-    let w = seek (cells a.area.now) levels (key_of a.c) a.self.len a.self.base in
-    let o = new_opened (cells a.area.now) a.limit a.self w w 1 refl c.requires.2.none (omega (arith, c.if-limit-self.false)) a.at c.requires.2.here _ c.move_cells.ensures.cells in
-    cell_done _ _ _ _ _ _ _ c.requires.0 c.requires.1 refl o _ _ _ (sym c.requires.2.here) refl c.put_cell.ensures.cells
+returns c = let o = new_opened (cells c.args.area.now) c.args.limit c.args.self _ _ 1 c.requires.2.is (omega (arith, c.if-limit-self.false)) _ c.move_cells.ensures.cells in
+    cell_done _ _ _ _ _ _ _ c.requires.0 c.requires.1 refl o _ _ _ (ap (λ s. (spot s).at) c.requires.2.is) refl c.put_cell.ensures.cells
