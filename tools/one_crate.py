@@ -45,12 +45,12 @@ def libraries():
 
 def joined(text, names):
     """The text with the paths of the crates as those of the one crate's modules."""
-    text = re.sub(rf"\bRattle\.({names})\.specs\.declared\.", r"Rattle.one.specs.declared.\1.", text)
+    text = re.sub(rf"\bRattle\.({names})\.specs\.(declared|contracts)\.", r"Rattle.one.specs.\2.\1.", text)
     return re.sub(rf"\bRattle\.({names})\.(specs|proofs)\.", r"Rattle.one.\2.\1.", text)
 
 
 def parted(text):
-    text = re.sub(r"\bRattle\.one\.specs\.declared\.(\w+)\.", r"Rattle.\1.specs.declared.", text)
+    text = re.sub(r"\bRattle\.one\.specs\.(declared|contracts)\.(\w+)\.", r"Rattle.\2.specs.\1.", text)
     return re.sub(r"\bRattle\.one\.(specs|proofs)\.(\w+)\.", r"Rattle.\2.\1.", text)
 
 

@@ -7,7 +7,7 @@ ghost use Rattle.area.specs.Cells.{cells, Inside};
 ghost use Rattle.intmap.specs.Map.{IsMap};
 ghost use Rattle.branches.specs.Header.{shift, child, row_at, state_at, link_of, place_of};
 ghost use Rattle.branches.specs.Hash.{mix, fold, hash_from, hash_of};
-ghost use Rattle.branches.specs.Entries.{next_bits, none};
+ghost use Rattle.branches.specs.Entries.{count_cells, next_bits, none};
 ghost use Rattle.branches.specs.Lists.{Pushes, Loads};
 ghost use Rattle.branches.specs.Search.{HasMap, Tests, Searches, SomeRemembering};
 ghost use Rattle.branches.specs.Changes.{Pushable, Savable, Saves, Linkable, Connects, Latest, PopsAny, Loadable};
@@ -37,6 +37,15 @@ pub struct Layout {
     pub counts: usize,
     pub rows: usize,
     pub limit: usize,
+}
+
+impl Layout {
+    // How many cells a lineage's counts take: sixteen counts a cell.
+    fn count_cells(self) -> usize
+        ensures { result ≡ count_cells self.rows }
+    {
+        self.rows.div_ceil(16)
+    }
 }
 
 // The free link that would lead to a state that is not known: of the state at this place, if one is remembered, by the last digit of these bits.
@@ -164,24 +173,16 @@ fn next_bits(area: &[u8], p: usize, s: MemoryState, h: u64, bits: u64) -> u64
 }
 
 // Copies a state with its counts to p, under its hash, with `next` behind it among those that wait.
-fn save(
-    area: &mut [u8],
-    p: usize,
-    s: MemoryState,
-    h: u64,
-    next: Option<usize>,
-    counts: usize,
-    n: usize,
-)
-    requires { Savable n (cells area.old) p s next counts }
-    ensures { Saves n area.old area.new p s h next counts }
+fn save(area: &mut [u8], p: usize, s: MemoryState, h: u64, next: Option<usize>, layout: Layout)
+    requires { Savable layout.rows (cells area.old) p s next layout.counts }
+    ensures { Saves layout.rows area.old area.new p s h next layout.counts }
 {
     let map = s.map;
     let len = map.len;
     let used = map.used;
     let row = s.row;
     map.copy_to(area, p + 2);
-    area::move_cells(area, counts, p + 2 + used, (n + 15) / 16);
+    area::move_cells(area, layout.counts, p + 2 + used, layout.count_cells());
     area::put_cell(
         area,
         p,
@@ -228,7 +229,7 @@ pub fn load(area: &mut [u8], p: usize, base: usize, layout: Layout) -> MemorySta
     let s = state_at(area, p);
     let map = s.map.copy_to(area, base);
     let end = p + 2 + s.map.used;
-    area::move_cells(area, end, layout.counts, (layout.rows + 15) / 16);
+    area::move_cells(area, end, layout.counts, layout.count_cells());
     MemoryState { row: s.row, map }
 }
 
@@ -268,11 +269,11 @@ impl BranchList {
         ensures { Pushes layout.limit layout.rows layout.counts area.old area.new self.old self.new s result }
     {
         let top = self.top;
-        let end = top + 2 + s.map.used + (layout.rows + 15) / 16;
+        let end = top + 2 + s.map.used + layout.count_cells();
         if area.len() / 16 < end {
             return Err(Refusal::NoSpace);
         }
-        save(area, top, s, h, self.last, layout.counts, layout.rows);
+        save(area, top, s, h, self.last, layout);
         link(area, free, top);
         self.top = end;
         self.last = Some(top);

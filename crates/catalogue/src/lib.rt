@@ -1,14 +1,15 @@
 // The catalogue's text: its records, read one at a time, and how many there are.
 #![tactic(auto)]
 
-ghost use Rattle.std.specs.Prelude.{◌≡◌, option_copied, option_map};
+ghost use Rattle.std.specs.Prelude.{◌≡◌, option_copied, option_map, length};
+ghost use Rattle.std.specs.Iterator.{at_most};
 ghost use Rattle.type_info.specs.Ascii.{ascii};
 ghost use Rattle.model.specs.Fields.{take_field};
 ghost use Rattle.model.specs.CatalogueText.{is_declared, read_declared, read_flag, take_record};
 ghost use Rattle.model.specs.Call.{records_of};
 ghost use Rattle.text.specs.Reads.{Reads};
 ghost use Rattle.text.specs.Counts.{length_of, counted_as};
-ghost use Rattle.catalogue.specs.Records.{record_of};
+ghost use Rattle.catalogue.specs.Records.{record_of, GivesRecord};
 
 use refusal::Refusal;
 use text::Reader;
@@ -24,6 +25,42 @@ pub struct Record<'a> {
     pub col: u64,
     pub declared: &'a [u8],
     pub notnull: bool,
+}
+
+// The records of a text, one after the other: what is left of it. None comes after one that is ill-formed.
+#[derive(Drop)]
+pub struct Records<'a> {
+    pub reader: Reader<'a>,
+}
+
+impl<'a> Records<'a> {
+    // Those of a whole text.
+    pub fn new(catalogue: &'a [u8]) -> Records<'a>
+        ensures { result.reader.rest.now ≡ catalogue.now }
+    {
+        Records {
+            reader: Reader { rest: catalogue },
+        }
+    }
+}
+
+impl<'a> Iterator for Records<'a> {
+    type Item = Result<Record<'a>, Refusal>;
+
+    ghost next_gives = { GivesRecord };
+
+    ghost remaining = { λ s. at_most (length s.reader.rest.now) };
+
+    fn next(&mut self) -> Option<Result<Record<'a>, Refusal>> {
+        if self.reader.rest.is_empty() {
+            return None;
+        }
+        let record = read_record(&mut self.reader).ok_or(Refusal::IllFormedCatalogue);
+        if record.is_err() {
+            self.reader.rest = &[];
+        }
+        Some(record)
+    }
 }
 
 // Whether t can be a declared type.
@@ -68,11 +105,9 @@ pub fn read_record<'a>(reader: &mut Reader<'a>) -> Option<Record<'a>>
 pub fn count_records(catalogue: &[u8]) -> Result<usize, Refusal>
     ensures { counted_as result ≡ length_of (records_of catalogue.now) }
 {
-    let mut reader = Reader { rest: catalogue };
     let mut k: usize = 0;
-    // A `while`: `from_fn` over the reader has no end that is known, so that a `for` over it would need a `take` of the text's length.
-    while !reader.rest.is_empty() {
-        read_record(&mut reader).ok_or(Refusal::IllFormedCatalogue)?;
+    for record in Records::new(catalogue) {
+        record?;
         k += 1;
     }
     if MOST < k {

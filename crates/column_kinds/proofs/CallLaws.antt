@@ -154,10 +154,14 @@ has_room xs r h =
 -- ---- the blocks
 
 -- zeros are blocks for as many records as there are cells
-pub indexable : (catalogue bs : List ℕ) (records size : ℕ) → Catalogued catalogue records → bs ≡ replicate size 0 → records ≤ size / 16 → 0 < size / 16 → size / 16 ≤ 1048576 → Indexable catalogue bs
-indexable catalogue bs records size c zeros enough any small =
-    let long : length (cells bs) ≡ size / 16 = length-cells bs ∙ ap (λ k. k / 16) (ap length zeros ∙ length-replicate {A = ℕ} size 0) in
-    record { records = c.records; reads = c.read; size = size; zeros = zeros; few = omega (arith, long, c.size); some = omega (arith, long, any); small = omega (arith, long, small) }
+pub indexable : (catalogue : List ℕ) (records size : ℕ) → Catalogued catalogue records → records ≤ size / 16 → 0 < size / 16 → size / 16 ≤ 1048576 → Indexable catalogue (replicate size 0)
+indexable catalogue records size c enough any small =
+    let long : length (cells (replicate size 0)) ≡ size / 16 = length-cells (replicate size 0) ∙ ap (λ k. k / 16) (length-replicate {A = ℕ} size 0) in
+    record { records = c.records; reads = c.read; size = size; zeros = refl; few = omega (arith, long, c.size); some = omega (arith, long, any); small = omega (arith, long, small) }
+
+-- they are a slice's length at most
+pub blocks_short : (catalogue : List ℕ) (size : ℕ) → Indexable catalogue (replicate size 0) → size * 1 < 9223372036854775808
+blocks_short catalogue size i = omega (arith, length-cells (replicate size 0), length-replicate {A = ℕ} size 0, i.small)
 
 -- ---- the walk
 

@@ -1,7 +1,7 @@
 // The call: what each result column of a listing is, and whether it may be blank.
 #![tactic(auto)]
 
-ghost use Rattle.std.specs.Prelude.{◌≡◌, ◌≤◌};
+ghost use Rattle.std.specs.Prelude.{◌≡◌, ◌≤◌, replicate};
 ghost use Rattle.column_kinds.specs.Calls.{Calls, Describes};
 ghost use Rattle.column_kinds.specs.Inner.{serves, RowRoom, Prepared, WalksRows, Writable, WritesWalk, MayWalk, Catalogued, AnswersRows, CallsInner};
 ghost use Rattle.root_block.specs.Build.{Indexable};
@@ -86,20 +86,20 @@ fn write_walk(
     answer::write_answer(answer, columns.as_slice(), &w.counts)
 }
 
-// The walk over n rows that are in the area, and its answer. The bytes are made the blocks of the catalogue's columns first.
-fn answer_rows(
+// The walk over n rows that are in the area, and its answer. The catalogue's columns are made blocks of N bytes first.
+fn answer_rows<const N: usize>(
     catalogue: &[u8],
-    bytes: &mut [u8],
     work: &mut [u8],
     answer: &mut [u8],
     n: usize,
 ) -> Result<usize, Refusal>
-    requires { MayWalk work.old n × Indexable catalogue.now bytes.old }
+    requires { MayWalk work.old n × Indexable catalogue.now (replicate N 0) }
     ensures { AnswersRows catalogue.now work.old work.new answer.old answer.new n result }
 {
     area::clear_counts(work, 2 * LIMIT + n, n);
-    root_block::root_block_columns(catalogue, bytes);
-    let blocks = Blocks { bytes };
+    let mut bytes = [0u8; N];
+    root_block::root_block_columns(catalogue, &mut bytes);
+    let blocks = Blocks { bytes: &bytes };
     let mut columns = Columns::new();
     let x = walk_rows(work, &mut columns, blocks, n);
     write_walk(answer, &columns, x)
@@ -116,16 +116,11 @@ fn answer_with(
     requires { MayWalk work.old n × Catalogued catalogue.now records }
     ensures { AnswersRows catalogue.now work.old work.new answer.old answer.new n result }
 {
-    if records <= 16 {
-        let mut few = [0u8; 256];
-        return answer_rows(catalogue, &mut few, work, answer, n);
+    match records {
+        0..=16 => answer_rows::<256>(catalogue, work, answer, n),
+        17..=256 => answer_rows::<4096>(catalogue, work, answer, n),
+        _ => answer_rows::<65536>(catalogue, work, answer, n),
     }
-    if records <= 256 {
-        let mut some = [0u8; 4096];
-        return answer_rows(catalogue, &mut some, work, answer, n);
-    }
-    let mut many = [0u8; 65536];
-    answer_rows(catalogue, &mut many, work, answer, n)
 }
 
 // The refusals in their order, and then the walk. The rows are laid down in the area while they are read, as far as there is room.

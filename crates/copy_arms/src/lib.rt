@@ -50,7 +50,9 @@ pub fn store_from(store: &mut Store, at: usize, c: Cell, j: u64) -> Result<(), R
     store_behind(store, at, c, j)
 }
 
-// Stores what register i holds, if there is something, in register j; then null in register i, if it moves.
+// Stores what register i holds, if there is something, in register j; then null in register i, if it moves. Here and below `moves` is the
+// parameter of the definition's turn, `carry_one`: an enum would name the same two again. Null is written by the store here, and over words in
+// `carry_cell`, so that one closure would not do for both.
 fn carry_register(store: &mut Store, i: u64, j: u64, moves: bool) -> Result<(), Refusal>
     requires { IsCurrent store.old }
     ensures { Changes (λ limit cs ds a r. Leads limit cs ds a r (carry_one limit moves (int_of i) (int_of j))) store.old store.new result }

@@ -149,25 +149,24 @@ fn handle_row(
     ensures { SameStore store.old store.new × Handles store.old.limit rows.from rows.count (cells_in store.old) (cells_in store.new) blocks.entry.bytes.now (at row store.old.map) (row_on (cells_in store.old) rows.from row) again result }
 {
     let x = row_of(store, rows, row);
-    // By ranges of the numbers: a match on the operation makes a table here, which is slower than the few comparisons.
-    let op = x.op.number();
-    if op == Operation::Other as u8 {
+    // By ranges of their order: a match on the operation makes a table here, which is slower than the few comparisons.
+    if x.op == Operation::Other {
         return falls_through(store, Ok(()), row);
     }
-    if op == Operation::Jump as u8 {
+    if x.op == Operation::Jump {
         return jump_three(store, row, x);
     }
-    if op < Operation::IfPos as u8 {
+    if x.op < Operation::IfPos {
         return as_handling(jump(store, row, x, rows), false);
     }
-    if op == Operation::IfPos as u8 {
+    if x.op == Operation::IfPos {
         return as_handling(ifpos_arm::if_pos(store, row, x, again), again);
     }
-    if op < Operation::Column as u8 {
+    if x.op < Operation::Column {
         let stored = register(store, x);
         return falls_through(store, stored, row);
     }
-    if op < Operation::ResultRow as u8 {
+    if x.op < Operation::ResultRow {
         let stored = cursor(store, row, blocks, x);
         return falls_through(store, stored, row);
     }

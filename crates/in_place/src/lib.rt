@@ -232,19 +232,18 @@ pub fn next_row(
     requires { ReadyAt (cells area.old) at base end op i j k }
     ensures { HandlesNear (cells area.old) (cells area.new) at base end op i j k n result }
 {
-    // By ranges of the numbers: a match on the operation makes a table here, which is slower than the few comparisons.
-    let number = op.number();
-    if number == Operation::Other as u8 {
+    // By ranges of their order: a match on the operation makes a table here, which is slower than the few comparisons.
+    if op == Operation::Other {
         return listed(at + 1, n);
     }
-    if number < Operation::IfPos as u8 {
+    if op < Operation::IfPos {
         return jump(area, at, base, end, op, i, j, k, n);
     }
     let next = listed(at + 1, n)?;
-    if number < Operation::Column as u8 {
+    if op < Operation::Column {
         return register(area, base, end, op, i, j, k).then_some(next);
     }
-    if number != Operation::Column as u8 {
+    if op != Operation::Column {
         return None;
     }
     column(area, base, end, i, j, k).then_some(next)

@@ -17,7 +17,8 @@ ghost use Rattle.intmap.specs.Over.{ArePlain, CopiesOver};
 use area::Cell;
 use refusal::Refusal;
 
-// The tags of cells. Numbers, since a tag is a byte of a word in the lent memory.
+// The tags of cells. Numbers, where an operation, a byte of a cell too, is an enum: that is matched on, but nearly each use of a tag compares it with
+// one. An enum would read the same there, with a variant more, since lent cells may have any byte, and as many laws that lead back to the number.
 pub const SINGLE: u64 = 1;
 
 pub const RECORD: u64 = 2;
@@ -39,7 +40,7 @@ pub enum Class {
 // The word that stands for 0.
 pub const ZERO: u64 = 9223372036854775808;
 
-// A head of four parts.
+// A head of four parts. Numbers, since they are parts of a word: `state` makes them of a kind and an `Option<bool>`.
 pub fn pack(tag: u64, kind: u64, nullable: u64, key: u64) -> u64
     requires { Parts tag kind nullable key }
     ensures { result ≡ head tag kind nullable key }
@@ -54,14 +55,14 @@ pub fn tag_of(c: Cell) -> u64
     c.head % 256
 }
 
-// The kind that a cell names.
+// The kind that a cell names: a number, since it is a part of a word. `state::datatype_in` makes a kind of it.
 pub fn kind_of(c: Cell) -> u64
     ensures { result ≡ kind_of c }
 {
     c.head / 256 % 256
 }
 
-// Whether it is nullable, or a table empty.
+// Whether it is nullable, or a table empty: a number, as the kind is. `state::nullable_in` makes an option of it.
 pub fn nullable_of(c: Cell) -> u64
     ensures { result ≡ nullable_of c }
 {
@@ -91,7 +92,7 @@ pub fn begins(c: Cell) -> bool
     1099511627776 <= c.head
 }
 
-// The cell under another key.
+// The cell under another key, of 40 bits. No type has that bound: keys are added to and compared, and it would be made and taken apart at each use.
 pub fn with_key(c: Cell, key: u64) -> Cell
     requires { key < 1099511627776 }
     ensures { result ≡ with_key key c }
@@ -102,7 +103,7 @@ pub fn with_key(c: Cell, key: u64) -> Cell
     }
 }
 
-// The cell with another nullable.
+// The cell with another nullable: a number, as a head has it. `state::with_nullable` takes an option.
 pub fn with_nullable(c: Cell, nullable: u64) -> Cell
     requires { nullable < 256 }
     ensures { result ≡ with_nullable nullable c }

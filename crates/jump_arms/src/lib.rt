@@ -328,7 +328,8 @@ fn put_default(store: &mut Store, i: u64) -> Result<(), Refusal>
     }
 }
 
-// Register i never null, if it is a plain column; another stays as it is.
+// Register i never null, if it is a plain column; another stays as it is. `halt_if_null` of register_arms has the same match, but stores by
+// `store_single`, which may write behind the map's room: where both ways are taken, the other state stands there.
 fn put_never(store: &mut Store, i: u64) -> Result<(), Refusal>
     requires { HasRoom (cells_in store.old) store.old.limit store.old.map × IsHeld store.old }
     ensures { Changes (λ limit cs ds a r. Puts limit cs ds a r (update_register (int_of i) to_not_null)) store.old store.new result }

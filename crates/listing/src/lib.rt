@@ -142,7 +142,7 @@ pub fn read_listing(
 {
     let mut reader = Reader { rest: listing };
     let mut k: usize = 0;
-    // A `while`: `from_fn` over the reader has no end that is known, so that a `for` over it would need a `take` of the text's length.
+    // A `while`, and not a `for` over an iterator as `catalogue::Records`: the rows are read here alone, so that it would only be longer.
     while !reader.rest.is_empty() {
         let row = read_row(&mut reader, k).ok_or(Refusal::IllFormedListing)?;
         put_where(area, from, room, k, row);

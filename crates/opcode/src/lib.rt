@@ -10,14 +10,15 @@ ghost use Rattle.model.specs.RegisterArms.{affinity_to_type};
 ghost use Rattle.type_info.specs.Ascii.{starts_with};
 ghost use Rattle.opcode.specs.Lookup.{found_in};
 ghost use Rattle.opcode.specs.Opcode.{number, Numbered, IsOpcode, AreNamed, constant_kind};
-ghost use Rattle.opcode.specs.P4.{IsFunction, IsAggregate, Judges};
+ghost use Rattle.opcode.specs.P4.{IsFunction, IsAggregate, Judges, IsValueAt, IsAggregateAt};
 
 use type_info::DataType;
 
 // The arms of `explain`; one of several names is called by the first, or by what they share. A name without an arm is `Other`.
-#[derive(Clone, Copy, Debug, PartialEq, Eq)]
+// Numbered, so that their order is that of the numbers: arms that are handled alike stand together.
+#[derive(Clone, Copy, Debug, PartialEq, Eq, PartialOrd, Ord)]
 pub enum Operation {
-    Other,
+    Other = 0,
     Goto,
     Gosub,
     Branch,
@@ -62,14 +63,19 @@ pub enum Operation {
     ResultRow,
 }
 
-// The value of a function that is built in: `last_insert_rowid`, or a date or time as a text, a number of days or of seconds.
+// The value of a function that is built in: `last_insert_rowid`, or a date or time as a text, a number of days or of seconds. A cell has it
+// by its number, or 0 for none.
 #[derive(Clone, Copy, Debug, PartialEq, Eq)]
 pub enum FunctionValue {
-    Rowid,
+    Rowid = 1,
     Text,
     Days,
     Seconds,
 }
+
+// A number that no function's value has.
+#[derive(Clone, Copy, Debug, PartialEq, Eq)]
+pub struct UnknownNumber(pub u64);
 
 // What an aggregate gives. `Operand` is its operand: so does every text that names no aggregate.
 #[derive(Clone, Copy, Debug, PartialEq, Eq)]
@@ -382,6 +388,38 @@ impl From<u8> for Operation {
             41 => Operation::NullRow,
             42 => Operation::ResultRow,
             _ => Operation::Other,
+        }
+    }
+}
+
+// The function's value of a number in a cell.
+impl TryFrom<u64> for FunctionValue {
+    type Error = UnknownNumber;
+
+    ghost try_from_gives = { IsValueAt };
+
+    fn try_from(number: u64) -> Result<FunctionValue, UnknownNumber> {
+        match number {
+            1 => Ok(FunctionValue::Rowid),
+            2 => Ok(FunctionValue::Text),
+            3 => Ok(FunctionValue::Days),
+            4 => Ok(FunctionValue::Seconds),
+            _ => Err(UnknownNumber(number)),
+        }
+    }
+}
+
+// What the aggregate of a number in a cell gives; one past the last stands for the operand.
+impl From<u64> for Aggregate {
+    ghost from_gives = { IsAggregateAt };
+
+    fn from(number: u64) -> Aggregate {
+        match number {
+            1 => Aggregate::Integer,
+            2 => Aggregate::Real,
+            3 => Aggregate::Sum,
+            4 => Aggregate::OtherRow,
+            _ => Aggregate::Operand,
         }
     }
 }

@@ -1,7 +1,8 @@
 -- Columns gathered along a chain of the blocks: the invariant of the loop, each turn of it, that columns which are too many stay so, and that the
 -- records of other buckets would add none. Assumes nothing.
 use Rattle.refusal.specs.declared.Refusal.{Refusal}
-use Rattle.std.specs.Prelude.{Ok, Err}
+use Rattle.std.specs.Prelude.{Ok, Err, Option, None, Some}
+use Rattle.std.proofs.lemmas.Option.{none-some, same_Some}
 use mathlib.Core.Path.{◌≡◌, refl, sym, ap, subst, ◌∙◌}
 use mathlib.Core.Bool.{Bool, true, false, ◌&&◌, ◌||◌}
 use mathlib.Core.Logic.{◌⊎◌, inl, inr, ∥∥₁_elim}
@@ -41,7 +42,7 @@ use Rattle.encoding.specs.Encode.{column_runs}
 use Rattle.encoding.proofs.Lengths.{length-flatten, columns_length}
 use Rattle.rows.specs.declared.row.Row.{Row}
 use Rattle.state.proofs.LeadsLaws.{frame_then}
-use Rattle.root_block.specs.Blocks.{next_of, column_of, first_of, IsBlock, in_bucket, Chain, HasBlocks, IsBlocks}
+use Rattle.root_block.specs.Blocks.{next_of, column_of, first_of, leads_to, IsBlock, in_bucket, Chain, HasBlocks, IsBlocks}
 use Rattle.read_arm.specs.Gathers.{block_for, at_page, at_database, Gathers, GathersTo}
 use Rattle.read_arm.proofs.ColumnLaws.{number_same, column_plain, Adds, added_not, added, judged-full}
 
@@ -338,6 +339,46 @@ module _ {limit : ℕ} {cs ds : List Cell} {base : ℕ} {bs : List ℕ} {x : Row
         gathering_added b high is less more =
             next es z (added limit ds m c x f es z ins) b high is
             (inserted_under ds es limit m (column_of c) b high (subst (Inserts ds es limit m (column_of c ∷ [])) is ins) less (under_more bound high (runs_at ds m) more g.under))
+
+-- ---- links as they are held
+
+-- how far what is held is from the end
+pub ahead_of : ℕ → Option ℕ → ℕ
+ahead_of n None = 0
+ahead_of n (Some link) = ahead n link
+
+pub led_less : (n at next : ℕ) {o p : Option ℕ} → o ≡ Some at → p ≡ leads_to next → ahead n next < ahead n at → ahead_of n p < ahead_of n o
+unfolding ahead ahead_of
+led_less n at next e f lt = rw (e, f) (by next lt)
+  where
+    by : (k : ℕ) → ahead n k < ahead n at → ahead_of n (leads_to k) < ahead n at
+    by zero lt = lt
+    by (suc k) lt = lt
+
+-- what is held leads on to the rest
+pub record Led (limit : ℕ) (cs ds : List Cell) (base : ℕ) (bs : List ℕ) (x : Row) (o : Option ℕ) (m : IntMap) (bound : ℕ) : Type 0 where
+  pub link : ℕ
+  pub is : o ≡ leads_to link
+  pub gathering : Gathering limit cs ds base bs x link m bound
+
+led_to : (link at : ℕ) → leads_to link ≡ Some at → (link ≡ at) × (0 < at)
+led_to zero at e = absurd (none-some at e)
+led_to (suc k) at e = let same : suc k ≡ at = same_Some (suc k) at e in (same, omega (arith, same))
+
+led_off : (link : ℕ) → leads_to link ≡ None → link ≤ 0
+led_off zero e = omega arith
+led_off (suc k) e = absurd (none-some (suc k) (sym e))
+
+module _ {limit : ℕ} {cs ds : List Cell} {base : ℕ} {bs : List ℕ} {x : Row} {o : Option ℕ} {m : IntMap} {bound : ℕ} (l : Led limit cs ds base bs x o m bound) where
+  pub led_end : o ≡ None → Gathers limit cs ds base bs (at_page x) (Ok m)
+  led_end e = gathering_end l.gathering (led_off l.link (sym l.is ∙ e))
+
+  module _ {at : ℕ} (e : o ≡ Some at) where
+    pub led_some : 0 < at
+    led_some = (led_to l.link at (sym l.is ∙ e)).1
+
+    pub led_at : Gathering limit cs ds base bs x at m bound
+    led_at = subst (λ k. Gathering limit cs ds base bs x k m bound) (led_to l.link at (sym l.is ∙ e)).0 l.gathering
 
 -- ---- the database
 

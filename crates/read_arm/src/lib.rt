@@ -54,10 +54,11 @@ fn columns_at(
     let mut m = IntMap::new(base);
     let mut bound: u64 = 0;
     let mut link = blocks.first_link(x.p2);
-    // A `while`: `successors` over the links has no end that is known, and its closure would need a contract that each link leads to a cell.
-    while 0 < link {
-        let c = blocks.record_at(link);
-        link = (c.payload / root_block::LINK) as usize;
+    // A `while let`: an iterator of the links, as `catalogue::Records` is one of records, would have to carry in a ghost field that each leads to a
+    // cell and further on, for this one loop.
+    while let Some(at) = link {
+        let c = blocks.record_at(at);
+        link = root_block::next_link(c);
         if !is_block_for(c, x) {
             continue;
         }

@@ -139,7 +139,8 @@ fn put_column(area: &mut [u8], from: Progress, k: u64, key: u64, end: usize) -> 
     }
 }
 
-// Puts the columns of the registers at `low`, one after the other, unless they would end behind `end`. Entries are passed once.
+// Puts the columns of the registers at `low`, one after the other, unless they would end behind `end`. Entries are passed once. Over the map and the
+// area: it reads two words of the map, once, and a loop like it, `carry_cells` of copy_arms, was slower over a `Store`; here that is not tried.
 fn put_columns(
     map: IntMap,
     area: &mut [u8],
@@ -281,9 +282,7 @@ fn store_behind(store: &mut Store, registers: Registers, i: u64) -> Result<(), R
     if store.limit as u64 <= registers.count {
         return Err(Refusal::TooManyCells);
     }
-    let Some(p) = build_record(store, registers) else {
-        return Err(Refusal::TooManyCells);
-    };
+    let p = build_record(store, registers).ok_or(Refusal::TooManyCells)?;
     store.store_run(intmap::Class::Registers, i, p)
 }
 

@@ -4,8 +4,8 @@ use Rattle.refusal.specs.declared.Refusal.{Refusal}
 use Rattle.intmap.specs.Store.{Stored}
 use mathlib.Core.Path.{◌≡◌, refl, sym, ap, ap₂, subst, ◌∙◌}
 use mathlib.Core.Logic.{◌⊎◌, inl, inr}
-use mathlib.Core.Bool.{true, false, not, Bool}
-use Rattle.std.specs.Prelude.{Option, None, Some, Ok, Err, is_some}
+use mathlib.Core.Bool.{false, not, Bool}
+use Rattle.std.specs.Prelude.{Option, None, Some, Ok, Err}
 use mathlib.Core.List.{List}
 use Prim.Native.Nat.{ℕ}
 use lib.IntN.{ℤ}
@@ -15,7 +15,7 @@ use Rattle.model.specs.Walk.{Tried, refused, done}
 use Rattle.model.specs.Row.{Row as Listed}
 use Rattle.model.specs.State.{Single, RegDataType, Column, Int, MemoryState, null, never_null, first_datatype}
 use Rattle.model.specs.Access.{◌>>=◌, read_register, store_register}
-use Rattle.model.specs.Functions.{gives, never, by_p2, MayBeNull, is_nullable, text_if, text_of, sum_datatype, aggregate_of}
+use Rattle.model.specs.Functions.{gives, never, by_p2, MayBeNull, is_nullable, text_if, text_of, aggregate_of}
 use Rattle.model.specs.Meaning.{Meaning}
 use Rattle.model.specs.Operation.{op_integer, op_constant, op_variable, op_function, op_arithmetic, op_agg_step, op_agg_final}
 use Rattle.model.specs.RegisterArms.{register_arm, function_arm, operands, summed, from_other_row, store_some, copy_to, agg_step_arm, agg_final_arm}
@@ -33,10 +33,10 @@ use Rattle.rows.specs.Rows.{p4_at}
 use Rattle.rows.specs.Judged.{Judged}
 use Rattle.rows.specs.declared.row.Row.{Row}
 use Rattle.state.specs.Leads.{Current, Leads, HoldsMap, Tells}
-use Rattle.state.specs.Reads.{Reads, Reading}
+use Rattle.state.specs.Reads.{Reads, TellsRegister, Reading}
 use Rattle.state.specs.declared.Register.{Register}
-use Rattle.register_arms.specs.Values.{datatype_of, nullable_of, IsDatatype, IsNullable, AreNullable}
-use Rattle.register_arms.proofs.ValueLaws.{IsRead, value_read, operands_are, absent_lem, IsSome, some-value}
+use Rattle.register_arms.specs.Values.{datatype_of, IsDatatype, AreNullable, Makes}
+use Rattle.register_arms.proofs.ValueLaws.{IsRead, value_read, operands_are, never-absent}
 use Rattle.state.specs.Arms.{Standard}
 use lib.Dec.{eqb}
 use Rattle.state.proofs.LeadsLaws.{unchanged}
@@ -164,13 +164,9 @@ module _
 
 -- ---- aggregates
 
-sum_column : (limit : ℕ) (k : ℤ) (m : MemoryState) (v : Option RegDataType) → IsSome v → (d e : DataType) (n : Option Bool) → e ≡ sum_datatype d → d ≡ datatype_of v → n ≡ nullable_of v → store_register limit k (Column (Single e n)) m ≡ store_some limit k summed v m
-sum_column limit k m None is d e n kind dv nv = absurd is
-sum_column limit k m (Some v) is d e n kind dv nv = ap₂ (λ y z. store_register limit k (Column (Single y z)) m) (kind ∙ ap sum_datatype dv) nv
-
-row_column : (limit : ℕ) (k : ℤ) (m : MemoryState) (v : Option RegDataType) → IsSome v → (d : DataType) → d ≡ datatype_of v → store_register limit k (Column (Single d (Some true))) m ≡ store_some limit k from_other_row v m
-row_column limit k m None is d dv = absurd is
-row_column limit k m (Some v) is d dv = ap (λ y. store_register limit k (Column (Single y (Some true))) m) dv
+made_column : (limit : ℕ) (k : ℤ) (m : MemoryState) (bound : ℕ) (cs : List Cell) (a : IntMap) {P : Register → DataType × Option Bool → Type 0} {f : RegDataType → RegDataType} → Makes P f → (q : Register) (v : Option RegDataType) → TellsRegister bound cs a (Ok (Some q)) (done v) → (c : DataType × Option Bool) → P q c → store_register limit k (Column (Single c.0 c.1)) m ≡ store_some limit k f v m
+made_column limit k m bound cs a makes q None told c made = absurd (never-absent bound cs a q told)
+made_column limit k m bound cs a makes q (Some v) told c made = ap (λ y. store_register limit k y m) (makes bound cs a q v told c made)
 
 module _ (limit : ℕ) (cs : List Cell) (a : IntMap) (i k : ℕ) (r : Reading) (g : Reads cs a i r) (bound : ℕ) (m : MemoryState) (h : HoldsMap limit bound cs a m) where
   abbrev stores : (RegDataType → RegDataType) → Tried (Option RegDataType) → Tried MemoryState
@@ -183,21 +179,13 @@ module _ (limit : ℕ) (cs : List Cell) (a : IntMap) (i k : ℕ) (r : Reading) (
   pub copy_refused : (f : RegDataType → RegDataType) (n : Refusal) → r ≡ Err n → copy_to limit (int_of i) (int_of k) f m ≡ refused (number_of n)
   copy_refused f n e = copy_is f ∙ ap (stores f) (bad_read limit bound cs a i r g m h n e)
 
-  pub copy_nothing : (f : RegDataType → RegDataType) (q : Option Register) → r ≡ Ok q → is_some q ≡ false → copy_to limit (int_of i) (int_of k) f m ≡ done m
-  copy_nothing f q good e = copy_is f ∙ ap (stores f) ((subst (Reads cs a i) (good ∙ ap Ok (absent_lem q e)) g).says limit bound m h)
+  pub copy_nothing : (f : RegDataType → RegDataType) → r ≡ (Ok None) → copy_to limit (int_of i) (int_of k) f m ≡ done m
+  copy_nothing f e = copy_is f ∙ ap (stores f) ((subst (Reads cs a i) e g).says limit bound m h)
 
-  module _ (q : Option Register) (good : r ≡ Ok q) (present : is_some q ≡ true) (d : DataType) (kind : IsDatatype q d) where
-    pub sum_stored : (e : DataType) (n : Option Bool) → e ≡ sum_datatype d → IsNullable q n → store_register limit (int_of k) (Column (Single e n)) m ≡ copy_to limit (int_of i) (int_of k) summed m
-    sum_stored e n ed nullable =
-        let v = good_read limit bound cs a i r g m h q good in
-        sum_column limit (int_of k) m v.value (some-value bound cs a q v.value present v.told) d e n ed (kind.says bound cs a v.value v.told) (nullable.says bound cs a v.value v.told)
-        ∙ sym (copy_is summed ∙ ap (stores summed) v.answer)
-
-    pub row_stored : store_register limit (int_of k) (Column (Single d (Some true))) m ≡ copy_to limit (int_of i) (int_of k) from_other_row m
-    row_stored =
-        let v = good_read limit bound cs a i r g m h q good in
-        row_column limit (int_of k) m v.value (some-value bound cs a q v.value present v.told) d (kind.says bound cs a v.value v.told)
-        ∙ sym (copy_is from_other_row ∙ ap (stores from_other_row) v.answer)
+  pub copy_stored : {P : Register → DataType × Option Bool → Type 0} (f : RegDataType → RegDataType) → Makes P f → (q : Register) → r ≡ Ok (Some q) → (c : DataType × Option Bool) → P q c → store_register limit (int_of k) (Column (Single c.0 c.1)) m ≡ copy_to limit (int_of i) (int_of k) f m
+  copy_stored f makes q good c made =
+      let v = good_read limit bound cs a i r g m h (Some q) good in
+      made_column limit (int_of k) m bound cs a makes q v.value v.told c made ∙ sym (copy_is f ∙ ap (stores f) v.answer)
 
 module _ (limit : ℕ) (meaning : Meaning) (l : Listed) (x : Row) (s : Standard limit meaning) (j : Judged l x) (m : MemoryState) where
   pub step_refused : p4_at x.p4 ≡ None → register_arm meaning l m op_agg_step ≡ refused 10

@@ -1,7 +1,6 @@
 -- The kind and the nullable of what a register holds, by value. Assumes nothing.
 use mathlib.Core.Path.{◌≡◌, refl, sym, ap, subst}
-use mathlib.Core.Bool.{true, false, true≢false}
-use Rattle.std.specs.Prelude.{Option, None, Some, Ok, is_some}
+use Rattle.std.specs.Prelude.{Option, None, Some, Ok}
 use mathlib.Core.List.{List}
 use Prim.Native.Nat.{ℕ}
 use Rattle.type_info.specs.declared.DataType.{DataType}
@@ -17,21 +16,16 @@ use Rattle.state.specs.declared.Register.{Register}
 use Rattle.state.specs.declared.Register.TheVariants as register
 use Rattle.register_arms.specs.Values.{datatype_of, operands_nullable}
 
--- ---- absent, or not
+-- ---- what is there is not read as absent
 
-pub absent_lem : (r : Option Register) → is_some r ≡ false → r ≡ None
-absent_lem None e = refl
-absent_lem (Some q) e = absurd (true≢false e)
-
-abbrev pub IsSome : Option RegDataType → Type 0
+abbrev IsSome : Option RegDataType → Type 0
 IsSome None = ⊥
 IsSome (Some v) = Unit {0}
 
-pub some-value : (bound : ℕ) (cs : List Cell) (a : IntMap) (r : Option Register) (v : Option RegDataType) → is_some r ≡ true → TellsRegister bound cs a (Ok r) (done v) → IsSome v
-some-value bound cs a None v e t = absurd (true≢false (sym e))
-some-value bound cs a (Some (register.Single d n)) v e t = subst IsSome (sym (done-same t)) tt
-some-value bound cs a (Some (register.Record at)) v e t = subst IsSome (sym (done-same t.answer)) tt
-some-value bound cs a (Some (register.Int w)) v e t = subst IsSome (sym (done-same t.answer)) tt
+pub never-absent : (bound : ℕ) (cs : List Cell) (a : IntMap) (q : Register) → TellsRegister bound cs a (Ok (Some q)) (done None) → ⊥
+never-absent bound cs a (register.Single d n) t = subst IsSome (sym (done-same t)) tt
+never-absent bound cs a (register.Record at) t = subst IsSome (sym (done-same t.answer)) tt
+never-absent bound cs a (register.Int w) t = subst IsSome (sym (done-same t.answer)) tt
 
 -- ---- two operands
 

@@ -3,7 +3,7 @@ use Rattle.std.specs.Prelude.{◌≡◌, Bool, false, List, ℕ, Option, None, S
 use Rattle.type_info.specs.declared.DataType.{DataType}
 use Rattle.type_info.specs.declared.DataType.TheVariants.{Null, Integer}
 use Rattle.model.specs.Walk.{done}
-use Rattle.model.specs.State.{RegDataType, map_to_datatype, map_to_nullable, either_nullable}
+use Rattle.model.specs.State.{RegDataType, Column, Single, map_to_datatype, map_to_nullable, either_nullable}
 use Rattle.area.specs.declared.Cell.{Cell}
 use Rattle.intmap.specs.declared.IntMap.{IntMap}
 use Rattle.state.specs.Reads.{TellsRegister}
@@ -49,3 +49,7 @@ pub record IsNullable (r : Option Register) (n : Option Bool) : Type 0 where
 
 pub record AreNullable (r s : Option Register) (n : Option Bool) : Type 0 where
   pub says : (bound : ℕ) (cs : List Cell) (a : IntMap) (v w : Option RegDataType) → TellsRegister bound cs a (Ok r) (done v) → TellsRegister bound cs a (Ok s) (done w) → n ≡ operands_nullable v w
+
+-- what is made of a register as it was read is what f makes of the value that was read
+abbrev pub Makes : (Register → DataType × Option Bool → Type 0) → (RegDataType → RegDataType) → Type 0
+Makes P f = (bound : ℕ) (cs : List Cell) (a : IntMap) (r : Register) (v : RegDataType) → TellsRegister bound cs a (Ok (Some r)) (done (Some v)) → (c : DataType × Option Bool) → P r c → Column (Single c.0 c.1) ≡ f v

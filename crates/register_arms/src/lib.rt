@@ -14,7 +14,7 @@ ghost use Rattle.state.specs.Leads.{Current, Leads};
 ghost use Rattle.state.specs.Arms.{RegisterArm};
 ghost use Rattle.state.specs.Stores.{IsCurrent, Changes, Writes};
 ghost use Rattle.register_arms.specs.Nulls.{NullsRun};
-ghost use Rattle.register_arms.specs.Values.{IsDatatype, IsNullable, AreNullable};
+ghost use Rattle.register_arms.specs.Values.{IsDatatype, IsNullable, AreNullable, Makes};
 
 use intmap::{Class, IntMap};
 use opcode::{Aggregate, FunctionValue};
@@ -59,9 +59,7 @@ pub fn function(store: &mut Store, x: Row) -> Result<(), Refusal>
     requires { IsCurrent store.old }
     ensures { Changes (λ limit cs ds a r. RegisterArm limit cs ds a x op_function r) store.old store.new result }
 {
-    let Some(p4) = x.read_p4() else {
-        return Err(Refusal::NotUtf8);
-    };
+    let p4 = x.read_p4().ok_or(Refusal::NotUtf8)?;
     let Some(value) = p4.function else {
         return Ok(());
     };
@@ -158,17 +156,33 @@ fn sum_datatype(d: DataType) -> DataType
     }
 }
 
+// What `f` makes of what register `from` holds, as a plain column in register `to`, if there is something.
+fn copy_to<F: FnOnce(Register) -> (DataType, Option<bool>)>(
+    store: &mut Store,
+    from: u64,
+    to: u64,
+    f: F,
+) -> Result<(), Refusal>
+    requires { IsCurrent store.old × F.IsAlwaysCallable f }
+    ensures { (g : _) → Makes (F.post f) g → Changes (λ limit cs ds a r. Leads limit cs ds a r (copy_to limit (int_of from) (int_of to) g)) store.old store.new result }
+{
+    let Some(held) = store.read_register(from)? else {
+        return Ok(());
+    };
+    let (d, nullable) = f(held);
+    store.store_single(to, d, nullable)
+}
+
 // The sum of register `from` in register `to`, if there is an operand.
 fn sum(store: &mut Store, from: u64, to: u64) -> Result<(), Refusal>
     requires { IsCurrent store.old }
     ensures { Changes (λ limit cs ds a r. Leads limit cs ds a r (copy_to limit (int_of from) (int_of to) summed)) store.old store.new result }
 {
-    let v = store.read_register(from)?;
-    if v.is_none() {
-        return Ok(());
-    }
-    let d = sum_datatype(map_to_datatype(v));
-    store.store_single(to, d, map_to_nullable(v))
+    let summed = |held: Register| {
+        let d = sum_datatype(map_to_datatype(Some(held)));
+        (d, map_to_nullable(Some(held)))
+    };
+    copy_to(store, from, to, summed)
 }
 
 // The kind of register `from` in register `to`: another row's value is null where there is no such row.
@@ -176,11 +190,8 @@ fn other_row(store: &mut Store, from: u64, to: u64) -> Result<(), Refusal>
     requires { IsCurrent store.old }
     ensures { Changes (λ limit cs ds a r. Leads limit cs ds a r (copy_to limit (int_of from) (int_of to) from_other_row)) store.old store.new result }
 {
-    let v = store.read_register(from)?;
-    if v.is_none() {
-        return Ok(());
-    }
-    store.store_single(to, map_to_datatype(v), Some(true))
+    let nullable = |held: Register| (map_to_datatype(Some(held)), Some(true));
+    copy_to(store, from, to, nullable)
 }
 
 // AggStep and AggValue: what the aggregate gives in register P3. An operand may be a record.
@@ -188,9 +199,7 @@ pub fn agg_step(store: &mut Store, x: Row) -> Result<(), Refusal>
     requires { IsCurrent store.old }
     ensures { Changes (λ limit cs ds a r. RegisterArm limit cs ds a x op_agg_step r) store.old store.new result }
 {
-    let Some(p4) = x.read_p4() else {
-        return Err(Refusal::NotUtf8);
-    };
+    let p4 = x.read_p4().ok_or(Refusal::NotUtf8)?;
     match p4.aggregate {
         Aggregate::Integer => { store.store_single(x.p3, DataType::Integer, Some(false)) }
         Aggregate::Real => { store.store_single(x.p3, DataType::Float, Some(false)) }
@@ -205,9 +214,7 @@ pub fn agg_final(store: &mut Store, x: Row) -> Result<(), Refusal>
     requires { IsCurrent store.old }
     ensures { Changes (λ limit cs ds a r. RegisterArm limit cs ds a x op_agg_final r) store.old store.new result }
 {
-    let Some(p4) = x.read_p4() else {
-        return Err(Refusal::NotUtf8);
-    };
+    let p4 = x.read_p4().ok_or(Refusal::NotUtf8)?;
     match p4.aggregate {
         Aggregate::Integer => { store.store_single(x.p1, DataType::Integer, Some(false)) }
         Aggregate::Real => { store.store_single(x.p3, DataType::Float, Some(false)) }
@@ -217,7 +224,8 @@ pub fn agg_final(store: &mut Store, x: Row) -> Result<(), Refusal>
 }
 
 // Null in the registers from `from` on where they stand side by side as plain cells from p on, at most n. Gives how many. Over the words of the map:
-// read of the store at each turn they were never faster, and slower by the place of the code.
+// read of the store at each turn they were never faster, and slower by the place of the code. `from` and n here and below are no `Registers`: those
+// are judged at once, and these one by one, since the ones before an index that is refused are made null.
 fn null_run(map: IntMap, area: &mut [u8], p: usize, from: u64, n: u64, limit: usize) -> u64
     requires { Current limit (cells area.old) map × (map.base ≤ p) × (p ≤ map.base + map.used) × (from + n < 18446744073709551616) }
     ensures { NullsRun limit (cells area.old) (cells area.new) map from n result }
@@ -278,12 +286,9 @@ pub fn cast(store: &mut Store, x: Row) -> Result<(), Refusal>
     requires { IsCurrent store.old }
     ensures { Changes (λ limit cs ds a r. RegisterArm limit cs ds a x op_cast r) store.old store.new result }
 {
-    let v = store.read_register(x.p1)?;
-    if v.is_none() {
-        return Ok(());
-    }
     let d = opcode::affinity_to_type(low_byte(x.p2));
-    store.store_single(x.p1, d, map_to_nullable(v))
+    let cast = |held: Register| (d, map_to_nullable(Some(held)));
+    copy_to(store, x.p1, x.p1, cast)
 }
 
 // HaltIfNull: behind it a plain column in register P3 is not null; what else is there stays.

@@ -1,7 +1,7 @@
 -- A record's column as a cell, and its cell among the blocks. Assumes nothing.
 use mathlib.Core.Path.{◌≡◌, sym, ap, ◌∙◌}
 use mathlib.Core.Bool.{Bool, true, false, not}
-use Rattle.std.specs.Prelude.{Option, Some, option_map}
+use Rattle.std.specs.Prelude.{Some}
 use mathlib.Core.List.{List, [], ◌∷◌}
 use Prim.Native.Nat.{ℕ, ◌+◌, ◌*◌, ◌<◌, ◌≤◌}
 use native.Mathlib.Omega.{arith}
@@ -19,7 +19,7 @@ use Rattle.encoding.proofs.Dense.{column_rekey}
 use Rattle.encoding.proofs.Packing.{code_small}
 use Rattle.catalogue.specs.Records.{record_of}
 use Rattle.catalogue.specs.declared.Record.{Record}
-use Rattle.text.specs.Reads.{with_rest, Reads}
+use Rattle.text.specs.Reads.{Reads}
 use Rattle.root_block.specs.Build.{IsColumn, Unlinked}
 
 code_few : (b : Bool) → nullable_code (Some b) < 3
@@ -34,8 +34,8 @@ column_made r d k c de ke ce =
     ∙ column_rekey (record_column (record_of r)) 0 r.col
 
 -- what is known of a record that was read
-pub record_read : {t rest : List ℕ} {o : Option Record} {r : Record} → Reads take_record t rest (option_map record_of o) → o ≡ Some r → ValidRecord (record_of r)
-record_read {t} {rest} {o} {r} h e = ((record_takes.is t (record_of r) rest).0 (sym h.is ∙ ap (λ x. with_rest rest (option_map record_of x)) e)).0
+pub record_read : {t rest : List ℕ} (r : Record) → Reads take_record t rest (Some (record_of r)) → ValidRecord (record_of r)
+record_read {t} {rest} r h = ((record_takes.is t (record_of r) rest).0 (sym h.is)).0
 
 -- the head of a column leaves room for a link
 pub block_made : (r : Record) (c : Cell) → IsColumn r c → r.db ≤ 1 → r.page ≤ 2147483647 → r.col ≤ 65535 → Unlinked (cell c.head (r.page + 2147483648 * r.db)) (record_of r)

@@ -1,6 +1,6 @@
 -- The first pass: the records read so far stand in the first cells, and no bucket has any. Assumes nothing.
 use mathlib.Core.Path.{◌≡◌, refl, sym, ap, subst, ◌∙◌}
-use Rattle.std.specs.Prelude.{Option, None, Some, option_map}
+use Rattle.std.specs.Prelude.{Option, None, Some}
 use Rattle.std.proofs.lemmas.Option.{none-some, same_Some}
 use mathlib.Core.List.{List, [], ◌∷◌, ◌++◌}
 use Prim.Native.Nat.{ℕ, ◌+◌, ◌-◌, ◌<◌}
@@ -67,7 +67,7 @@ begins t rest k first records h e = go (items_up_to (λ _. take_record) (length 
     go None e = absurd (none-some records e)
     go (Some more) e = (more, sym (same_Some (first ++ more) records e))
 
-filling_end : {t rest xs ys : List ℕ} {n : ℕ} → Filling t rest xs ys n → length rest ≡ 0 → Stand t xs ys n
+pub filling_end : {t rest xs ys : List ℕ} {n : ℕ} → Filling t rest xs ys n → length rest ≡ 0 → Stand t xs ys n
 unfolding read_catalogue
 filling_end {ys = ys} f l =
     record {
@@ -78,30 +78,23 @@ filling_end {ys = ys} f l =
       bytes = f.bytes;
     }
 
-module _ {t rest xs ys : List ℕ} {n : ℕ} (f : Filling t rest xs ys n) {last : List ℕ} {o : Option Record} (h : Reads take_record rest last (option_map record_of o)) where
-  filling_bad : o ≡ None → (length rest ≡ 0 → ⊥) → Stand t xs ys n
+module _ {t rest xs ys : List ℕ} {n : ℕ} (f : Filling t rest xs ys n) {last : List ℕ} where
+  -- the text reads, so that no record of it is ill-formed
+  pub filling_bad : Reads take_record rest last None → 0 < length rest → Stand t xs ys n
   unfolding read_catalogue
-  filling_bad e some =
+  filling_bad h some =
       record {
-        says = λ records read. absurd (none-some records (sym (items_bad (λ _. take_record) f.read some h (ap (option_map record_of) e)) ∙ read));
+        says = λ records read. absurd (none-some records (sym (items_bad (λ _. take_record) f.read (λ l. omega (arith, l, some)) h refl) ∙ read));
         none = f.none;
         bytes = f.bytes;
       }
 
-  -- where no record is read, the text has ended, since it reads
-  pub filling_over : o ≡ None → Stand t xs ys n
-  filling_over e = go (ℕ_discrete (length rest) 0)
-    where
-      go : Dec (length rest ≡ 0) → Stand t xs ys n
-      go (yes l) = filling_end f l
-      go (no some) = filling_bad e some
-
-  module _ {r : Record} (e : o ≡ Some r) where
+  module _ (r : Record) (h : Reads take_record rest last (Some (record_of r))) where
     some_left : length rest ≡ 0 → ⊥
-    some_left l = omega (arith, l, read_shorter h (ap (option_map record_of) e))
+    some_left l = omega (arith, l, read_shorter h refl)
 
     next : ItemsRead (λ _. take_record) t last (n + 1) (f.before ++ (record_of r ∷ []))
-    next = items_next (λ _. take_record) f.read some_left h (ap (option_map record_of) e)
+    next = items_next (λ _. take_record) f.read some_left h refl
 
     -- there is a cell for it
     pub filling_inside : Indexable t xs → Inside ys n 1

@@ -1,13 +1,14 @@
 -- The second pass: what a link changes and what it leaves, and that the records linked so far are the chains. Assumes nothing.
 use mathlib.Core.Path.{◌≡◌, refl, sym, ap, ap₂, subst, ◌∙◌}
-use mathlib.Core.Bool.{Bool, true, false}
+use mathlib.Core.Bool.{Bool, true, false, not}
 use mathlib.Core.List.{List, [], ◌∷◌, ◌++◌, append_assoc, append-nil}
+use Rattle.std.specs.Bool.{then_some}
 use Prim.Native.Nat.{ℕ, zero, suc, ◌+◌, ◌-◌, ◌%◌, ◌<◌, ◌≤◌}
 use native.Mathlib.Omega.{arith}
 use native.Mathlib.Nat.{mod-lt}
 use lib.Dec.{eqb}
 use lib.ListN.{length, get_or, set, length-set, length-append}
-use borrow.Author.Tests.{eqb-true, eqb-false}
+use borrow.Author.Tests.{eqb-true, eqb-false, ne_eqb}
 use Rattle.model.specs.Catalogue.{CatalogueRecord}
 use Rattle.model.proofs.CatalogueTextLaws.{catalogue_exact}
 use Rattle.area.specs.Cells.{cell, blank, cells, Inside, CellsNow}
@@ -15,9 +16,14 @@ use Rattle.area.specs.declared.Cell.{Cell}
 use Rattle.area.proofs.CellLaws.{cells-kept}
 use Rattle.intmap.specs.Pick.{pick}
 use Rattle.intmap.specs.Signed.{offset}
-use Rattle.root_block.specs.Blocks.{page_of, db_of, next_of, column_of, first_of, IsBlock, in_bucket, Chain, IsBlocks}
+use Rattle.root_block.specs.Blocks.{page_of, db_of, next_of, column_of, first_of, leads_to, IsBlock, in_bucket, Chain, IsBlocks}
 use Rattle.root_block.specs.Build.{Indexable, Indexed, StandFrom, Stand, with_next, with_first, bucket_at, follows, linked, linked_all}
 use Rattle.root_block.proofs.FillLaws.{at_set}
+
+-- a link is told from 0
+pub link_tested : (link : ℕ) → then_some (not (eqb link 0)) link ≡ leads_to link
+link_tested zero = refl
+link_tested (suc i) = ap (λ (b : Bool). then_some (not b) (suc i)) (ne_eqb (suc i) 0 (λ z. omega (arith, z)))
 
 -- ---- the same record in another cell
 

@@ -2,7 +2,7 @@
 -- in a cell: its column, its database and its page. There are as many buckets as cells, and a record is in the bucket that its page's word gives.
 -- The records of a bucket are linked in the catalogue's order; the link to the first of bucket b stands in cell b. A link is 0, for none, or one
 -- more than the number of a cell. Assumes nothing.
-use Rattle.std.specs.Prelude.{◌≡◌, List, [], ◌∷◌, ℕ, ◌+◌, ◌-◌, ◌/◌, ◌%◌, ◌<◌, ◌≤◌, eqb, length, get_or}
+use Rattle.std.specs.Prelude.{◌≡◌, List, [], ◌∷◌, ℕ, zero, suc, Option, None, Some, ◌+◌, ◌-◌, ◌/◌, ◌%◌, ◌<◌, ◌≤◌, eqb, length, get_or}
 use Rattle.type_info.specs.All.{All}
 use Rattle.model.specs.Catalogue.{CatalogueRecord, record_column}
 use Rattle.model.specs.CatalogueText.{ValidRecord}
@@ -28,6 +28,11 @@ column_of c = cell (c.head % 1099511627776) 0
 
 abbrev pub first_of : Cell → ℕ
 first_of c = c.head / 1099511627776
+
+-- where a link leads, if it leads to a record
+abbrev pub leads_to : ℕ → Option ℕ
+leads_to zero = None
+leads_to (suc i) = Some (suc i)
 
 -- the cell of a record
 pub record IsBlock (c : Cell) (r : CatalogueRecord) : Type 0 where

@@ -1,8 +1,8 @@
 // The blocks as one value. It has a file of its own, since a struct with a ghost field imports what its file imports, and `first_link` names it.
 
-ghost use Rattle.std.specs.Prelude.{◌≡◌, ◌-◌, ◌%◌, ◌<◌, ◌≤◌, length, get_or};
+ghost use Rattle.std.specs.Prelude.{◌≡◌, ◌-◌, ◌%◌, ◌<◌, ◌≤◌, length, get_or, IfSome};
 ghost use Rattle.area.specs.Cells.{blank, cells};
-ghost use Rattle.root_block.specs.Blocks.{first_of, IsBlocks};
+ghost use Rattle.root_block.specs.Blocks.{first_of, leads_to, IsBlocks};
 
 use area::Cell;
 
@@ -14,11 +14,11 @@ pub struct Blocks<'a> {
 }
 
 impl Blocks<'_> {
-    // The link to the first record in the bucket of a page's word, 0 for none: a link is a word of the blocks.
-    pub fn first_link(self, page: u64) -> usize
-        ensures { (result ≡ first_of (get_or (cells self.entry.bytes.now) (page % length (cells self.entry.bytes.now)) blank)) × (result < 16777216) }
+    // The link to the first record in the bucket of a page's word, if there is one.
+    pub fn first_link(self, page: u64) -> Option<usize>
+        ensures { (result ≡ leads_to (first_of (get_or (cells self.entry.bytes.now) (page % length (cells self.entry.bytes.now)) blank))) × IfSome result (λ link. link < 16777216) }
     {
-        super::first_link(self.bytes, page)
+        super::leads_to(super::first_link(self.bytes, page))
     }
 
     // The cell of the record that a link leads to.

@@ -5,15 +5,14 @@
 ghost use Rattle.std.specs.Prelude.{◌≡◌, not, ◌%◌, ◌<◌, ◌≤◌, length, get_or, Some};
 ghost use Rattle.area.specs.Cells.{blank, cells, Inside, CellsNow};
 ghost use Rattle.catalogue.specs.Records.{record_of};
-ghost use Rattle.root_block.specs.Blocks.{first_of};
+ghost use Rattle.root_block.specs.Blocks.{next_of, first_of, leads_to};
 ghost use Rattle.root_block.specs.Build.{Indexable, Indexed, IsColumn, Unlinked, Stand, linked, linked_all};
 
 mod blocks;
 
 use area::Cell;
 pub use blocks::Blocks;
-use catalogue::Record;
-use text::Reader;
+use catalogue::{Record, Records};
 use type_info::DataType;
 
 // A payload is a page, and PAGES times its database, and LINK times the link to the bucket's next record.
@@ -51,10 +50,12 @@ fn read_records(catalogue: &[u8], blocks: &mut [u8]) -> usize
     requires { Indexable catalogue.now blocks.old }
     ensures { Stand catalogue.now blocks.old blocks.new result }
 {
-    let mut reader = Reader { rest: catalogue };
     let mut n: usize = 0;
-    // A `while let`: a `for` over `from_fn` needs an end that is known, as a range of cells beside it, and would count the records all the same.
-    while let Some(r) = catalogue::read_record(&mut reader) {
+    for record in Records::new(catalogue) {
+        // Never so: what is asked rules out a record that is ill-formed.
+        let Ok(r) = record else {
+            return n;
+        };
         area::put_cell(blocks, n, block_of(r));
         n += 1;
     }
@@ -69,13 +70,28 @@ fn bucket(blocks: &[u8], page: u64) -> usize
     (page % ((blocks.len() / 16) as u64)) as usize
 }
 
-// The link to the first record in the bucket of a page's word, 0 for none, of blocks that may be in the making.
+// The link to the first record in the bucket of a page's word, of blocks that may be in the making. The word itself, 0 for none, since it is
+// stored again as it is.
 pub fn first_link(blocks: &[u8], page: u64) -> usize
     requires { (0 < length (cells blocks.now)) × (length (cells blocks.now) ≤ 1048576) }
     ensures { (result ≡ first_of (get_or (cells blocks.now) (page % length (cells blocks.now)) blank)) × (result < 16777216) }
 {
     let c = area::cell_at(blocks, bucket(blocks, page));
     (c.head / COLUMN) as usize
+}
+
+// Where a link leads, if it leads to a record.
+fn leads_to(link: usize) -> Option<usize>
+    ensures { result ≡ leads_to link }
+{
+    (link != 0).then_some(link)
+}
+
+// The link of a record's cell to the next of its bucket, if there is one.
+pub fn next_link(c: Cell) -> Option<usize>
+    ensures { result ≡ leads_to (next_of c) }
+{
+    leads_to((c.payload / LINK) as usize)
 }
 
 // Links the record in cell i before those of its bucket.

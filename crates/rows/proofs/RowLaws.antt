@@ -10,9 +10,10 @@ use Rattle.opcode.specs.declared.FunctionValue.TheVariants as function
 use Rattle.opcode.specs.declared.Aggregate.{Aggregate}
 use Rattle.opcode.specs.declared.Aggregate.TheVariants as aggregate
 use Rattle.opcode.specs.declared.P4.{P4}
+use Rattle.opcode.specs.P4.{function_at, aggregate_at}
 use Rattle.opcode.proofs.Numbers.{read_again, number-below}
 use Rattle.rows.specs.Parts.{Parts, Fits}
-use Rattle.rows.specs.Rows.{function_number, function_at, aggregate_number, aggregate_at, p4_number, p4_at, p4_if, cell_of, row_in}
+use Rattle.rows.specs.Rows.{function_number, aggregate_number, p4_number, p4_at, p4_if, cell_of, row_in}
 
 function_again : (f : Option FunctionValue) → function_at (function_number f) ≡ f
 function_again None = refl

@@ -1,7 +1,7 @@
 -- A judged row as a cell of two words: four bytes and an operand in the first, two operands in the second. The bytes are the operation's number,
 -- whether P4 is UTF-8, and the numbers of its function and its aggregate. An operand is a signed number of 32 bits; it stands as a word with an
 -- offset (`Signed`), and in the cell as its distance from the least. Assumes nothing.
-use Rattle.std.specs.Prelude.{Bool, true, false, [], ◌∷◌, ℕ, ◌+◌, ◌-◌, ◌*◌, ◌/◌, ◌%◌, ◌≡◌, eqb, get_or, Option, None, Some}
+use Rattle.std.specs.Prelude.{Bool, true, false, ℕ, ◌+◌, ◌-◌, ◌*◌, ◌/◌, ◌%◌, ◌≡◌, eqb, Option, None, Some}
 use Rattle.area.specs.Cells.{cell}
 use Rattle.area.specs.declared.Cell.{Cell}
 use Rattle.opcode.specs.declared.FunctionValue.{FunctionValue}
@@ -10,6 +10,7 @@ use Rattle.opcode.specs.declared.Aggregate.{Aggregate}
 use Rattle.opcode.specs.declared.Aggregate.TheVariants as aggregate
 use Rattle.opcode.specs.declared.P4.{P4}
 use Rattle.opcode.specs.Opcode.{number, operation_at}
+use Rattle.opcode.specs.P4.{function_at, aggregate_at}
 use Rattle.rows.specs.Parts.{least, Parts}
 use Rattle.rows.specs.declared.row.Row.{Row}
 
@@ -17,7 +18,7 @@ use Rattle.rows.specs.declared.row.Row.{Row}
 abbrev pub parts : Row → Parts
 parts r = record { op = r.op; p4 = r.p4; p1 = r.p1; p2 = r.p2; p3 = r.p3 }
 
--- the numbers of a function, and what a number is read as
+-- the numbers of a function: what they are read as is opcode's `function_at`
 abbrev pub function_number : Option FunctionValue → ℕ
 function_number None = 0
 function_number (Some function.Rowid) = 1
@@ -25,19 +26,13 @@ function_number (Some function.Text) = 2
 function_number (Some function.Days) = 3
 function_number (Some function.Seconds) = 4
 
-abbrev pub function_at : ℕ → Option FunctionValue
-function_at n = get_or (None ∷ Some function.Rowid ∷ Some function.Text ∷ Some function.Days ∷ Some function.Seconds ∷ []) n None
-
--- the same of an aggregate
+-- the same of an aggregate, read by `aggregate_at`
 abbrev pub aggregate_number : Aggregate → ℕ
 aggregate_number aggregate.Operand = 0
 aggregate_number aggregate.Integer = 1
 aggregate_number aggregate.Real = 2
 aggregate_number aggregate.Sum = 3
 aggregate_number aggregate.OtherRow = 4
-
-abbrev pub aggregate_at : ℕ → Aggregate
-aggregate_at n = get_or (aggregate.Operand ∷ aggregate.Integer ∷ aggregate.Real ∷ aggregate.Sum ∷ aggregate.OtherRow ∷ []) n aggregate.Operand
 
 -- and of a P4, whose lowest byte says whether it is UTF-8
 abbrev pub p4_number : Option P4 → ℕ

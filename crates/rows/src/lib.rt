@@ -4,7 +4,7 @@
 ghost use Rattle.std.specs.Prelude.{◌≡◌, ◌+◌, get_or, set};
 ghost use Rattle.area.specs.Cells.{blank, cells, Inside, CellsNow};
 ghost use Rattle.rows.specs.Parts.{Operand};
-ghost use Rattle.rows.specs.Rows.{parts, function_number, function_at, aggregate_at, p4_number, p4_at, cell_of, row_in};
+ghost use Rattle.rows.specs.Rows.{parts, function_number, p4_number, p4_at, cell_of, row_in};
 ghost use Rattle.rows.specs.Judged.{listed, Judged};
 
 mod row;
@@ -60,34 +60,7 @@ pub fn judge(name: &[u8], p1: u64, p2: u64, p3: u64, p4: &[u8]) -> Row
 fn pack_function(f: Option<FunctionValue>) -> u64
     ensures { result ≡ function_number f }
 {
-    match f {
-        None => 0,
-        Some(value) => value as u64 + 1,
-    }
-}
-
-fn unpack_function(n: u64) -> Option<FunctionValue>
-    ensures { result ≡ function_at n }
-{
-    match n {
-        1 => Some(FunctionValue::Rowid),
-        2 => Some(FunctionValue::Text),
-        3 => Some(FunctionValue::Days),
-        4 => Some(FunctionValue::Seconds),
-        _ => None,
-    }
-}
-
-fn unpack_aggregate(n: u64) -> Aggregate
-    ensures { result ≡ aggregate_at n }
-{
-    match n {
-        1 => Aggregate::Integer,
-        2 => Aggregate::Real,
-        3 => Aggregate::Sum,
-        4 => Aggregate::OtherRow,
-        _ => Aggregate::Operand,
-    }
+    f.map_or(0, |value| value as u64)
 }
 
 // A P4 as three bytes: 1 if it is UTF-8, the function's number, and the aggregate's.
@@ -107,8 +80,8 @@ fn unpack_p4(n: u64) -> Option<P4>
         return None;
     }
     Some(P4 {
-        function: unpack_function(n / 256 % 256),
-        aggregate: unpack_aggregate(n / 65536 % 256),
+        function: FunctionValue::try_from(n / 256 % 256).ok(),
+        aggregate: Aggregate::from(n / 65536 % 256),
     })
 }
 

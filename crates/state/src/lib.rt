@@ -543,7 +543,9 @@ fn store_cell(
     }
 }
 
-// Writes c over the cell at p, if that is register i's own and no record's. Says whether it was.
+// Writes c over the cell at p, if that is register i's own and no record's. Says whether it was. This, `overwrite_own` and the two below judge the
+// index, take its key, find the place and put. They differ in how it is found, and promise three different things of it. A function over the place
+// that was found would save two lines of each and need as many for its own clauses; one over the search would need clauses for what a closure finds.
 pub fn overwrite(map: IntMap, area: &mut [u8], p: usize, i: u64, c: Cell) -> bool
     requires { Held (cells area.old) map × (map.base ≤ p) × (tag_of c ≡ 2 → ⊥) }
     ensures { Overwrites (cells area.old) (cells area.new) map p i c result }

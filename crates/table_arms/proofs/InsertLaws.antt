@@ -4,14 +4,17 @@ use Rattle.refusal.specs.declared.Refusal.{Refusal}
 use mathlib.Core.Path.{◌≡◌, refl, sym, ap, ap₂, subst, ◌∙◌}
 use mathlib.Core.Bool.{Bool, true, false}
 use Rattle.std.specs.Prelude.{Option, None, Some, Ok, Err}
-use mathlib.Core.List.{List, [], ◌∷◌}
-use Prim.Native.Nat.{ℕ, zero, suc, ◌+◌, ◌-◌, ◌/◌, ◌%◌, ◌≤◌}
+use mathlib.Core.List.{List, ◌∷◌}
+use Prim.Native.Nat.{ℕ, ◌+◌, ◌-◌, ◌≤◌}
 use native.Mathlib.Omega.{arith}
-use lib.ListN.{get_or}
+use lib.ListN.{length, get_or}
+use lib.IntN.{ℤ}
+use Rattle.type_info.specs.declared.DataType.{DataType}
+use Rattle.type_info.specs.declared.DataType.TheVariants.{Null, Integer, Float, Text, Blob, Numeric, Bool as Boolean, Int4, Date, Time, Datetime}
 use Rattle.model.specs.Walk.{Tried, refused, done}
 use Rattle.model.specs.Row.{Row as Listed}
 use Rattle.model.specs.IntMap.{get}
-use Rattle.model.specs.State.{Single, Record, Columns, RegDataType, Column, Int, Normal, TableDataType, MemoryState, datatype_code, is_zero}
+use Rattle.model.specs.State.{Record, Columns, RegDataType, Column, Normal, TableDataType, MemoryState, is_null_type}
 use Rattle.model.specs.Cells.{column_depth, columns_depth, register_depth}
 use Rattle.model.specs.Access.{◌>>=◌, read_register, read_cursor, store_table}
 use Rattle.model.specs.Cursor.{update_cursor_table, set_empty}
@@ -20,32 +23,32 @@ use Rattle.model.specs.Good.{SortedColumn, GoodRegister}
 use Rattle.model.specs.Meaning.{Meaning}
 use Rattle.model.specs.Operation.{op_insert}
 use Rattle.model.proofs.StoreInPlace.{depth_passes}
-use Rattle.model.proofs.Tried.{done-same}
+use Rattle.model.proofs.Access.{read_register_good}
+use Rattle.model.proofs.Tried.{done-same, kept}
 use Rattle.area.specs.Cells.{blank}
 use Rattle.area.specs.declared.Cell.{Cell}
 use Rattle.intmap.specs.Change.{on_head, rekey}
 use Rattle.intmap.specs.Entries.{span}
-use Rattle.intmap.specs.Get.{Gets, Slot}
 use Rattle.intmap.specs.Map.{levels, runs_at, HasRoom}
-use Rattle.intmap.specs.Pack.{tag_of, kind_of, class_key, with_nullable}
+use Rattle.intmap.specs.Pack.{class_key, with_nullable}
 use Rattle.intmap.specs.Runs.{size}
 use Rattle.intmap.specs.Signed.{int_of}
 use Rattle.intmap.specs.Store.{put, judge_runs, stored_of, Inserts, store_at, Stored}
 use Rattle.intmap.specs.declared.IntMap.{IntMap}
 use Rattle.intmap.proofs.EntryLaws.{opened}
-use Rattle.intmap.proofs.PackLaws.{head_kind, head_with_nullable}
+use Rattle.intmap.proofs.PackLaws.{head_with_nullable}
 use Rattle.intmap.proofs.RunLaws.{size-pos}
-use Rattle.encoding.specs.Encode.{nullable_code, single, count, run_column, run_columns, run_register, run_table}
+use Rattle.encoding.specs.Encode.{count, run_column, run_columns, run_register, run_table}
 use Rattle.encoding.proofs.Held.{held_elsewhere}
 use Rattle.encoding.proofs.HeldAfter.{Carried, held_table}
-use Rattle.encoding.proofs.HeldRead.{told_register}
-use Rattle.encoding.proofs.Injective.{first-is}
-use Rattle.encoding.proofs.Packing.{code_small}
+use Rattle.encoding.proofs.Standing.{column_whole}
 use Rattle.rows.specs.Judged.{Judged}
 use Rattle.rows.specs.declared.row.Row.{Row}
 use Rattle.state.specs.Leads.{Current, HoldsMap, Tells, Leaves, Leads}
 use Rattle.state.specs.Arms.{Standard, CursorArm}
 use Rattle.state.specs.Over.{headed, OverEntry}
+use Rattle.state.specs.Reads.{IsRecord, Reads, TellsRegister, Reading as RegisterReading}
+use Rattle.state.specs.declared.Register.TheVariants as register
 use Rattle.state.proofs.StoreLeads.{wider}
 use Rattle.state.proofs.LeadsLaws.{unchanged, tells_stored}
 use Rattle.cursor_arms.specs.Behind.{RunBehind}
@@ -54,7 +57,7 @@ use Rattle.cursor_arms.specs.StandsFor.{FindsTable, TellsTable, CursorTableChang
 use Rattle.cursor_arms.specs.declared.CursorDataType.{CursorDataType}
 use Rattle.cursor_arms.specs.declared.CursorDataType.TheVariants as cursor
 use Rattle.cursor_arms.proofs.CursorLaws.{told_some}
-use Rattle.table_arms.specs.Inserted.{fill_table, StoresTable, InsertsRecord, InsertsFrom}
+use Rattle.table_arms.specs.Inserted.{RecordAt, fill_table, StoresTable, InsertsRecord}
 
 -- ---- the record as a table
 
@@ -214,116 +217,98 @@ module _ (limit : ℕ) (cs : List Cell) (a : IntMap) (i : ℕ) (p : Reading) (re
 
 -- ---- by the value
 
--- what its first cell says
-module _ (c : Cell) (rest : List Cell) (key : ℕ) where
-  is_record : (v : RegDataType) → c ∷ rest ≡ run_register key v → tag_of c ≡ 2 → (y : Columns) × (v ≡ Column (Record y))
-  unfolding run_register run_column
-  is_record (Column (Single d n)) e t = absurd (omega (arith, (first-is c _ rest [] e).0))
-  is_record (Column (Record y)) e t = (y, refl)
-  is_record (Int i) e t = absurd (omega (arith, (first-is c _ rest [] e).0))
+not-zero : (d : DataType) → (d ≡ Null → ⊥) → is_null_type d ≡ false
+not-zero Null h = absurd (h refl)
+not-zero Integer h = refl
+not-zero Float h = refl
+not-zero Text h = refl
+not-zero Blob h = refl
+not-zero Numeric h = refl
+not-zero Boolean h = refl
+not-zero Int4 h = refl
+not-zero Date h = refl
+not-zero Time h = refl
+not-zero Datetime h = refl
 
-  is_plain : (v : RegDataType) → c ∷ rest ≡ run_register key v → tag_of c ≡ 1 → (limit : ℕ) (l : Listed) (m : MemoryState) → insert_arm limit l m (Some v) ≡ insert_null_if (is_zero (kind_of c)) l m
-  unfolding run_register run_column insert_arm
-  is_plain (Column (Single d n)) e t limit l m =
-      let h = (first-is c (single (datatype_code d) (nullable_code n) key) rest [] e).0 in
-      let kind : kind_of c ≡ datatype_code d = ap (λ w. w / 256 % 256) h ∙ head_kind 1 (datatype_code d) (nullable_code n) key (omega arith) (code_small d) in
-      ap (λ k. insert_null_if (is_zero k) l m) (sym kind)
-  is_plain (Column (Record y)) e t limit l m = absurd (omega (arith, (first-is c _ rest (run_columns y) e).0))
-  is_plain (Int i) e t limit l m = absurd (omega (arith, (first-is c _ rest [] e).0))
-
-  is_number : (v : RegDataType) → c ∷ rest ≡ run_register key v → (tag_of c ≡ 2 → ⊥) → (tag_of c ≡ 1 → ⊥) → (limit : ℕ) (l : Listed) (m : MemoryState) → insert_arm limit l m (Some v) ≡ done m
-  unfolding run_register run_column insert_arm
-  is_number (Column (Single d n)) e s t limit l m = absurd (t (omega (arith, (first-is c _ rest [] e).0)))
-  is_number (Column (Record y)) e s t limit l m = absurd (s (omega (arith, (first-is c _ rest (run_columns y) e).0)))
-  is_number (Int i) e s t limit l m = refl
-
-not-zero : (n : ℕ) → (n ≡ 0 → ⊥) → is_zero n ≡ false
-not-zero zero h = absurd (h refl)
-not-zero (suc n) h = refl
-
-module _ (limit : ℕ) (cs : List Cell) (a : IntMap) (x : Row) (at : ℕ) (current : Current limit cs a) (below : at + size cs levels at ≤ a.base + a.used) (c : Cell) (ce : c ≡ get_or cs at blank) where
-  with_head : (run : List Cell) → span cs at (size cs levels at) ≡ run → c ∷ span cs (at + 1) (size cs levels at - 1) ≡ run
-  with_head run e = ap (λ y. y ∷ span cs (at + 1) (size cs levels at - 1)) ce ∙ opened cs at (size cs levels at) (size-pos cs levels at) ∙ e
-
-  pub from_record : tag_of c ≡ 2 → (ds : List Cell) (r : Stored) → InsertsRecord limit cs ds a x at r → InsertsFrom limit cs ds a x at r
-  unfolding insert_arm register_depth column_depth SortedColumn
-  from_record t ds r arm =
-      record {
-        says = λ l j bound m le h key v good run.
-            (let y = is_record c _ key v (with_head _ run) t in
-            let g : GoodRegister (Column (Record y.0)) = subst GoodRegister y.1 good in
-            subst (Tells limit bound ds r) (ap (λ i. read_cursor i m >>= λ o. insert_record limit y.0 o m) j.p1 ∙ ap (λ w. insert_arm limit l m (Some w)) (sym y.1))
-            (arm.says bound m h y.0 (record { key = key; run = run ∙ ap (run_register key) y.1; depth = omega (arith, g.depth); sorted = g.sorted })));
-        leaves = arm.leaves;
-        frame = arm.frame;
-      }
-
-  pub from_null : tag_of c ≡ 1 → (k : ℕ) → k ≡ kind_of c → k ≡ 0 → (ds : List Cell) (r : Stored) → Leads limit cs ds a r (fill_table (int_of x.p1)) → InsertsFrom limit cs ds a x at r
-  unfolding fill_table
-  from_null t k ke z ds r arm =
-      record {
-        says = λ l j bound m le h key v good run.
-            subst (Tells limit bound ds r)
-            (ap (λ i. read_cursor i m >>= λ o. done (update_cursor_table (set_empty (Some false)) o m)) j.p1
-            ∙ ap (λ n. insert_null_if (is_zero n) l m) (sym z ∙ ke)
-            ∙ sym (is_plain c _ key v (with_head _ run) t limit l m))
-            (arm.says bound m le h);
-        leaves = arm.leaves;
-        frame = arm.frame;
-      }
-
-  kept : ((l : Listed) (m : MemoryState) (key : ℕ) (v : RegDataType) → span cs at (size cs levels at) ≡ run_register key v → insert_arm limit l m (Some v) ≡ done m) → InsertsFrom limit cs cs a x at (Ok a)
-  kept same =
-      record {
-        says = λ l j bound m le h key v good run. record { state = m; answer = same l m key v run; holds = h };
-        leaves = record { base = refl; room = current.room };
-        frame = unchanged cs _ _;
-      }
-
-  pub from_kind : tag_of c ≡ 1 → (k : ℕ) → k ≡ kind_of c → (k ≡ 0 → ⊥) → InsertsFrom limit cs cs a x at (Ok a)
-  from_kind t k ke z =
-      kept (λ l m key v run. is_plain c _ key v (with_head _ run) t limit l m ∙ ap (λ b. insert_null_if b l m) (ap is_zero (sym ke) ∙ not-zero k z))
-
-  pub from_number : (tag_of c ≡ 2 → ⊥) → (tag_of c ≡ 1 → ⊥) → InsertsFrom limit cs cs a x at (Ok a)
-  from_number s t = kept (λ l m key v run. is_number c _ key v (with_head _ run) s t limit l m)
+-- a record that was read stands there, with all its cells in the map
+record_there : {limit bound : ℕ} {cs : List Cell} {a : IntMap} {m : MemoryState} → HoldsMap limit bound cs a m → (i : ℤ) (at : ℕ) (t : IsRecord cs a at (read_register i m)) → RecordAt cs at t.columns × (at + size cs levels at ≤ a.base + a.used)
+unfolding register_depth column_depth SortedColumn
+record_there {cs} {m = m} h i at t =
+    let g : GoodRegister (Column (Record t.columns)) = kept (read_register_good h.good i) t.answer in
+    let long : size cs levels at ≡ length (run_register t.key (Column (Record t.columns))) = unfold run_register in column_whole (Record t.columns) 9 t.key (omega (arith, g.depth)) cs at t.stands in
+    (record { key = t.key; run = ap (span cs at) long ∙ t.stands; depth = omega (arith, g.depth); sorted = g.sorted }, omega (arith, long, t.below))
 
 -- ---- the arm
 
-module _ (limit : ℕ) (cs : List Cell) (a : IntMap) (x : Row) (current : Current limit cs a) (s : Slot) (gets : Gets cs a 0 x.p2 s) where
-  as_got : (q : Slot) → s ≡ q → Gets cs a 0 x.p2 q
-  as_got q e = subst (Gets cs a 0 x.p2) e gets
+module _ (limit : ℕ) (cs : List Cell) (a : IntMap) (x : Row) (current : Current limit cs a) (r : RegisterReading) (reads : Reads cs a x.p2 r) where
+  held : (q : RegisterReading) → r ≡ q → (bound : ℕ) (m : MemoryState) → HoldsMap limit bound cs a m → TellsRegister bound cs a q (read_register (int_of x.p2) m)
+  held q e bound m h = (subst (Reads cs a x.p2) e reads).says limit bound m h
 
   insert_is : (row : ℕ) (meaning : Meaning) (l : Listed) → Standard limit meaning → Judged l x → (m : MemoryState) (o : Tried (Option RegDataType)) → read_register (int_of x.p2) m ≡ o → (o >>= λ v. insert_arm limit l m v) ≡ cursor_arm meaning row l m op_insert
   unfolding cursor_arm
   insert_is row meaning l st j m o e =
       ap (λ n. o >>= λ v. insert_arm n l m v) (sym st.cells) ∙ ap (λ u. u >>= λ v. insert_arm meaning.cell_limit l m v) (sym e ∙ ap (λ i. read_register i m) j.p2)
 
-  pub insert_bad : (n : Refusal) → s ≡ Err n → (row : ℕ) → CursorArm limit cs cs a row x op_insert (Err n)
+  pub insert_bad : (n : Refusal) → r ≡ Err n → (row : ℕ) → CursorArm limit cs cs a row x op_insert (Err n)
   insert_bad n e row =
       record {
-        says = λ meaning l st j bound m le h. sym (insert_is row meaning l st j m (refused (number_of n)) ((told_register h (int_of x.p2)).refuses (number_of n) (sym (as_got (Err n) e).answer)));
+        says = λ meaning l st j bound m le h. sym (insert_is row meaning l st j m (refused (number_of n)) (held (Err n) e bound m h));
         leaves = tt;
         frame = unchanged cs _ _;
       }
 
-  pub insert_absent : s ≡ (Ok None) → (row : ℕ) → CursorArm limit cs cs a row x op_insert (Ok a)
-  unfolding insert_arm
-  insert_absent e row =
+  -- what was read changes nothing
+  kept_so : ((bound : ℕ) (m : MemoryState) → HoldsMap limit bound cs a m → (v : Option RegDataType) × (read_register (int_of x.p2) m ≡ done v) × ((l : Listed) → insert_arm limit l m v ≡ done m)) → (row : ℕ) → CursorArm limit cs cs a row x op_insert (Ok a)
+  kept_so same row =
       record {
         says = λ meaning l st j bound m le h.
-            record { state = m; answer = sym (insert_is row meaning l st j m (done None) ((told_register h (int_of x.p2)).absent (sym (as_got (Ok None) e).answer))); holds = h };
+            (let v = same bound m h in
+            record { state = m; answer = sym (insert_is row meaning l st j m (done v.0) v.1) ∙ v.2 l; holds = h });
         leaves = record { base = refl; room = current.room };
         frame = unchanged cs _ _;
       }
 
-  module _ (p : ℕ) (e : s ≡ Ok (Some p)) where
-    pub insert_there : (ds : List Cell) (r : Stored) → InsertsFrom limit cs ds a x p r → (row : ℕ) → CursorArm limit cs ds a row x op_insert r
-    insert_there ds r arm row =
+  pub insert_absent : r ≡ (Ok None) → (row : ℕ) → CursorArm limit cs cs a row x op_insert (Ok a)
+  unfolding insert_arm
+  insert_absent e row = kept_so (λ bound m h. (None, held (Ok None) e bound m h, λ l. refl)) row
+
+  pub insert_number : (w : ℕ) → r ≡ Ok (Some (register.Int w)) → (row : ℕ) → CursorArm limit cs cs a row x op_insert (Ok a)
+  unfolding insert_arm
+  insert_number w e row = kept_so (λ bound m h. (_, (held (Ok (Some (register.Int w))) e bound m h).answer, λ l. refl)) row
+
+  pub insert_other : (d : DataType) (n : Option Bool) → (d ≡ Null → ⊥) → r ≡ Ok (Some (register.Single d n)) → (row : ℕ) → CursorArm limit cs cs a row x op_insert (Ok a)
+  unfolding insert_arm
+  insert_other d n other e row =
+      kept_so (λ bound m h. (_, held (Ok (Some (register.Single d n))) e bound m h, λ l. ap (λ b. insert_null_if b l m) (not-zero d other))) row
+
+  pub insert_plain_null : (n : Option Bool) → r ≡ Ok (Some (register.Single Null n)) → (ds : List Cell) (s : Stored) → Leads limit cs ds a s (fill_table (int_of x.p1)) → (row : ℕ) → CursorArm limit cs ds a row x op_insert s
+  unfolding insert_arm fill_table
+  insert_plain_null n e ds s arm row =
+      record {
+        says = λ meaning l st j bound m le h.
+            subst (Tells limit bound ds s)
+            (ap (λ i. read_cursor i m >>= λ o. done (update_cursor_table (set_empty (Some false)) o m)) j.p1
+            ∙ insert_is row meaning l st j m _ (held (Ok (Some (register.Single Null n))) e bound m h))
+            (arm.says bound m le h);
+        leaves = arm.leaves;
+        frame = arm.frame;
+      }
+
+  module _ (at : ℕ) (e : r ≡ Ok (Some (register.Record at))) where
+    pub insert_run : (a.base ≤ at) × (at + size cs levels at ≤ a.base + a.used)
+    insert_run =
+        let t = held (Ok (Some (register.Record at))) e current.bound current.state current.holds in
+        (t.above, (record_there current.holds (int_of x.p2) at t).1)
+
+    pub insert_of_record : (ds : List Cell) (s : Stored) → InsertsRecord limit cs ds a x at s → (row : ℕ) → CursorArm limit cs ds a row x op_insert s
+    unfolding insert_arm
+    insert_of_record ds s arm row =
         record {
           says = λ meaning l st j bound m le h.
-              (let v = (told_register h (int_of x.p2)).present (span cs p (size cs levels p)) (sym (as_got (Ok (Some p)) e).answer) in
-              subst (Tells limit bound ds r) (insert_is row meaning l st j m (done (Some v.value)) v.answer)
-              (arm.says l j bound m le h _ v.value v.has.0 v.is));
+              (let t = held (Ok (Some (register.Record at))) e bound m h in
+              subst (Tells limit bound ds s)
+              (ap (λ i. read_cursor i m >>= λ o. insert_record limit t.columns o m) j.p1 ∙ insert_is row meaning l st j m _ t.answer)
+              (arm.says bound m h t.columns (record_there h (int_of x.p2) at t).0));
           leaves = arm.leaves;
           frame = arm.frame;
         }

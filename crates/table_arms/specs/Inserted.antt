@@ -1,4 +1,4 @@
--- Insert, IdxInsert and SorterInsert by the run of what register P2 holds, which stands at `at` in the map. Assumes nothing.
+-- Insert, IdxInsert and SorterInsert by what register P2 holds: a plain Null, or a record, whose run stands at `at` in the map. Assumes nothing.
 use Rattle.intmap.specs.Store.{Stored}
 use Rattle.std.specs.Prelude.{◌≡◌, false, List, ℕ, ◌+◌, ◌≤◌, ℤ, Some}
 use Rattle.model.specs.Walk.{Tried, done}
@@ -40,11 +40,5 @@ pub record StoresTable (limit : ℕ) (cs ds : List Cell) (a : IntMap) (row at : 
 -- a record inserted where cursor P1 stands for a table
 pub record InsertsRecord (limit : ℕ) (cs ds : List Cell) (a : IntMap) (x : Row) (at : ℕ) (r : Stored) : Type 0 where
   pub says : (bound : ℕ) (m : MemoryState) → HoldsMap limit bound cs a m → (y : Columns) → RecordAt cs at y → Tells limit bound ds r (read_cursor (int_of x.p1) m >>= λ c. insert_record limit y c m)
-  pub leaves : Leaves limit ds a r
-  pub frame : Frame cs ds a.base (limit + limit)
-
--- any value
-pub record InsertsFrom (limit : ℕ) (cs ds : List Cell) (a : IntMap) (x : Row) (at : ℕ) (r : Stored) : Type 0 where
-  pub says : (l : Listed) → Judged l x → (bound : ℕ) (m : MemoryState) → operands ≤ bound → HoldsMap limit bound cs a m → (key : ℕ) (v : RegDataType) → GoodRegister v → span cs at (size cs levels at) ≡ run_register key v → Tells limit bound ds r (insert_arm limit l m (Some v))
   pub leaves : Leaves limit ds a r
   pub frame : Frame cs ds a.base (limit + limit)

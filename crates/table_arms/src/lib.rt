@@ -1,4 +1,5 @@
-// The arms of `explain` that change what a cursor stands for: NullRow, Insert, IdxInsert and SorterInsert. Translated from sqlx-sqlite 0.9.0, src/connection/explain.rs.
+// The arms of `explain` that change what a cursor stands for: NullRow, Insert, IdxInsert and SorterInsert. Translated from sqlx-sqlite 0.9.0,
+// src/connection/explain.rs.
 #![tactic(auto)]
 
 ghost use Rattle.std.specs.Prelude.{◌≡◌, length, ℕ, ◌+◌, ◌≤◌};
@@ -11,13 +12,14 @@ ghost use Rattle.state.specs.Leads.{Current, SomeCurrent, Leads};
 ghost use Rattle.state.specs.Arms.{CursorArm};
 ghost use Rattle.state.specs.Stores.{cells_in, IsCurrent, HasRun, Changes};
 ghost use Rattle.table_arms.specs.Nulled.{NulledCell, AreNullable, Nulled};
-ghost use Rattle.table_arms.specs.Inserted.{fill_table, StoresTable, InsertsRecord, InsertsFrom};
+ghost use Rattle.table_arms.specs.Inserted.{fill_table, StoresTable, InsertsRecord};
 
 use area::Cell;
 use cursor_arms::CursorDataType;
 use refusal::Refusal;
 use rows::Row;
-use state::Store;
+use state::{Register, Store};
+use type_info::DataType;
 
 // How deep the records of a cursor's columns nest.
 const DEPTH: usize = 8;
@@ -159,31 +161,18 @@ fn insert_null(store: &mut Store, x: Row) -> Result<(), Refusal>
     Ok(())
 }
 
-// Insert of the value at `at` of the map: a record, a plain Null, or another, which changes nothing.
-fn insert_from(store: &mut Store, x: Row, at: usize) -> Result<(), Refusal>
-    requires { IsCurrent store.old × HasRun store.old at }
-    ensures { Changes (λ limit cs ds a r. InsertsFrom limit cs ds a x at r) store.old store.new result }
-{
-    let c = store.cell_at(at);
-    let tag = intmap::tag_of(c);
-    if tag == intmap::RECORD {
-        return insert_record(store, x, at);
-    }
-    if tag == intmap::SINGLE {
-        if intmap::kind_of(c) == 0 {
-            return insert_null(store, x);
-        }
-    }
-    Ok(())
-}
-
-// Insert, IdxInsert, SorterInsert: what register P2 holds goes into the table of cursor P1.
+// Insert, IdxInsert, SorterInsert: what register P2 holds goes into the table of cursor P1, if it is a record or a plain Null.
 pub fn insert(store: &mut Store, x: Row) -> Result<(), Refusal>
     requires { IsCurrent store.old }
     ensures { Changes (λ limit cs ds a r. (row : ℕ) → CursorArm limit cs ds a row x op_insert r) store.old store.new result }
 {
-    let Some(at) = store.get(intmap::Class::Registers, x.p2)? else {
+    let Some(held) = store.read_register(x.p2)? else {
         return Ok(());
     };
-    insert_from(store, x, at)
+    match held {
+        Register::Record(at) => insert_record(store, x, at),
+        Register::Single(DataType::Null, _) => insert_null(store, x),
+        Register::Single(_, _) => Ok(()),
+        Register::Int(_) => Ok(()),
+    }
 }

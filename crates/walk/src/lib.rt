@@ -112,6 +112,7 @@ impl Walk {
         requires { Walking p area.now self.old }
         ensures { Takes p area.now self.old self.new result }
     {
+        // A `while let`: the area alone tells how many wait, so that no range counts them.
         while let Some(at) = self.branches.pop(area) {
             if in_listing(branches::row_at(area, at), p) {
                 return Some(at);
@@ -285,6 +286,7 @@ impl Walk {
         requires { Walking p area.now self.old × (self.old.counts.gasstops + link_of self.old.branches.last < 4294967295) }
         ensures { Closes p area.now self.old self.new }
     {
+        // A `while let`, as in `take`.
         while let Some(_at) = self.take(area, p) {
             self.counts.gas_stop();
         }

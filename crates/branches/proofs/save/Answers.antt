@@ -11,4 +11,4 @@ pub overflow_add-len-2 : goal.overflow_add-len-2
 overflow_add-len-2 c = omega (arith, few_entries _ _ c.requires.map, c.requires.few, c.requires.later)
 
 pub returns : goal.returns
-returns c = saved _ _ _ _ _ _ _ _ _ _ _ _ c.requires c.copy_to.auto.area c.copy_to.ensures c.move_cells.ensures c.put_cell.ensures (rw (sym c.link_of.ensures) c.put_cell-2.ensures) (search rules) c.type_inv.area
+returns c = saved _ _ _ _ _ _ _ _ _ _ _ _ c.requires c.copy_to.auto.area c.copy_to.ensures (rw (sym c.count_cells.ensures) c.move_cells.ensures) c.put_cell.ensures (rw (sym c.link_of.ensures) c.put_cell-2.ensures) (search rules) c.type_inv.area

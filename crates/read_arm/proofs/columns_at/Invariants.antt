@@ -3,11 +3,11 @@
 use mathlib.Core.Path.{◌≡◌}
 use lib.ListN.{length}
 use Rattle.area.specs.Cells.{cells}
-use Rattle.read_arm.proofs.GatherLaws.{ahead, Gathering}
+use Rattle.read_arm.proofs.GatherLaws.{ahead_of, Led}
 use Rattle.read_arm.proofs.columns_at.Given as goal
 
 abbrev pub invariant-loop-link : goal.invariant-loop-link
-invariant-loop-link l = (length l.area ≡ length l.initial.area) × Gathering l.limit (cells l.initial.area) (cells l.area) l.base l.blocks.bytes.now l.x l.link l.m l.bound
+invariant-loop-link l = (length l.area ≡ length l.initial.area) × Led l.limit (cells l.initial.area) (cells l.area) l.base l.blocks.bytes.now l.x l.link l.m l.bound
 
 abbrev pub decreases-loop-link : goal.decreases-loop-link
-decreases-loop-link l = ahead (length (cells l.blocks.bytes.now)) l.link
+decreases-loop-link l = ahead_of (length (cells l.blocks.bytes.now)) l.link

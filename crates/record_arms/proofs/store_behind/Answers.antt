@@ -1,5 +1,8 @@
 -- `record_arms::store_behind` judges index, depth and cells, and stores what it built. Assumes nothing.
-use mathlib.Core.Path.{refl, sym, subst, ◌∙◌}
+use mathlib.Core.Path.{◌≡◌, refl, sym, subst, ◌∙◌}
+use borrow.Author.Rules.{rules}
+use Rattle.std.specs.Prelude.{None, Some, Err}
+use Rattle.refusal.specs.declared.Refusal.TheVariants.{TooManyCells}
 use native.Mathlib.Omega.{arith}
 use Rattle.refusal.proofs.Passed.{passed}
 use Rattle.record_arms.specs.Records.{BuildsRecord}
@@ -20,12 +23,17 @@ pub build_record-requires : goal.build_record-requires
 build_record-requires c = (c.requires, omega (arith, c.if-store-registers.false), flat_registers _ c.args.store.now.map _ _ (sym c.too_deep.ensures ∙ c.if-too_deep.false))
 
 pub store_run-requires : goal.store_run-requires
-store_run-requires c = let done = c.build_record.ensures in let built = subst (BuildsRecord _ _ _ _ _ _) c.in-Some.is done.is in
+store_run-requires c = let done = c.build_record.ensures in let some : c.build_record.result ≡ Some c.in_ok-p.p = search rules in
+    let built = subst (BuildsRecord _ _ _ _ _ _) some done.is in
     rw (done.same.limit, done.map) (built_room _ _ _ _ _ _ c.args.registers.within _ c.judge_index.ensures _ c.in_ok-judge_index.was (sym c.too_deep.ensures ∙ c.if-too_deep.false) _ _ built c.requires, record { whole = refl; above = built.answer.above; fits = built_fits _ _ _ _ _ _ c.args.registers.within _ c.judge_index.ensures _ c.in_ok-judge_index.was (sym c.too_deep.ensures ∙ c.if-too_deep.false) _ _ built c.requires })
 
-pub returns-in_default : goal.returns-in_default
-returns-in_default c = record { same = c.build_record.ensures.same; is = record_full _ _ _ _ _ _ c.args.registers.within _ c.judge_index.ensures _ c.in_ok-judge_index.was (sym c.too_deep.ensures ∙ c.if-too_deep.false) _ (subst (BuildsRecord _ _ _ _ _ _) c.in_default.is c.build_record.ensures.is) }
+pub returns-in_err-p : goal.returns-in_err-p
+returns-in_err-p c =
+    let e : c.from_residual-in_err-p.result ≡ Err TooManyCells = search rules in
+    let none : c.build_record.result ≡ None = search rules in
+    rw e (record { same = c.build_record.ensures.same; is = record_full _ _ _ _ _ _ c.args.registers.within _ c.judge_index.ensures _ c.in_ok-judge_index.was (sym c.too_deep.ensures ∙ c.if-too_deep.false) _ (subst (BuildsRecord _ _ _ _ _ _) none c.build_record.ensures.is) })
 
 pub returns : goal.returns
-returns c = let done = c.build_record.ensures in let st = rw (done.same.limit, done.map) at c.store_run.ensures.is in
-    record { same = record { buffer = c.store_run.ensures.same.buffer ∙ done.same.buffer; limit = c.store_run.ensures.same.limit ∙ done.same.limit }; is = record_stored _ _ _ _ _ _ c.args.registers.within _ c.judge_index.ensures _ c.in_ok-judge_index.was (sym c.too_deep.ensures ∙ c.if-too_deep.false) _ _ (subst (BuildsRecord _ _ _ _ _ _) c.in-Some.is c.build_record.ensures.is) c.requires _ _ st }
+returns c = let done = c.build_record.ensures in
+    let some : c.build_record.result ≡ Some c.in_ok-p.p = search rules in let st = rw (done.same.limit, done.map) at c.store_run.ensures.is in
+    record { same = record { buffer = c.store_run.ensures.same.buffer ∙ done.same.buffer; limit = c.store_run.ensures.same.limit ∙ done.same.limit }; is = record_stored _ _ _ _ _ _ c.args.registers.within _ c.judge_index.ensures _ c.in_ok-judge_index.was (sym c.too_deep.ensures ∙ c.if-too_deep.false) _ _ (subst (BuildsRecord _ _ _ _ _ _) some c.build_record.ensures.is) c.requires _ _ st }

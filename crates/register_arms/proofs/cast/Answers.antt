@@ -1,17 +1,12 @@
--- `register_arms::cast` reads P1, and stores the kind of P2's low byte there. Assumes nothing.
-use mathlib.Core.Path.{ap, ◌∙◌}
-use mathlib.Core.Bool.{not}
-use Rattle.refusal.proofs.Passed.{passed}
-use Rattle.state.proofs.ArmLaws.{register_arm_where, register_arm_refuses, register_arm_same}
-use Rattle.register_arms.proofs.ChangeLaws.{cast_refused, cast_nothing, cast_stored}
-use Rattle.copy_arms.proofs.StoreLaws.{untouched}
+-- `register_arms::cast` copies P1 to itself, with the kind of P2's low byte. Assumes nothing.
+use Rattle.std.specs.Prelude.{◌%◌}
+use Rattle.model.specs.RegisterArms.{affinity_to_type, cast_to}
+use Rattle.state.proofs.ArmLaws.{register_arm_where}
+use Rattle.register_arms.proofs.ChangeLaws.{cast_is}
+use Rattle.std.proofs.Common.{rules}
 use Rattle.register_arms.proofs.cast.Goals as goal
 
-pub returns-in_err-v : goal.returns-in_err-v
-returns-in_err-v c = rw (passed _ _ c.from_residual.ensures.1) (record { same = untouched; is = register_arm_refuses _ (λ meaning l s j bound m h. cast_refused _ meaning l c.args.x s j _ _ c.read_register.result bound m h c.read_register.ensures _ c.in_err-v.was) })
-
-pub returns-then-is_none : goal.returns-then-is_none
-returns-then-is_none c = record { same = untouched; is = register_arm_same c.requires (λ meaning l s j bound m h. cast_nothing _ meaning l c.args.x s j _ _ c.read_register.result bound m h c.read_register.ensures _ c.in_ok-v.was (c.is_none.ensures ∙ ap not c.if-is_none.true)) }
-
 pub returns : goal.returns
-returns c = record { same = c.store_single.ensures.same; is = register_arm_where c.store_single.ensures.is (λ meaning l s j bound m h. cast_stored _ meaning l c.args.x s j _ _ c.read_register.result bound m h c.read_register.ensures _ c.in_ok-v.was (c.is_none.ensures ∙ ap not c.if-is_none.false) _ c.low_byte.result c.map_to_nullable.result c.low_byte.ensures c.affinity_to_type-d.ensures c.map_to_nullable.ensures) }
+returns c =
+    let led = c.copy_to.ensures (cast_to (affinity_to_type (c.args.x.p2 % 256))) (λ bound cs a q v told d made. search rules) in
+    record { same = led.same; is = register_arm_where led.is (λ meaning l s j bound m h. cast_is _ meaning l c.args.x j m h.good) }

@@ -1,16 +1,7 @@
--- `register_arms::sum` reads the operand, and stores its sum. Assumes nothing.
-use mathlib.Core.Path.{ap, ◌∙◌}
-use mathlib.Core.Bool.{not}
-use Rattle.refusal.proofs.Passed.{passed}
-use Rattle.register_arms.proofs.RegisterLaws.{refuses_leads, same_leads, leads_where, copy_refused, copy_nothing, sum_stored}
-use Rattle.copy_arms.proofs.StoreLaws.{untouched}
+-- `register_arms::sum` copies what the definition makes. Assumes nothing.
+use Rattle.model.specs.RegisterArms.{summed}
+use Rattle.std.proofs.Common.{rules}
 use Rattle.register_arms.proofs.sum.Goals as goal
 
-pub returns-in_err-v : goal.returns-in_err-v
-returns-in_err-v c = rw (passed _ _ c.from_residual.ensures.1) (record { same = untouched; is = refuses_leads _ _ _ _ _ (λ bound m h. copy_refused _ _ _ _ _ c.read_register.result c.read_register.ensures bound m h _ _ c.in_err-v.was) })
-
-pub returns-then-is_none : goal.returns-then-is_none
-returns-then-is_none c = record { same = untouched; is = same_leads _ _ _ _ c.requires (λ bound m h. copy_nothing _ _ _ _ _ c.read_register.result c.read_register.ensures bound m h _ _ c.in_ok-v.was (c.is_none.ensures ∙ ap not c.if-is_none.true)) }
-
 pub returns : goal.returns
-returns c = record { same = c.store_single.ensures.same; is = leads_where _ (λ bound m h. sum_stored _ _ _ _ _ c.read_register.result c.read_register.ensures bound m h _ c.in_ok-v.was (c.is_none.ensures ∙ ap not c.if-is_none.false) c.map_to_datatype.result c.map_to_datatype.ensures _ c.map_to_nullable.result c.sum_datatype-d.ensures c.map_to_nullable.ensures) c.store_single.ensures.is }
+returns c = c.copy_to.ensures summed (λ bound cs a q v told d made. search rules)
