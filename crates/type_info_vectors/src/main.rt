@@ -24,16 +24,18 @@ fn digit(byte: u8) -> u8
     (byte - b'a' + 10) % 16
 }
 
-fn show_utf8<R: Print + Alloc>(rt: &R, digits: &[u8]) -> io::Result<()> {
-    let mut bytes = Vec::new(rt.alloc());
-    for pair in digits.chunks_exact(2).take(64) {
+// As many bytes as the buffer holds; pairs beyond are left out.
+fn show_utf8(rt: &impl Print, digits: &[u8]) -> io::Result<()> {
+    let mut bytes = [0u8; 64];
+    let len = (digits.len() / 2).min(bytes.len());
+    for (byte, pair) in bytes.iter_mut().zip(digits.chunks_exact(2)) {
         if let [high, low] = pair {
-            bytes.push(digit(*high) * 16 + digit(*low))?;
+            *byte = digit(*high) * 16 + digit(*low);
         }
     }
     println!(rt;
         "{}",
-        if type_info::utf8::is_utf8(&bytes) {
+        if type_info::utf8::is_utf8(&bytes[..len]) {
             "yes"
         } else {
             "no"
@@ -41,7 +43,7 @@ fn show_utf8<R: Print + Alloc>(rt: &R, digits: &[u8]) -> io::Result<()> {
     )
 }
 
-fn show<R: Print + Alloc>(rt: &R, line: &[u8]) -> io::Result<()> {
+fn show(rt: &impl Print, line: &[u8]) -> io::Result<()> {
     rt.write_all(line)?;
     rt.write_all(b": ")?;
     match line {

@@ -20,10 +20,11 @@
 
 ghost use Rattle.std.specs.Prelude.{◌≡◌, ◌<◌, ◌/◌, ◌%◌, length, take, drop, All, IsTrue, OnOk, IfSome};
 
+use itoa::Buffer;
 use std::alloc::{AllocError, Global};
 use std::fmt;
 use std::fs::File;
-use std::io::{self, Read, Write};
+use std::io::{self, Read};
 use std::rt::Files;
 
 // What the entry's number is multiplied by, and the length is added to.
@@ -44,17 +45,40 @@ const AREA_MOST: usize = 6291456;
 
 const ROOM_MOST: usize = 131072;
 
-// The fields of a row, an answer and a column.
-const ROW: [&str; 5] = ["op", "p1", "p2", "p3", "p4"];
+// The most bytes of the names of files, of a file, of a listing, of a catalogue, and of an answer that is expected. A text that has as many is full.
+const NAMES_MOST: usize = 4096;
 
-const ANSWER: [&str; 5] = ["columns", "charged", "loopstops", "gasstops", "repeats"];
+const FILE_MOST: usize = 524288;
 
-const COLUMN: [&str; 2] = ["type", "null"];
+const LISTING_MOST: usize = 131072;
+
+const CATALOGUE_MOST: usize = 262144;
+
+const EXPECTED_MOST: usize = 131072;
+
+// What stands between the fields of a row, an answer and a column, and the first of each. A field behind the last stands there with nothing between.
+const LABELS: [&str; 9] = [
+    "\np1=",
+    "\np2=",
+    "\np3=",
+    "\np4=",
+    "\ncharged=",
+    "\nloopstops=",
+    "\ngasstops=",
+    "\nrepeats=",
+    "\nnull=",
+];
+
+const ROW: u8 = 0;
+
+const ANSWER: u8 = 4;
+
+const COLUMN: u8 = 8;
 
 // A line of the vectors.
 #[derive(Clone, Copy)]
 enum Line<'a> {
-    Case(&'a [u8]),
+    Case,
     Row(&'a [u8]),
     Text(&'a [u8]),
     Tables(&'a [u8]),
@@ -75,7 +99,7 @@ impl Line<'_> {
         if line.first().is_some_and(|b| b.is_ascii_uppercase()) {
             Line::Row(line)
         } else if line.starts_with(b"case ") {
-            Line::Case(line)
+            Line::Case
         } else if let Some(text) = line.strip_prefix(b"text ") {
             Line::Text(text)
         } else if let Some(text) = line.strip_prefix(b"tables ") {
@@ -125,9 +149,10 @@ fn read_number(text: &[u8]) -> u64 {
     })
 }
 
-// How what a call left differs from what it must leave.
+// How what a call left differs from what it must leave, or why there was none.
 #[derive(Clone, Copy)]
 enum Difference {
+    NotFitting,
     NotThere,
     Number { is: u64, must: u64 },
     Length { is: u64, must: u64 },
@@ -139,6 +164,7 @@ enum Difference {
 impl fmt::Display for Difference {
     fn fmt<W: fmt::Write>(&self, f: &mut fmt::Formatter<W>) -> fmt::Result {
         match self {
+            Difference::NotFitting => write!(f, "a text does not fit"),
             Difference::NotThere => write!(f, "more is lent than there is"),
             Difference::Number { is, must } => write!(f, "number {is} and not {must}"),
             Difference::Length { is, must } => write!(f, "length {is} and not {must}"),
@@ -149,11 +175,14 @@ impl fmt::Display for Difference {
     }
 }
 
-// Whether each byte of s is this one.
+// Whether each byte of s is this one: the first, and each the one before it. Slices are compared many bytes at once.
 fn all_are(s: &[u8], byte: u8) -> bool
     ensures { IsTrue result → All (λ b. b ≡ byte) s.now }
 {
-    s.iter().all(|&b| b == byte)
+    match s {
+        [] => true,
+        [first, rest @ ..] => *first == byte && rest == &s[..rest.len()],
+    }
 }
 
 // Whether a call that gave `given` left what it must: this number, the answer that is expected and its length, and nothing else.
@@ -203,81 +232,143 @@ fn next_byte(text: &[u8]) -> Option<(u8, &[u8])>
     }
 }
 
-// Writes a text in which `|` is LF, and `\` and two hexadecimal digits are a byte.
-fn put_raw(out: &mut Vec<u8>, text: &[u8]) -> Result<(), AllocError> {
-    let mut rest = text;
-    while let Some((byte, behind)) = next_byte(rest) {
-        out.push(byte)?;
-        rest = behind;
-    }
-    Ok(())
+// A text of at most so many bytes; those beyond are left out.
+#[derive(Drop)]
+struct Text {
+    bytes: Vec<u8>,
+    most: usize,
 }
 
-// Writes each field on a line of its own, under its name.
-fn put_fields(out: &mut Vec<u8>, names: &[&str], fields: &[u8]) -> io::Result<()> {
-    for (name, field) in names.iter().zip(fields.split(|b| *b == b' ')) {
-        write!(out, "{name}=")?;
-        out.extend_from_slice(field)?;
-        out.push(b'\n')?;
+impl Text {
+    fn new(alloc: Global, most: usize) -> Result<Self, AllocError> {
+        Ok(Text {
+            bytes: Vec::with_capacity(alloc, most)?,
+            most,
+        })
     }
-    Ok(())
+
+    fn is_full(&self) -> bool {
+        self.most <= self.bytes.len()
+    }
+
+    fn push(&mut self, byte: u8) -> Result<(), AllocError> {
+        if !self.is_full() {
+            self.bytes.push(byte)?;
+        }
+        Ok(())
+    }
+
+    fn put(&mut self, text: &str) -> Result<(), AllocError> {
+        for &byte in text.as_bytes() {
+            self.push(byte)?;
+        }
+        Ok(())
+    }
+
+    fn put_number(&mut self, number: u64) -> Result<(), AllocError> {
+        let mut digits = Buffer::new();
+        self.put(digits.format(number))
+    }
+
+    // Writes a text in which `|` is LF, and `\` and two hexadecimal digits are a byte.
+    fn put_raw(&mut self, text: &[u8]) -> Result<(), AllocError> {
+        let mut rest = text;
+        while let Some((byte, behind)) = next_byte(rest) {
+            self.push(byte)?;
+            rest = behind;
+        }
+        Ok(())
+    }
+
+    // Writes fields, with a label for each space between them, and says which label would be next.
+    fn put_fields(&mut self, first: u8, fields: &[u8]) -> Result<u8, AllocError> {
+        let mut label = first;
+        for &byte in fields {
+            if byte == b' ' {
+                if let Some(text) = LABELS.get(label as usize) {
+                    self.put(text)?;
+                }
+                label = label.wrapping_add(1);
+            } else {
+                self.push(byte)?;
+            }
+        }
+        Ok(label)
+    }
+}
+
+// A part of a file's text.
+#[derive(Clone, Copy, Default)]
+struct Span {
+    from: usize,
+    to: usize,
+}
+
+impl Span {
+    // That part of a text, or nothing where there is none.
+    fn of(self, text: &[u8]) -> &[u8] {
+        text.get(self.from..self.to).unwrap_or_default()
+    }
 }
 
 // A listing so far, and how many of its rows and bytes each case begins with.
 #[derive(Drop)]
 struct Listing {
-    text: Vec<u8>,
+    text: Text,
     rows: u64,
     kept_len: usize,
     kept_rows: u64,
 }
 
 impl Listing {
-    fn new(alloc: Global) -> Self {
-        Listing {
-            text: Vec::new(alloc),
+    fn new(alloc: Global) -> Result<Self, AllocError> {
+        Ok(Listing {
+            text: Text::new(alloc, LISTING_MOST)?,
             rows: 0,
             kept_len: 0,
             kept_rows: 0,
-        }
+        })
     }
 
     // A row without a P4 has an empty one.
-    fn add_row(&mut self, fields: &[u8]) -> io::Result<()> {
-        writeln!(self.text, "addr={}", self.rows)?;
+    fn add_row(&mut self, fields: &[u8]) -> Result<(), AllocError> {
+        self.text.put("addr=")?;
+        self.text.put_number(self.rows)?;
+        self.text.put("\nop=")?;
+        let label = self.text.put_fields(ROW, fields)?;
+        let end = if label < ANSWER { "\np4=\n" } else { "\n" };
+        self.text.put(end)?;
         self.rows = self.rows.wrapping_add(1);
-        put_fields(&mut self.text, &ROW, fields)?;
-        if fields.split(|b| *b == b' ').count() < ROW.len() {
-            writeln!(self.text, "p4=")?;
-        }
         Ok(())
     }
 
     fn keep(&mut self) {
-        self.kept_len = self.text.len();
+        self.kept_len = self.text.bytes.len();
         self.kept_rows = self.rows;
     }
 
     // Leaves what was kept.
     fn restart(&mut self) {
-        self.text.truncate(self.kept_len);
+        self.text.bytes.truncate(self.kept_len);
         self.rows = self.kept_rows;
     }
 
     fn clear(&mut self) {
-        self.text.clear();
+        self.text.bytes.clear();
         self.rows = 0;
         self.keep();
     }
 }
 
-// What the lines so far have built, what the next call is lent, and what the calls gave.
+// What the lines so far have built, what the next call is lent, and what the calls gave. A case's name and the last line are looked for in the file
+// that is replayed: in the next one they are what stands at these places.
 #[derive(Drop)]
 struct Replay {
-    case: Vec<u8>,
+    case: Span,
+    last: Span,
     listing: Listing,
-    catalogue: Vec<u8>,
-    expected: Vec<u8>,
+    catalogue: Text,
+    expected: Text,
     columns: u64,
     area: Vec<u8>,
     lent: usize,
@@ -291,10 +382,11 @@ struct Replay {
 impl Replay {
     fn new(alloc: Global) -> Result<Self, AllocError> {
         Ok(Replay {
-            case: Vec::new(alloc),
-            listing: Listing::new(alloc),
-            catalogue: Vec::new(alloc),
-            expected: Vec::new(alloc),
+            case: Span::default(),
+            last: Span::default(),
+            listing: Listing::new(alloc)?,
+            catalogue: Text::new(alloc, CATALOGUE_MOST)?,
+            expected: Text::new(alloc, EXPECTED_MOST)?,
             columns: 0,
             area: vec![in alloc; 0; AREA_MOST]?,
             lent: AREA,
@@ -306,35 +398,39 @@ impl Replay {
         })
     }
 
-    fn begin_case(&mut self, name: &[u8]) -> Result<(), AllocError> {
-        self.case.clear();
-        self.case.extend_from_slice(name)?;
+    // The case's name is the last line.
+    fn begin_case(&mut self) {
+        self.case = self.last;
         self.listing.restart();
-        self.expected.clear();
+        self.expected.bytes.clear();
         self.lent = AREA;
         self.room = ROOM;
-        Ok(())
     }
 
-    fn expect(&mut self, fields: &[u8]) -> io::Result<()> {
+    fn expect(&mut self, fields: &[u8]) -> Result<(), AllocError> {
         self.columns = 0;
-        self.expected.clear();
-        put_fields(&mut self.expected, &ANSWER, fields)
+        self.expected.bytes.clear();
+        self.expected.put("columns=")?;
+        self.expected.put_fields(ANSWER, fields)?;
+        self.expected.push(b'\n')
     }
 
-    fn expect_column(&mut self, fields: &[u8]) -> io::Result<()> {
-        writeln!(self.expected, "col={}", self.columns)?;
+    fn expect_column(&mut self, fields: &[u8]) -> Result<(), AllocError> {
+        self.expected.put("col=")?;
+        self.expected.put_number(self.columns)?;
         self.columns = self.columns.wrapping_add(1);
-        put_fields(&mut self.expected, &COLUMN, fields)
+        self.expected.put("\ntype=")?;
+        self.expected.put_fields(COLUMN, fields)?;
+        self.expected.push(b'\n')
     }
 
-    fn build(&mut self, line: Line<'_>) -> io::Result<()> {
+    fn build(&mut self, line: Line<'_>) -> Result<(), AllocError> {
         match line {
-            Line::Case(name) => self.begin_case(name)?,
+            Line::Case => self.begin_case(),
             Line::Row(fields) => self.listing.add_row(fields)?,
-            Line::Text(text) => put_raw(&mut self.listing.text, text)?,
-            Line::Tables(text) => put_raw(&mut self.catalogue, text)?,
-            Line::NoTables => self.catalogue.clear(),
+            Line::Text(text) => self.listing.text.put_raw(text)?,
+            Line::Tables(text) => self.catalogue.put_raw(text)?,
+            Line::NoTables => self.catalogue.bytes.clear(),
             Line::Keep => self.listing.keep(),
             Line::Drop => self.listing.clear(),
             Line::Area(bytes) => self.lent = bytes,
@@ -346,7 +442,7 @@ impl Replay {
         Ok(())
     }
 
-    fn again(&mut self, times: u64, line: Line<'_>) -> io::Result<()> {
+    fn again(&mut self, times: u64, line: Line<'_>) -> Result<(), AllocError> {
         for _ in 0..times {
             self.build(line)?;
         }
@@ -359,8 +455,16 @@ impl Replay {
         }
     }
 
+    // Whether a text did not fit.
+    fn is_full(&self) -> bool {
+        self.listing.text.is_full() || self.catalogue.is_full() || self.expected.is_full()
+    }
+
     // Calls the entry on what the case has built, all of it lent. A refusal has no answer.
     fn call(&mut self, number: u64) -> Result<(), Difference> {
+        if self.is_full() {
+            return Err(Difference::NotFitting);
+        }
         if self.area.len() < self.lent || self.answer.len() < self.room {
             return Err(Difference::NotThere);
         }
@@ -368,37 +472,50 @@ impl Replay {
         let answer = &mut self.answer[..self.room];
         area.fill(AREA_FILL);
         answer.fill(ANSWER_FILL);
-        let given = column_kinds::column_kinds(&self.listing.text, &self.catalogue, area, answer);
-        let length = if number == 0 { self.expected.len() } else { 0 };
-        let compared = compare(number, &self.expected[..length], given, area, answer);
+        let listing = &self.listing.text.bytes;
+        let given = column_kinds::column_kinds(listing, &self.catalogue.bytes, area, answer);
+        let expected = &self.expected.bytes;
+        let length = if number == 0 { expected.len() } else { 0 };
+        let compared = compare(number, &expected[..length], given, area, answer);
         self.count(given / NUMBER);
         compared
     }
 
-    fn gives(&mut self, rt: &impl Print, number: u64) -> io::Result<()> {
+    fn gives(&mut self, rt: &impl Print, text: &[u8], number: u64) -> io::Result<()> {
         self.calls = self.calls.wrapping_add(1);
         match self.call(number) {
             Ok(()) => Ok(()),
             Err(difference) => {
                 self.disagree = self.disagree.wrapping_add(1);
-                rt.write_all(&self.case)?;
+                rt.write_all(self.case.of(text))?;
                 println!(rt; ": {difference}")
+            }
+        }
+    }
+
+    // The line that stands here.
+    fn line(&mut self, rt: &impl Print, text: &[u8], at: Span) -> io::Result<()> {
+        match Line::parse(at.of(text)) {
+            Line::Again(times) => {
+                let last = self.last.of(text);
+                Ok(self.again(times, Line::parse(last))?)
+            }
+            Line::Gives(number) => self.gives(rt, text, number),
+            line => {
+                self.last = at;
+                Ok(self.build(line)?)
             }
         }
     }
 
     // Replays the lines of a file.
     fn lines(&mut self, rt: &impl Print, text: &[u8]) -> io::Result<()> {
-        let mut last = Line::Other;
-        for line in text.split(|b| *b == b'\n') {
-            match Line::parse(line) {
-                Line::Again(times) => self.again(times, last)?,
-                Line::Gives(number) => self.gives(rt, number)?,
-                line => {
-                    self.build(line)?;
-                    last = line;
-                }
-            }
+        let mut from: usize = 0;
+        for line in text.split_inclusive(|b| *b == b'\n') {
+            let len = line.strip_suffix(b"\n").unwrap_or(line).len();
+            let to = from.wrapping_add(len);
+            self.line(rt, text, Span { from, to })?;
+            from = from.wrapping_add(line.len());
         }
         Ok(())
     }
@@ -406,19 +523,10 @@ impl Replay {
     // Replays a file, from an empty listing and an empty catalogue on, and prints how many cases it had.
     fn file(&mut self, rt: &(impl Files + Print), alloc: Global, name: &[u8]) -> io::Result<()> {
         let before = self.calls;
+        let text = read_file(rt, alloc, name)?;
         self.listing.clear();
-        self.catalogue.clear();
-        match open(rt, name) {
-            None => {
-                rt.write_all(name)?;
-                println!(rt; ": missing")?;
-            }
-            Some(mut file) => {
-                let mut text = Vec::new(alloc);
-                file.read_to_end(&mut text)?;
-                self.lines(rt, &text)?;
-            }
-        }
+        self.catalogue.bytes.clear();
+        self.lines(rt, &text)?;
         rt.write_all(name)?;
         println!(rt; ": {} cases", self.calls.wrapping_sub(before))
     }
@@ -437,11 +545,28 @@ fn open<R: Files>(rt: &R, name: &[u8]) -> Option<R::File> {
     File::open(rt, name).ok()
 }
 
+// What the file holds: nothing where it is missing or too long.
+fn read_file(rt: &(impl Files + Print), alloc: Global, name: &[u8]) -> io::Result<Vec<u8>> {
+    let mut text = Vec::new(alloc);
+    let Some(file) = open(rt, name) else {
+        rt.write_all(name)?;
+        println!(rt; ": missing")?;
+        return Ok(text);
+    };
+    file.take(FILE_MOST as u64).read_to_end(&mut text)?;
+    if text.len() == FILE_MOST {
+        text.clear();
+        rt.write_all(name)?;
+        println!(rt; ": too long")?;
+    }
+    Ok(text)
+}
+
 fn main(rt: HostRuntime) -> io::Result<()> {
     let alloc = rt.alloc();
     let mut replay = Replay::new(alloc)?;
     let mut names = Vec::new(alloc);
-    rt.stdin().read_to_end(&mut names)?;
+    rt.stdin().take(NAMES_MOST as u64).read_to_end(&mut names)?;
     for name in names.split_inclusive(|b| *b == b'\n') {
         replay.file(&rt, alloc, name.strip_suffix(b"\n").unwrap_or(name))?;
     }
