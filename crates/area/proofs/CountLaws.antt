@@ -1,7 +1,7 @@
 -- Laws of specs/Counts.antt: what raises a count, and that the cell where it lies tells it. Assumes nothing.
 use mathlib.Core.Path.{◌≡◌, refl, sym, ap, subst, ◌∙◌}
 use mathlib.Core.List.{List}
-use Prim.Native.Nat.{ℕ, zero, suc, ◌+◌, ◌-◌, ◌*◌, ◌%◌, ◌<◌, ◌≤◌}
+use Prim.Native.Nat.{ℕ, zero, suc, ◌+◌, ◌-◌, ◌*◌, ◌/◌, ◌%◌, ◌<◌, ◌≤◌}
 use native.Mathlib.Omega.{arith}
 use native.Mathlib.Decide.{dec_lt}
 use native.Mathlib.Numerals.{add-one}
@@ -13,10 +13,13 @@ use borrow.Rule.Slice.PartMut.{put_mid}
 use Rattle.std.proofs.lemmas.List.Edits.{paste_none, fill_from_more}
 use Rattle.std.proofs.lemmas.Slice.{put_mid-paste}
 use Rattle.area.specs.Words.{words}
-use Rattle.area.specs.Cells.{blank, cell_of, cells, Inside}
+use Rattle.area.specs.Cells.{blank, cell_of, cells, Inside, CellsNow}
+use Rattle.area.specs.Moves.{moved}
+use Rattle.area.specs.declared.Cell.{Cell}
 use Rattle.area.specs.Counts.{place, home, count, Raised, CountsCleared}
-use Rattle.area.proofs.WordLaws.{bytes_same}
-use Rattle.area.proofs.CellLaws.{length-cells, cells-kept, cells_at, cells_byte, cell-head, cell_payload}
+use Rattle.area.proofs.WordLaws.{bytes_same, cleared_byte}
+use Rattle.area.proofs.CellLaws.{length-cells, cells-kept, cells_at, cells_byte, cell-head, cell_payload, inside-kept}
+use Rattle.area.proofs.MoveLaws.{moved_in}
 
 -- a count's byte lies within where its cell does
 pub count_fits : (xs : List ℕ) (from i : ℕ) → Inside xs (home from i) 1 → place from i < length xs
@@ -78,6 +81,51 @@ count_same xs ys from to i small less hx hy e = go (dec_lt (i % 16) 8)
         (cell_payload ys t hy).within
         (omega arith)
         (ap (λ c. c.payload) both))
+
+-- a count whose cell a store of cells kept
+pub count_kept :
+    (xs ys : List ℕ) (cs : List Cell) (from i : ℕ) →
+    ((m : ℕ) → Fits w8 (get_or xs m 0)) →
+    ((m : ℕ) → Fits w8 (get_or ys m 0)) →
+    Inside xs (home from i) 1 →
+    CellsNow xs ys cs →
+    get_or cs (home from i) blank ≡ get_or (cells xs) (home from i) blank →
+    count ys from i ≡ count xs from i
+count_kept xs ys cs from i small less h put e =
+    count_same ys xs from from i less small (inside-kept xs ys (home from i) 1 put.bytes h) h (ap (λ l. get_or l (home from i) blank) put.cells ∙ e)
+
+-- a count that lies in another cell than the one that a store changed
+pub count-put :
+    (xs ys : List ℕ) (at : ℕ) (c : Cell) (from i : ℕ) →
+    ((m : ℕ) → Fits w8 (get_or xs m 0)) →
+    ((m : ℕ) → Fits w8 (get_or ys m 0)) →
+    Inside xs (home from i) 1 →
+    CellsNow xs ys (set (cells xs) at c) →
+    (home from i ≡ at → ⊥) →
+    count ys from i ≡ count xs from i
+count-put xs ys at c from i small less h put ne =
+    count_kept xs ys (set (cells xs) at c) from i small less h put (get_or-set_other (cells xs) at (home from i) c blank ne)
+
+-- counts that a move copies
+pub count-moved :
+    (xs ys : List ℕ) (from to n i : ℕ) →
+    ((m : ℕ) → Fits w8 (get_or xs m 0)) →
+    ((m : ℕ) → Fits w8 (get_or ys m 0)) →
+    Inside xs from n →
+    Inside xs to n →
+    i / 16 < n →
+    CellsNow xs ys (moved (cells xs) from to n) →
+    count ys to i ≡ count xs from i
+count-moved xs ys from to n i small less hf ht lt put =
+    count_same ys xs to from i less small
+    (record { within = omega (arith, put.same); small = omega (arith, put.same) })
+    (record { within = omega arith; small = hf.small })
+    (ap (λ l. get_or l (home to i) blank) put.cells ∙ moved_in (cells xs) from to n (i / 16) ht.within lt)
+
+-- every count of a cleared area is 0
+pub cleared_count : (n from i : ℕ) → count (replicate n 0) from i ≡ 0
+unfolding count
+cleared_count n from i = cleared_byte n (place from i)
 
 -- counts cleared one after the other
 pub cleared_none : (xs : List ℕ) (from : ℕ) → CountsCleared xs xs from 0

@@ -2,7 +2,7 @@
 use Rattle.std.proofs.Common.{◌≡◌, ℕ, ◌+◌, ◌/◌, ◌≤◌, List, [], ◌∷◌, get_or, sym, refl, ap, ◌∙◌, subst, inl, inr, arith, Option, None, Some}
 use Rattle.std.proofs.lemmas.Option.{none-some}
 use Rattle.model.specs.Walk.{◌∈◌}
-use Rattle.area.specs.Cells.{blank, cells}
+use Rattle.area.specs.Cells.{blank, cells, Inside}
 use Rattle.area.specs.declared.Cell.{Cell}
 use Rattle.encoding.proofs.Held.{held_fits}
 use Rattle.branches.specs.Header.{half, next_at, link_of, place_of}
@@ -19,6 +19,10 @@ latest limit bound n xs b ks [] r = record { header = λ p e. absurd (none-some 
 latest limit bound n xs b ks (k ∷ ws) r =
     let lies = blocks_span (cells xs) n b.first b.top ks r.blocks k (r.among k (inl refl)) in
     record { header = λ p e. omega (arith, lies.1, ap link_of (sym e ∙ r.waiting.0), r.inside); small = r.small }
+
+-- so does the header of each that is remembered
+pub kept-inside : (limit bound n : ℕ) (xs : List ℕ) (b : BranchList) (ks ws : List Kept) (k : Kept) → Remembers limit bound n xs b ks ws → k ∈ ks → Inside xs k.at 2
+kept-inside limit bound n xs b ks ws k r e = record { within = omega (arith, (blocks_span (cells xs) n b.first b.top ks r.blocks k e).1, r.inside); small = r.small }
 
 -- a remembered state can be loaded
 pub loadable : (limit bound n : ℕ) (xs : List ℕ) (b : BranchList) (ks ws : List Kept) (k : Kept) (base counts : ℕ) → Remembers limit bound n xs b ks ws → k ∈ ks → n ≤ 2048 → base + limit ≤ counts → counts + count_cells n ≤ b.first → Loadable limit n (cells xs) k.at base counts

@@ -7,7 +7,7 @@ ghost use Rattle.type_info.specs.Ascii.{ascii};
 ghost use Rattle.model.specs.Fields.{take_field};
 ghost use Rattle.model.specs.CatalogueText.{is_declared, read_declared, read_flag, take_record};
 ghost use Rattle.model.specs.Call.{records_of};
-ghost use Rattle.text.specs.Reads.{Reads};
+ghost use Rattle.text.specs.Reads.{Reads, ReadsOrKeeps};
 ghost use Rattle.text.specs.Counts.{length_of, counted_as};
 ghost use Rattle.catalogue.specs.Records.{record_of, GivesRecord};
 
@@ -90,15 +90,18 @@ fn notnull(reader: &mut Reader) -> Option<bool>
 
 // The record that stands first.
 pub fn read_record<'a>(reader: &mut Reader<'a>) -> Option<Record<'a>>
-    ensures { Reads take_record reader.old.rest.now reader.new.rest.now (option_map record_of result) }
+    ensures { ReadsOrKeeps take_record reader.old.rest.now reader.new.rest.now (option_map record_of result) }
 {
-    Some(Record {
-        db: reader.number(b"db=", 1)?,
-        page: reader.number(b"page=", 2147483647)?,
-        col: reader.number(b"col=", 65535)?,
-        declared: declared(reader)?,
-        notnull: notnull(reader)?,
-    })
+    let mut ahead = *reader;
+    let record = Record {
+        db: ahead.number(b"db=", 1)?,
+        page: ahead.number(b"page=", 2147483647)?,
+        col: ahead.number(b"col=", 65535)?,
+        declared: declared(&mut ahead)?,
+        notnull: notnull(&mut ahead)?,
+    };
+    *reader = ahead;
+    Some(record)
 }
 
 // How many records there are. A text that is ill-formed anywhere is refused as such, however many records it has.

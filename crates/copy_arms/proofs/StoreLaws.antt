@@ -1,5 +1,5 @@
--- A store after another call: the same buffer and limit, and what a call of it gives said of the store before. Assumes nothing.
-use mathlib.Core.Path.{◌≡◌, refl, sym, subst, ◌∙◌}
+-- A store whose limit and map are known, and what a call of it gives said of the store before. Assumes nothing.
+use mathlib.Core.Path.{◌≡◌, sym, subst}
 use mathlib.Core.List.{List}
 use Prim.Native.Nat.{ℕ}
 use Rattle.std.specs.Prelude.{Result}
@@ -8,14 +8,8 @@ use Rattle.intmap.specs.Store.{Stored}
 use Rattle.intmap.specs.declared.IntMap.{IntMap}
 use Rattle.refusal.specs.declared.Refusal.{Refusal}
 use Rattle.state.specs.Leads.{Current}
-use Rattle.state.specs.Stores.{cells_in, IsCurrent, SameStore, stored_in, Changes}
+use Rattle.state.specs.Stores.{cells_in, IsCurrent, stored_in, Changes}
 use Rattle.state.specs.declared.store.Store.{Store}
-
-pub untouched : {s : Store} → SameStore s s
-untouched = record { buffer = refl; limit = refl }
-
-pub same_then : {s t u : Store} → SameStore s t → SameStore t u → SameStore s u
-same_then p q = record { buffer = q.buffer ∙ p.buffer; limit = q.limit ∙ p.limit }
 
 -- of a store whose limit and map are known
 module _ (s : Store) {limit : ℕ} {a : IntMap} (l : s.limit ≡ limit) (m : s.map ≡ a) where

@@ -61,11 +61,16 @@ fn carry_register(store: &mut Store, i: u64, j: u64, moves: bool) -> Result<(), 
         return Ok(());
     };
     let c = store.cell_at(at);
+    let map = store.map;
     store_from(store, at, c, j)?;
     if !moves {
         return Ok(());
     }
-    store.store_single(i, DataType::Null, Some(true))
+    if let Err(refusal) = store.store_single(i, DataType::Null, Some(true)) {
+        store.map = map;
+        return Err(refusal);
+    }
+    Ok(())
 }
 
 // Stores what register i holds, if there is something, in register j.
@@ -212,6 +217,7 @@ fn carry_many(store: &mut Store, i: u64, j: u64, n: u64, moves: bool) -> Result<
     requires { IsCurrent store.old × (i + n < 18446744073709551616) × (j + n < 18446744073709551616) }
     ensures { Changes (λ limit cs ds a r. Leads limit cs ds a r (carry_many limit moves n (int_of i) (int_of j))) store.old store.new result }
 {
+    let map = store.map;
     let mut done = 0;
     // Not a range: a turn carries as many as it can.
     while done < n {
@@ -219,7 +225,10 @@ fn carry_many(store: &mut Store, i: u64, j: u64, n: u64, moves: bool) -> Result<
         if done == n {
             return Ok(());
         }
-        carry_register(store, i + done, j + done, moves)?;
+        if let Err(refusal) = carry_register(store, i + done, j + done, moves) {
+            store.map = map;
+            return Err(refusal);
+        }
         done += 1 + absent(store, i + done + 1, n - done - 1);
     }
     Ok(())

@@ -3,7 +3,7 @@
 
 ghost use Rattle.model.specs.Operation.{op_end_coroutine, op_yield};
 ghost use Rattle.rows.specs.Judged.{SomeRows};
-ghost use Rattle.state.specs.Stores.{cells_in, SameStore};
+ghost use Rattle.state.specs.Stores.{cells_in, LeavesStore};
 ghost use Rattle.jump_arms.specs.Arms.{ReadyStore, at};
 ghost use Rattle.coroutine_arms.specs.Arms.{RowsInside, Targets, Follows, RowsArm};
 
@@ -34,7 +34,7 @@ fn yield_target(store: &Store, rows: Rows, w: u64) -> Option<u64>
 // EndCoroutine
 pub fn end_coroutine(store: &mut Store, row: u64, x: Row, rows: Rows) -> Result<Ways, Refusal>
     requires { ReadyStore store.old row × SomeRows (cells_in store.old) rows.from rows.count }
-    ensures { SameStore store.old store.new × RowsArm store.old.limit (cells_in store.old) (cells_in store.new) (at row store.old.map) x rows.from rows.count op_end_coroutine result }
+    ensures { LeavesStore store.old store.new result × RowsArm store.old.limit (cells_in store.old) (cells_in store.new) (at row store.old.map) x rows.from rows.count op_end_coroutine result }
 {
     let Some(w) = jump_arms::known_int(store, x.p1)? else {
         return Ok(Ways::default());
@@ -60,7 +60,7 @@ fn row_after_yield(store: &Store, rows: Rows, w: u64) -> u64
 // Yield. The store refuses nothing that the read did not, since the register has a number already.
 pub fn yield_(store: &mut Store, row: u64, x: Row, rows: Rows) -> Result<Ways, Refusal>
     requires { ReadyStore store.old row × SomeRows (cells_in store.old) rows.from rows.count }
-    ensures { SameStore store.old store.new × RowsArm store.old.limit (cells_in store.old) (cells_in store.new) (at row store.old.map) x rows.from rows.count op_yield result }
+    ensures { LeavesStore store.old store.new result × RowsArm store.old.limit (cells_in store.old) (cells_in store.new) (at row store.old.map) x rows.from rows.count op_yield result }
 {
     let Some(w) = jump_arms::known_int(store, x.p1)? else {
         return Ok(Ways::default());

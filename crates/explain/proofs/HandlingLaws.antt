@@ -1,11 +1,12 @@
 -- Handling a row by what an arm tells: known numbers may be one larger then, which only IfPos makes. Assumes nothing.
 use Rattle.refusal.specs.declared.Refusal.{Refusal}
-use mathlib.Core.Path.{◌≡◌, refl, ap, subst, ◌∙◌}
-use mathlib.Core.Bool.{Bool, false}
-use Rattle.std.specs.Prelude.{Option, Err, Some, None, Ok}
+use mathlib.Core.Path.{◌≡◌, refl, sym, ap, subst, ◌∙◌}
+use mathlib.Core.Bool.{Bool, false, ◌&&◌}
+use Rattle.std.specs.Prelude.{Option, Err, Some, None, Ok, Result}
 use mathlib.Core.List.{List, ◌∷◌}
 use Prim.Native.Nat.{ℕ, zero, suc, ◌+◌, ◌≤◌}
 use native.Mathlib.Omega.{arith}
+use lib.Dec.{eqb}
 use Rattle.model.specs.Walk.{done}
 use Rattle.model.specs.Row.{Row as Listed}
 use Rattle.model.specs.IntMap.{get}
@@ -18,7 +19,7 @@ use Rattle.model.specs.Explain.{arm}
 use Rattle.area.specs.declared.Cell.{Cell}
 use Rattle.encoding.specs.Holds.{largest}
 use Rattle.encoding.proofs.Held.{held_more}
-use Rattle.opcode.specs.Opcode.{arm_of}
+use Rattle.opcode.specs.Opcode.{arm_of, number}
 use Rattle.opcode.specs.declared.Operation.{Operation}
 use Rattle.opcode.specs.declared.Operation.TheVariants.{Jump, IfPos, ResultRow}
 use Rattle.rows.specs.Parts.{Parts}
@@ -27,18 +28,23 @@ use Rattle.rows.specs.Judged.{Judged}
 use Rattle.rows.specs.declared.row.Row.{Row}
 use Rattle.state.specs.Leads.{Current}
 use Rattle.state.specs.Steps.{HoldsState, TellsWay, TellsStep, LeavesStep, Way, Step}
+use Rattle.state.specs.Stores.{LeavesStore, stored_in}
 use Rattle.state.specs.declared.MemoryState.{MemoryState}
+use Rattle.state.specs.declared.store.Store.{Store}
 use Rattle.state.proofs.LeadsLaws.{unchanged}
-use Rattle.jump_arms.specs.Arms.{at}
+use Rattle.state.proofs.Stores.{no_refusal}
+use Rattle.jump_arms.specs.Arms.{at, step_after}
 use Rattle.jump_arms.proofs.StepLaws.{held_at, held_next, lies_here}
 use Rattle.ifpos_arm.specs.Arm.{IfPosArm, TellsAs}
 use Rattle.record_arms.specs.Records.{columns_from}
 use Rattle.record_arms.proofs.RangeLaws.{columns-read}
 use Rattle.result_arm.specs.Results.{JudgesRow}
 use Rattle.state.specs.declared.registers.Registers.{Registers}
+use Rattle.explain.specs.declared.Handling.{Handling}
 use Rattle.explain.specs.declared.Handling.TheVariants as handling
 use Rattle.explain.specs.Handles.{meaning_of, Handled, TellsHandling, LeavesHandling, Handles}
 use Rattle.explain.specs.Numbers.{NumberArm, as_handling}
+use Rattle.explain.specs.Narrow.{as_step, alone, repeats, Branches}
 
 -- ---- under a larger bound
 
@@ -160,3 +166,24 @@ module _ {limit from n : ℕ} {cs : List Cell} {blocks : List ℕ} {s : MemorySt
 
 pub row_handles : {limit from n : ℕ} {cs ds : List Cell} {blocks : List ℕ} {s : MemoryState} {x y : Parts} {again : Bool} {r : Handled} → x ≡ y → Handles limit from n cs ds blocks s x again r → Handles limit from n cs ds blocks s y again r
 row_handles {limit} {from} {n} {cs} {ds} {blocks} {s} {again = again} {r = r} e handles = subst (λ z. Handles limit from n cs ds blocks s z again r) e handles
+
+-- ---- rows that give less than all
+
+alone-as : (r : Result MemoryState Refusal) → as_handling false (as_step r) ≡ alone r
+alone-as (Err e) = refl
+alone-as (Ok s) = refl
+
+module _ {limit from n : ℕ} {cs ds : List Cell} {s : MemoryState} {x : Row} {again : Bool} where
+  pub alone_handles : {blocks : List ℕ} (r : Result MemoryState Refusal) → NumberArm limit from n cs ds blocks s x x.op (as_step r) → Handles limit from n cs ds blocks s (parts x) again (alone r)
+  alone_handles {blocks} r told = subst (Handles limit from n cs ds blocks s (parts x) again) (alone-as r) (number_handles (as_step r) refl told)
+
+  module _ {y : Parts} (r : Step) (read : parts x ≡ y) where
+    pub number_branches : eqb (number x.op) 15 ≡ false → ((blocks : List ℕ) → NumberArm limit from n cs ds blocks s x x.op r) → Branches limit from n cs ds s y again r
+    number_branches other told =
+        subst (λ z. Branches limit from n cs ds s z again r) read
+        (record { handles = λ blocks. subst (λ b. Handles limit from n cs ds blocks s (parts x) again (as_handling b r)) (sym (ap (λ b. b && again) other)) (number_handles r refl (told blocks)) })
+
+    pub if_pos_branches : x.op ≡ IfPos → IfPosArm limit cs ds s x again r → Branches limit from n cs ds s y again r
+    if_pos_branches is told =
+        subst (λ z. Branches limit from n cs ds s z again r) read
+        (record { handles = λ blocks. subst (λ o. Handles limit from n cs ds blocks s (parts x) again (as_handling (repeats o again) r)) (sym is) (if_pos_handles r (sym is) told) })

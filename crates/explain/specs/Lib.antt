@@ -1,2 +1,3 @@
 pub mod Handles
 pub mod Numbers
+pub mod Narrow

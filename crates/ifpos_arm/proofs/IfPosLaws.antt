@@ -40,7 +40,7 @@ use Rattle.rows.specs.Judged.{Judged}
 use Rattle.rows.specs.declared.row.Row.{Row}
 use Rattle.state.specs.Leads.{Current, HoldsMap, Tells}
 use Rattle.state.specs.Steps.{HoldsState, TellsStep, Step, offered}
-use Rattle.state.specs.Stores.{cells_in, SameStore, Changes}
+use Rattle.state.specs.Stores.{cells_in, LeavesStore, Changes}
 use Rattle.state.specs.declared.MemoryState.{MemoryState}
 use Rattle.state.specs.declared.store.Store.{Store}
 use Rattle.state.proofs.StoreLeads.{wider}
@@ -281,10 +281,10 @@ module _ (limit : ℕ) (cs : List Cell) (s : MemoryState) (x : Row) where
 -- both ways
 pub again_arm : {s t : Store} {row : ℕ} {x : Row} → ReadyStore s row → (w v : ℕ) → KnowsInt (cells_in s) s.map x.p1 w → WordBefore w v → {F G : Change}
     → ((a : Store) (q : Result (Unit {0}) Refusal) (b : Store) → F a q b → Changes (λ limit cs ds m r. PutsInt limit cs ds m x.p1 v r) a b q) → Makes G (λ limit. forget_if (is_positive (int_of w)) limit (int_of x.p1))
-    → {r : Step} → BothWays F G s t row x.p2 r → SameStore s t × IfPosArm s.limit (cells_in s) (cells_in t) (at row s.map) x true r
+    → {r : Step} → BothWays F G s t row x.p2 r → LeavesStore s t r × IfPosArm s.limit (cells_in s) (cells_in t) (at row s.map) x true r
 again_arm {s} {t} {row} {x} ready w v k before {G = G} f-is g-is {r} u =
     let c = f-is u.there u.first u.left u.changed in
-    let tell = told ready u.behind {G = G} {x = x} (λ p has e. puts_any (g-is (at_map s.map u.left) p t has e)) u.first (record { same = c.same; is = (c.is.leaves, c.is.frame) }) u.second in (
+    let tell = told ready u.behind {G = G} {x = x} (λ p has e. puts_any (g-is (at_map s.map u.left) p t has e)) u.first (record { same = c.same; kept = c.kept; is = (c.is.leaves, c.is.frame) }) u.second in (
       tell.same,
       record {
         says = λ l j bound m le top h.

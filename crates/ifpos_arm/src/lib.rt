@@ -5,7 +5,7 @@ ghost use Rattle.model.specs.IfPosArm.{is_positive};
 ghost use Rattle.std.specs.Prelude.{true};
 ghost use Rattle.intmap.specs.Map.{HasRoom};
 ghost use Rattle.intmap.specs.Signed.{int_of};
-ghost use Rattle.state.specs.Stores.{cells_in, IsHeld, SameStore, Changes};
+ghost use Rattle.state.specs.Stores.{cells_in, IsHeld, LeavesStore, Changes};
 ghost use Rattle.jump_arms.specs.Arms.{ReadyStore, at, Puts};
 ghost use Rattle.ifpos_arm.specs.Arm.{IfPosArm, KnowsInt, PutsInt, WordBefore, forget_if};
 
@@ -44,7 +44,7 @@ fn forget(store: &mut Store, i: u64, w: u64) -> Result<(), Refusal>
 // goes on forgets a number of 1 or more.
 fn if_pos_again(store: &mut Store, row: u64, x: Row, w: u64) -> Result<Ways, Refusal>
     requires { ReadyStore store.old row × KnowsInt (cells_in store.old) store.old.map x.p1 w }
-    ensures { SameStore store.old store.new × IfPosArm store.old.limit (cells_in store.old) (cells_in store.new) (at row store.old.map) x true result }
+    ensures { LeavesStore store.old store.new result × IfPosArm store.old.limit (cells_in store.old) (cells_in store.new) (at row store.old.map) x true result }
 {
     let before = word_before(w);
     let branch = |s: &mut Store| put_int(s, x.p1, before);
@@ -55,7 +55,7 @@ fn if_pos_again(store: &mut Store, row: u64, x: Row, w: u64) -> Result<Ways, Ref
 // IfPos. `again` says whether the row was handled before in this lineage.
 pub fn if_pos(store: &mut Store, row: u64, x: Row, again: bool) -> Result<Ways, Refusal>
     requires { ReadyStore store.old row }
-    ensures { SameStore store.old store.new × IfPosArm store.old.limit (cells_in store.old) (cells_in store.new) (at row store.old.map) x again result }
+    ensures { LeavesStore store.old store.new result × IfPosArm store.old.limit (cells_in store.old) (cells_in store.new) (at row store.old.map) x again result }
 {
     let Some(w) = jump_arms::known_int(store, x.p1)? else {
         return Ok(jump_arms::branch_and_go(store.at(x.p2), store, row + 1));

@@ -1,7 +1,7 @@
 -- The laws of runs under other keys: n times a cell under the keys 0, 1, 2, ..., with what each turn of the loop that writes them leaves, and a run
 -- whose key is changed. Assumes nothing.
-use mathlib.Core.Path.{◌≡◌, refl, ap, ap₂, ◌∙◌}
-use mathlib.Core.List.{List, [], ◌∷◌}
+use mathlib.Core.Path.{◌≡◌, refl, sym, ap, ap₂, ◌∙◌}
+use mathlib.Core.List.{List, [], ◌∷◌, map}
 use mathlib.Core.Bool.{Bool, true, false}
 use Prim.Native.Nat.{ℕ, zero, suc, ◌+◌, ◌<◌}
 use native.Mathlib.Omega.{arith}
@@ -12,9 +12,10 @@ use Rattle.area.specs.Cells.{blank}
 use Rattle.area.specs.declared.Cell.{Cell}
 use Rattle.intmap.specs.Pack.{tag_of, with_key}
 use Rattle.intmap.specs.Runs.{size, whole}
-use Rattle.intmap.specs.Entries.{Runs, span, key_run, total}
+use Rattle.intmap.specs.Entries.{Runs, span, entries, key_run, total}
 use Rattle.intmap.specs.Map.{Frame}
 use Rattle.intmap.specs.Change.{elems, rekey, rekeyed, FromElem}
+use Rattle.intmap.proofs.RunLaws.{size-single}
 use Rattle.intmap.proofs.SameCells.{size_same, sizes_same}
 use Rattle.intmap.proofs.EntryLaws.{span_same}
 use Rattle.intmap.proofs.PackLaws.{keyed_tag, keyed_key}
@@ -44,6 +45,20 @@ pub elems-done : (cs ds : List Cell) (at : ℕ) (c : Cell) (k n : ℕ) → k ≡
 elems-done cs ds at c k n e s =
     rw (← e)
     (record { cells = elems-span ds c k at 0 (λ j lt. let z : 0 + j ≡ j = omega arith in rw z (s.new j lt)); frame = s.frame })
+
+-- each is a run by itself, unless it is a record's
+module _ (ds : List Cell) (c : Cell) (plain : tag_of c ≡ 2 → ⊥) (d : ℕ) where
+  elem_one : (n p k : ℕ) → span ds p (suc n) ≡ elems c k (suc n) → (get_or ds p blank ≡ with_key k c) × (span ds (p + 1) n ≡ elems c (suc k) n)
+  unfolding span elems
+  elem_one n p k e = (cc, cc)
+
+  pub elem_entries : (n p k : ℕ) → span ds p n ≡ elems c k n → entries ds d n p ≡ map (λ (x : Cell). x ∷ []) (elems c k n)
+  unfolding entries elems span
+  elem_entries zero p k e = refl
+  elem_entries (suc n) p k e =
+      let h = elem_one n p k e in
+      let one : 1 ≡ size ds d p = size-single ds d p (with_key k c) (sym h.0) (λ t. plain (sym (keyed_tag k c) ∙ t)) in
+      rw (← one) (ap₂ (λ (x : Cell) (l : Runs). (x ∷ []) ∷ l) h.0 (elem_entries n (p + 1) (suc k) h.1))
 
 -- ---- runs under other keys
 

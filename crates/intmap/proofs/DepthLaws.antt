@@ -1,6 +1,6 @@
 -- The laws of nesting: what it is of each kind of column, and what a loop over columns goes by. Assumes nothing.
 use mathlib.Core.Path.{◌≡◌, refl, ap}
-use mathlib.Core.List.{List}
+use mathlib.Core.List.{List, ◌∷◌}
 use mathlib.Core.Bool.{Bool, true, false}
 use Prim.Native.Nat.{ℕ, zero, suc, ◌+◌, ◌-◌, ◌<◌, ◌≤◌, max}
 use native.Mathlib.Omega.{arith}
@@ -11,6 +11,7 @@ use Rattle.area.specs.Cells.{blank}
 use Rattle.area.specs.declared.Cell.{Cell}
 use Rattle.intmap.specs.Pack.{tag_of}
 use Rattle.intmap.specs.Runs.{size, sizes, whole}
+use Rattle.intmap.specs.Entries.{Runs, span, entries}
 use Rattle.intmap.specs.Depth.{deepest, under, nesting, nestings}
 
 pub nesting-none : (cs : List Cell) (d p : ℕ) → d ≡ 0 → 0 ≡ nesting cs d p
@@ -80,3 +81,14 @@ pub size_deep : (cs : List Cell) (d p : ℕ) → nesting cs (suc d) p ≤ d → 
 unfolding size nesting
 size_deep cs zero p h = whole_flat (size cs 0) (eqb (tag_of (get_or cs p blank)) 2) _ (get_or cs p blank).payload p h
 size_deep cs (suc d) p h = whole_deep (nesting cs (suc d)) (size cs d) (size cs (suc d)) d (size_deep cs d) (eqb (tag_of (get_or cs p blank)) 2) (get_or cs p blank).payload p h
+
+pub columns_deep : (cs : List Cell) (d n p : ℕ) → nestings cs (suc d) n p ≤ d → sizes (size cs d) n p ≡ sizes (size cs (suc d)) n p
+unfolding nestings
+columns_deep cs d n p h = sizes_deep (nesting cs (suc d)) (size cs d) (size cs (suc d)) d (size_deep cs d) n p h
+
+pub entries_deep : (cs : List Cell) (d n p : ℕ) → nestings cs (suc d) n p ≤ d → entries cs d n p ≡ entries cs (suc d) n p
+unfolding nestings deepest entries
+entries_deep cs d zero p h = refl
+entries_deep cs d (suc n) p h =
+    let e : size cs d p ≡ size cs (suc d) p = size_deep cs d p (omega arith) in
+    rw e (ap (λ (l : Runs). span cs p (size cs (suc d) p) ∷ l) (entries_deep cs d n (p + size cs (suc d) p) (omega arith)))

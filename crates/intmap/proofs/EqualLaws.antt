@@ -2,7 +2,7 @@
 use mathlib.Core.Path.{◌≡◌, refl, sym, ap, ◌∙◌}
 use mathlib.Core.List.{List, ◌∷◌}
 use mathlib.Core.Bool.{Bool, true, false, false≢true}
-use Prim.Native.Nat.{ℕ, zero, suc, ◌+◌, ◌-◌, ◌<◌}
+use Prim.Native.Nat.{ℕ, zero, suc, ◌+◌, ◌-◌, ◌<◌, ◌≤◌}
 use native.Mathlib.Omega.{arith}
 use native.Mathlib.Decide.{dec_lt}
 use lib.ListN.{length, get_or}
@@ -126,6 +126,10 @@ module _ (cs : List Cell) where
 pub cells_all : (cs : List Cell) (a b n : ℕ) (r : Bool) → MatchBool r ((k : ℕ) → k < n → get_or cs (a + k) blank ≡ get_or cs (b + k) blank) ((k : ℕ) × (k < n) × (get_or cs (a + k) blank ≡ get_or cs (b + k) blank → ⊥)) → SameCells cs a b n r
 cells_all cs a b n true h = record { yes = λ _ j lt. sym (h j lt); no = λ e. absurd (false≢true (sym e)) }
 cells_all cs a b n false h = record { yes = λ e. absurd (false≢true e); no = λ _ agree. h.2 (sym (agree h.0 h.1)) }
+
+-- cells that are the same are so up to any fewer
+pub cells_fewer : {cs : List Cell} {a b n k : ℕ} → n ≤ k → SameCells cs a b k true → SameCells cs a b n true
+cells_fewer le same = record { yes = λ _ j lt. same.yes refl j (omega (arith, le, lt)); no = λ e. absurd (false≢true (sym e)) }
 
 -- ---- two maps
 module _ (cs : List Cell) (a b : IntMap) where

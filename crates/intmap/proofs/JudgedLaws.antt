@@ -3,6 +3,7 @@ use mathlib.Core.Path.{◌≡◌, sym, ap, ◌∙◌}
 use mathlib.Core.List.{List, []}
 use mathlib.Core.Bool.{Bool}
 use Prim.Native.Nat.{ℕ, ◌<◌, ◌≤◌}
+use native.Mathlib.Omega.{arith}
 use borrow.Author.Tests.{le-leb, lt-leb}
 use Rattle.model.specs.Walk.{Tried, refused, done}
 use Rattle.model.specs.Access.{index, depth_if, judge_depth, ◌>>=◌}
@@ -10,7 +11,7 @@ use Rattle.area.specs.declared.Cell.{Cell}
 use Rattle.intmap.specs.Pack.{class_key}
 use Rattle.intmap.specs.Entries.{Runs}
 use Rattle.intmap.specs.Swap.{swap}
-use Rattle.intmap.specs.Map.{runs_at, IsMap}
+use Rattle.intmap.specs.Map.{runs_at, IsMap, HasRoom}
 use Rattle.intmap.specs.Change.{rekey}
 use Rattle.intmap.specs.Signed.{int_of}
 use Rattle.std.specs.Prelude.{Ok, Err}
@@ -76,3 +77,13 @@ module _ (cs ds : List Cell) (m : IntMap) (class i : ℕ) (x : Index) (ix : inde
         leaves = record { base = d.base; fewer = d.fewer; map = removed_map cs ds m key r is d };
         frame = d.frame;
       }
+
+-- what a removal leaves has the room that there was
+pub fewer_room : (cs ds : List Cell) (limit : ℕ) (m : IntMap) (class i : ℕ) (r : IntMap) → HasRoom cs limit m → RemovesAt cs ds m class i (Ok r) → HasRoom ds limit r
+fewer_room cs ds limit m class i r has d =
+    record {
+      used = d.leaves.map.used;
+      most = omega (arith, has.most, d.leaves.fewer);
+      room = omega (arith, has.room, d.leaves.base, d.frame.long);
+      small = d.leaves.map.small;
+    }

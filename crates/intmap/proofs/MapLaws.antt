@@ -10,10 +10,11 @@ use Rattle.area.specs.Moves.{moved}
 use Rattle.area.specs.declared.Cell.{Cell}
 use Rattle.area.proofs.MoveLaws.{moved_below, moved_above, moved_in, length_moved}
 use Rattle.intmap.specs.Runs.{size, sizes, Copied, Agree}
+use Rattle.intmap.specs.Entries.{span, entries}
 use Rattle.intmap.specs.Map.{levels, empty, runs_at, IsMap, HasRoom, Frame, CopiedMap}
 use Rattle.intmap.specs.declared.IntMap.{IntMap}
 use Rattle.intmap.proofs.SameCells.{size_same, sizes_same}
-use Rattle.intmap.proofs.EntryLaws.{entries-same}
+use Rattle.intmap.proofs.EntryLaws.{entry-same, entries-same}
 
 -- the map at another place
 abbrev pub placed : ℕ → IntMap → IntMap
@@ -70,7 +71,21 @@ map-copied cs ds m to is fits w =
       frame = copied_frame cs ds m.base to m.used m.used c;
     }
 
+pub copied_column : (cs ds : List Cell) (d from to r : ℕ) → to + size cs d from ≤ length cs → Copied cs ds from to (size cs d from) r → (size ds d to ≡ size cs d from) × (span ds to (size ds d to) ≡ span cs from (size cs d from))
+copied_column cs ds d from to r fits c =
+    let a = copied_agree cs ds from to (size cs d from) r c fits in
+    (size_same cs ds d from to a, entry-same cs ds d from to a)
+
+pub copied-columns : (cs ds : List Cell) (d n from to r : ℕ) → to + sizes (size cs d) n from ≤ length cs → Copied cs ds from to (sizes (size cs d) n from) r → (sizes (size ds d) n to ≡ sizes (size cs d) n from) × (entries ds d n to ≡ entries cs d n from)
+copied-columns cs ds d n from to r fits c =
+    let a = copied_agree cs ds from to (sizes (size cs d) n from) r c fits in
+    (sizes_same (size cs d) (size ds d) cs ds (size_same cs ds d) n from to a, entries-same cs ds d n from to a)
+
 -- nothing is there
+pub empty-map : (cs : List Cell) (base : ℕ) → base ≤ length cs → length cs ≤ 1048576 → IsMap cs (empty base)
+unfolding sizes
+empty-map cs base fits small = record { used = refl; inside = omega arith; small = small }
+
 pub empty_room : (cs : List Cell) (limit base : ℕ) → base + limit ≤ length cs → length cs ≤ 1048576 → HasRoom cs limit (empty base)
 unfolding sizes
 empty_room cs limit base fits small = record { used = refl; most = omega arith; room = fits; small = small }

@@ -52,6 +52,9 @@ module _ (cs ds : List Cell) (q : ℕ) (c : Cell) (e : ds ≡ set cs q c) (fits 
       go p (yes y) = ap (λ x. key_of (get_or ds x blank)) y ∙ ap key_of here ∙ k ∙ ap (λ x. key_of (get_or cs x blank)) (sym y)
       go p (no n) = ap key_of (other p n)
 
+pub alike_same : (cs : List Cell) → Alike cs cs
+alike_same cs = record { long = refl; sizes = λ d p. refl; keys = λ p. refl }
+
 pub alike_then : {cs ds es : List Cell} → Alike cs ds → Alike ds es → Alike cs es
 alike_then f g = record { long = g.long ∙ f.long; sizes = λ d p. g.sizes d p ∙ f.sizes d p; keys = λ p. g.keys p ∙ f.keys p }
 

@@ -27,6 +27,9 @@ module _ (tag kind nullable key : ℕ) (t : tag < 256) where
       pub head_injective : (tag' kind' nullable' key' : ℕ) → tag' < 256 → kind' < 256 → nullable' < 256 → head tag kind nullable key ≡ head tag' kind' nullable' key' → (tag ≡ tag') × (kind ≡ kind') × (nullable ≡ nullable') × (key ≡ key')
       head_injective tag' kind' nullable' key' t' k' n' e = omega arith
 
+      pub head_with_key : (payload new : ℕ) → with_key new (cell (head tag kind nullable key) payload) ≡ cell (head tag kind nullable new) payload
+      head_with_key payload new = ap (λ (h : ℕ). cell h payload) (omega arith)
+
       pub head_with_nullable : (payload new : ℕ) → with_nullable new (cell (head tag kind nullable key) payload) ≡ cell (head tag kind new key) payload
       head_with_nullable payload new = ap (λ (h : ℕ). cell h payload) (omega arith)
 

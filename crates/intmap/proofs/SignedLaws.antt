@@ -1,4 +1,4 @@
--- What a word's number is, and what +1, −1, =, positive, a difference, the low byte, an index, a count and a row are through the offset.
+-- What a word's number is, and what +1, −1, =, ≤, positive, a difference, the low byte, an index, a count and a row are through the offset.
 -- Assumes nothing.
 use mathlib.Core.Path.{◌≡◌, refl, sym, ap, ap₂, subst, ◌∙◌}
 use mathlib.Core.Bool.{Bool, true, false, cond}
@@ -7,9 +7,10 @@ use mathlib.Core.List.{List}
 use Prim.Native.Nat.{ℕ, zero, suc, ◌+◌, ◌-◌, ◌%◌, ◌<◌, ◌≤◌}
 use native.Mathlib.Omega.{arith}
 use native.Mathlib.Decide.{dec_lt}
-use lib.Dec.{ltb, eqb}
+use lib.Dec.{leb, ltb, eqb}
 use lib.IntN.{ℤ, pos, negsuc, suc_ℤ, pred_ℤ, sub_ℕ, ◌-ℤ◌}
-use borrow.Author.Tests.{ltb-true, lt-ltb, le-ltb, le-leb, lt-leb, eqb-true, eq-eqb}
+use lib.Signed.{le_z}
+use borrow.Author.Tests.{ltb-true, lt-ltb, le-ltb, leb-true, le-leb, lt-leb, eqb-true, eq-eqb}
 use Rattle.model.specs.Walk.{refused, done}
 use Rattle.model.specs.Row.{Row}
 use Rattle.model.specs.Equality.{eq_int}
@@ -92,6 +93,10 @@ pub word-least : (bound : ℕ) (i : ℤ) → Small bound i → offset ≤ word_o
 word-least bound (pos k) s = omega arith
 word-least bound (negsuc k) s = omega arith
 
+pub word_most : (bound : ℕ) (i : ℤ) → Small bound i → word_of i ≤ offset + bound
+word_most bound (pos k) s = omega arith
+word_most bound (negsuc k) s = omega arith
+
 -- and the number of a word that is near the offset
 pub small_int : (bound w : ℕ) → offset ≤ w + bound → w ≤ offset + bound → Small bound (int_of w)
 small_int bound w =
@@ -124,7 +129,22 @@ int_pred w =
     go zero e h = ap negsuc (omega arith) ∙ sym (int_below (w - 1) (omega arith))
     go (suc n) e h = ap pos (omega arith) ∙ sym (int_above (w - 1) (omega arith))
 
--- how small a number stays
+-- of a number: its word, and how small it stays
+pub word-suc : (bound : ℕ) (i : ℤ) → bound < offset → Small bound i → word_of (suc_ℤ i) ≡ word_of i + 1
+word-suc bound (pos k) h s = omega arith
+word-suc bound (negsuc zero) h s = omega arith
+word-suc bound (negsuc (suc k)) h s = omega arith
+
+pub word_pred : (i : ℤ) → word_of (pred_ℤ i) ≡ word_of i - 1
+word_pred (pos zero) = omega arith
+word_pred (pos (suc k)) = omega arith
+word_pred (negsuc k) = omega arith
+
+pub small_suc : (bound : ℕ) (i : ℤ) → Small bound i → Small (bound + 1) (suc_ℤ i)
+small_suc bound (pos k) s = omega arith
+small_suc bound (negsuc zero) s = omega arith
+small_suc bound (negsuc (suc k)) s = omega arith
+
 pub small_pred : (bound : ℕ) (i : ℤ) → Small bound i → Small (bound + 1) (pred_ℤ i)
 small_pred bound (pos zero) s = omega arith
 small_pred bound (pos (suc k)) s = omega arith
@@ -135,6 +155,27 @@ pub int_same : (w v : ℕ) → eq_int (int_of w) (int_of v) ≡ eqb w v
 int_same w v =
     iff (λ h. eq-eqb w v (int_injective w v (int_decides.sound (int_of w) (int_of v) h)))
     (λ h. ap (λ x. eq_int (int_of w) (int_of x)) (sym (eqb-true w v h)) ∙ int_decides.reflexive (int_of w))
+
+same_order : (a b c d : ℕ) → (a ≤ b → c ≤ d) → (c ≤ d → a ≤ b) → leb a b ≡ leb c d
+same_order a b c d f g = iff (λ h. le-leb c d (f (leb-true a b h))) (λ h. le-leb a b (g (leb-true c d h)))
+
+order_below : (w v : ℕ) → w < offset → le_z (negsuc (offset - 1 - w)) (int_of v) ≡ leb w v
+order_below w v h =
+    by_sign (λ v. le_z (negsuc (offset - 1 - w)) (int_of v) ≡ leb w v) v
+    (λ g. ap (le_z (negsuc (offset - 1 - w))) (int_below v g) ∙ same_order (offset - 1 - v) (offset - 1 - w) w v (omega arith) (omega arith))
+    (λ g. ap (le_z (negsuc (offset - 1 - w))) (int_above v g) ∙ sym (le-leb w v (omega arith)))
+
+order_above : (w v : ℕ) → offset ≤ w → le_z (pos (w - offset)) (int_of v) ≡ leb w v
+order_above w v h =
+    by_sign (λ v. le_z (pos (w - offset)) (int_of v) ≡ leb w v) v
+    (λ g. ap (le_z (pos (w - offset))) (int_below v g) ∙ sym (lt-leb w v (omega arith)))
+    (λ g. ap (le_z (pos (w - offset))) (int_above v g) ∙ same_order (w - offset) (v - offset) w v (omega arith) (omega arith))
+
+pub int_order : (w v : ℕ) → le_z (int_of w) (int_of v) ≡ leb w v
+int_order w v =
+    by_sign (λ w. le_z (int_of w) (int_of v) ≡ leb w v) w
+    (λ h. ap (λ i. le_z i (int_of v)) (int_below w h) ∙ order_below w v h)
+    (λ h. ap (λ i. le_z i (int_of v)) (int_above w h) ∙ order_above w v h)
 
 pub int_positive : (w : ℕ) → is_positive (int_of w) ≡ ltb offset w
 int_positive w =

@@ -26,9 +26,10 @@ use Rattle.rows.specs.Judged.{Judged}
 use Rattle.rows.specs.declared.row.Row.{Row}
 use Rattle.state.specs.Leads.{Held, HoldsMap, Tells, Stays, Leaves}
 use Rattle.state.specs.Steps.{HoldsState, Offered, TellsStep, LeavesStep, Step}
-use Rattle.state.specs.Stores.{cells_in, SameStore, stored_in, Changes}
+use Rattle.state.specs.Stores.{cells_in, LeavesStore, stored_in, Changes}
+use Rattle.state.specs.declared.MemoryState.{MemoryState}
 use Rattle.state.specs.declared.store.Store.{Store}
-use Rattle.copy_arms.proofs.StoreLaws.{same_then}
+use Rattle.state.proofs.Stores.{same_then, no_refusal, same_at}
 use Rattle.jump_arms.specs.Arms.{at, both_after, Puts, BothArm, ReadyStore}
 use Rattle.jump_arms.specs.Both.{Behind, at_map, Change, HeldWithRoom, StaysWithin, Second, BothWays}
 use Rattle.jump_arms.proofs.StepLaws.{next_row, held_next, branches_and_goes}
@@ -41,8 +42,8 @@ kept_room limit cs ds a room long same =
     (omega (arith, long, room.room))
 
 -- the map goes on behind itself
-pub behind_of : (s : Store) (b : IntMap) (xs : List ℕ) → CopiedMap (cells_in s) (cells xs) s.map (s.map.base + s.limit) b → Behind s (record { map = b; area = record { ref_ptr = s.area.ref_ptr; ghost_name = s.area.ghost_name; now = xs }; limit = s.limit })
-behind_of s b xs copied = record { same = record { buffer = refl; limit = refl }; copied = copied }
+pub behind_of : (s : Store) (b : IntMap) (xs : List ℕ) → length xs ≡ length s.area.now → CopiedMap (cells_in s) (cells xs) s.map (s.map.base + s.limit) b → Behind s (record { map = b; area = record { ref_ptr = s.area.ref_ptr; ghost_name = s.area.ghost_name; now = xs }; limit = s.limit })
+behind_of s b xs long copied = record { same = record { buffer = refl; length = long; limit = refl }; copied = copied }
 
 -- what the first change answered, and then the second
 pub ways : {F G : Change} {s t a : Store} {row p2 : ℕ} {r : Step} (u : Store) (q : Result (Unit {0}) Refusal) → Behind s a → F a q u → Second G s.map row p2 u t q r → BothWays F G s t row p2 r
@@ -52,9 +53,14 @@ ways u q b changed second = record { there = _; behind = b; first = q; left = u;
 abbrev pub PutsAny : ℕ → List Cell → List Cell → IntMap → Stored → Type 0
 PutsAny limit cs ds a r = Leaves limit ds a r × Frame cs ds a.base limit
 
+-- behind the first change, what both ways refuse is what the second did
+both_kept : (b : MemoryState) (w : ℕ) (t : Store) {a : IntMap} (q : Result (Unit {0}) Refusal) → ((e : Refusal) → q ≡ Err e → t.map ≡ a) → (e : Refusal) → both_after b w (stored_in t q) ≡ Err e → t.map ≡ a
+both_kept b w t (Err k) kept e is = kept k refl
+both_kept b w t (Ok u) kept e is = no_refusal e is
+
 -- what both ways tell, where y and z are what the two changes tell
 pub record Told (G : Change) (s t a u : Store) (row : ℕ) (x : Row) (q : Result (Unit {0}) Refusal) (r : Step) : Type 0 where
-  pub same : SameStore s t
+  pub same : LeavesStore s t r
   pub says : (l : Listed) → Judged l x → (bound : ℕ) (m : Defined) → HoldsState s.limit bound (cells_in s) (at row s.map) m → (y z : Tried Defined)
       → (HoldsMap s.limit bound (cells_in a) a.map (go_to l.p2 m) → Tells s.limit bound (cells_in u) (stored_in u q) y) → Kept (SameRow (go_to l.p2 m)) y
       → ((p : Result (Unit {0}) Refusal) → HeldWithRoom (at_map s.map u) → G (at_map s.map u) p t → HoldsMap s.limit bound (cells_in u) s.map (next m) → Tells s.limit bound (cells_in t) (stored_in t p) z) → Kept (SameRow (next m)) z
@@ -153,7 +159,7 @@ module _ {s a : Store} {row : ℕ} (ready : ReadyStore s row) (b : Behind s a) w
   pub told : {G : Change} {t u : Store} {x : Row} → ((p : Result (Unit {0}) Refusal) → HeldWithRoom (at_map s.map u) → G (at_map s.map u) p t → Changes PutsAny (at_map s.map u) t p) → (q : Result (Unit {0}) Refusal) {r : Step} → Changes PutsAny a u q → Second G s.map row x.p2 u t q r → Told G s t a u row x q r
   told {t = t} {u = u} {x = x} g-in (Err k) c then =
       rw (then.0, then.1) (record {
-        same = same_then b.same c.same;
+        same = record { same = same_at s.map (same_then b.same c.same); kept = λ e is. refl };
         says = λ l j bound m h y z y-told y-row z-told z-row.
             ap (λ y. y >>= λ branch. z >>= λ stays. offers (branch ∷ []) (Some stays)) (y-told (held_go_to s.limit bound (cells_in a) _ _ _ m (copy_holds bound m h.map) l.p2));
         leaves = tt;
@@ -166,7 +172,11 @@ module _ {s a : Store} {row : ℕ} (ready : ReadyStore s row) (b : Behind s a) w
       let one : PutsAny s.limit (cells_in a) (cells_in u) a.map (Ok u.map) = within b.same.limit c in
       let two = within same.limit d in
       rw then.2 (record {
-        same = record { buffer = d.same.buffer ∙ same.buffer; limit = d.same.limit ∙ same.limit };
+        same =
+            record {
+              same = record { buffer = d.same.buffer ∙ same.buffer; length = d.same.length ∙ same.length; limit = d.same.limit ∙ same.limit };
+              kept = both_kept _ _ t then.0 d.kept;
+            };
         says = λ l j bound m h y z y-told y-row z-told z-row.
             both_tells u one.1 one.0 t two.1 x l j bound m h.row y z
             (y-told (held_go_to s.limit bound (cells_in a) _ _ _ m (copy_holds bound m h.map) l.p2)) y-row (stored_in t then.0)
@@ -180,9 +190,9 @@ abbrev pub Makes : Change → (ℕ → Defined → Tried Defined) → Type 0
 Makes F f = (a : Store) (q : Result (Unit {0}) Refusal) (b : Store) → HeldWithRoom a → F a q b → Changes (λ limit cs ds m r. Puts limit cs ds m r (f limit)) a b q
 
 pub puts_any : {f : ℕ → Defined → Tried Defined} {a b : Store} {q : Result (Unit {0}) Refusal} → Changes (λ limit cs ds m r. Puts limit cs ds m r (f limit)) a b q → Changes PutsAny a b q
-puts_any c = record { same = c.same; is = (c.is.leads.leaves, c.is.frame) }
+puts_any c = record { same = c.same; kept = c.kept; is = (c.is.leads.leaves, c.is.frame) }
 
-pub both_arm : {s t : Store} {row : ℕ} {x : Row} → ReadyStore s row → {F G : Change} (f g : ℕ → Defined → Tried Defined) → Makes F f → Makes G g → ((n : ℕ) (m : Defined) → Kept (SameRow m) (f n m)) → ((n : ℕ) (m : Defined) → Kept (SameRow m) (g n m)) → {r : Step} → BothWays F G s t row x.p2 r → SameStore s t × BothArm s.limit (cells_in s) (cells_in t) (at row s.map) x (f s.limit) (g s.limit) r
+pub both_arm : {s t : Store} {row : ℕ} {x : Row} → ReadyStore s row → {F G : Change} (f g : ℕ → Defined → Tried Defined) → Makes F f → Makes G g → ((n : ℕ) (m : Defined) → Kept (SameRow m) (f n m)) → ((n : ℕ) (m : Defined) → Kept (SameRow m) (g n m)) → {r : Step} → BothWays F G s t row x.p2 r → LeavesStore s t r × BothArm s.limit (cells_in s) (cells_in t) (at row s.map) x (f s.limit) (g s.limit) r
 both_arm {s} {t} {x = x} ready {G = G} f g f-is g-is f-row g-row w =
     let c = f-is w.there w.first w.left (first_ready ready w.behind) w.changed in
     let tell = told ready w.behind {G = G} {x = x} (λ p has e. puts_any (g-is (at_map s.map w.left) p t has e)) w.first (puts_any c) w.second in (

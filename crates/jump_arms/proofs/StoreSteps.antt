@@ -28,6 +28,7 @@ use Rattle.rows.specs.declared.row.Row.{Row}
 use Rattle.state.specs.Leads.{HoldsMap, Tells, Leaves, operands, Leads}
 use Rattle.state.specs.Steps.{HoldsState, Offered, TellsStep, LeavesStep, JumpArm, Step}
 use Rattle.state.specs.Stores.{cells_in, SameStore, stored_in, Changes}
+use Rattle.state.proofs.Stores.{untouched}
 use Rattle.state.specs.declared.MemoryState.{MemoryState}
 use Rattle.state.specs.declared.Ways.{Ways}
 use Rattle.state.specs.declared.store.Store.{Store}
@@ -80,7 +81,7 @@ branch_leaves limit ds s (Ok b) w leaves = (record { above = omega (arith, leave
 
 -- a store that nothing changed
 pub same_store : {s : Store} → SameStore s s
-same_store = record { buffer = refl; limit = refl }
+same_store = untouched
 
 -- a change of a store whose limit is n
 pub within : {P : ℕ → List Cell → List Cell → IntMap → Stored → Type 0} {s t : Store} {r : Result (Unit {0}) Refusal} {n : ℕ} → s.limit ≡ n → Changes P s t r → P n (cells_in s) (cells_in t) s.map (stored_in t r)

@@ -29,9 +29,9 @@ pub record Behind (s t : Store) : Type 0 where
 abbrev pub at_map : IntMap → Store → Store
 at_map a s = record { map = a; area = s.area; limit = s.limit }
 
--- after the first change left u: why it was refused, or both ways, by the second
+-- after the first change left u, at the map from before: why it was refused, or both ways, by the second
 abbrev pub Second : Change → IntMap → ℕ → ℕ → Store → Store → Result (Unit {0}) Refusal → Step → Type 0
-Second G a row p2 u t (Err e) r = (t ≡ u) × (r ≡ Err e)
+Second G a row p2 u t (Err e) r = (t ≡ at_map a u) × (r ≡ Err e)
 Second G a row p2 u t (Ok v) r = (q : Result (Unit {0}) Refusal) × G (at_map a u) q t × (r ≡ both_after (at p2 u.map) (row + 1) (stored_in t q))
 
 pub record BothWays (F G : Change) (s t : Store) (row p2 : ℕ) (r : Step) : Type 0 where

@@ -14,7 +14,7 @@ ghost use Rattle.intmap.specs.Signed.{int_of};
 ghost use Rattle.rows.specs.Parts.{Operand};
 ghost use Rattle.state.specs.Leads.{Held, Leads};
 ghost use Rattle.state.specs.Steps.{JumpArm};
-ghost use Rattle.state.specs.Stores.{cells_in, IsHeld, IsCurrent, SameStore, Changes};
+ghost use Rattle.state.specs.Stores.{cells_in, IsHeld, IsCurrent, LeavesStore, Changes};
 ghost use Rattle.jump_arms.specs.Both.{HeldWithRoom, StaysWithin, BothWays};
 ghost use Rattle.jump_arms.specs.Arms.{ReadyStore, StateArm, InitTo, RowAfter, at, on_at, branch_at, both_at, Knows, Puts, BothArm, IfArm, Asks, changed};
 
@@ -110,7 +110,7 @@ pub fn go_on(store: &Store, row: u64) -> Ways
 // Gosub
 pub fn gosub(store: &mut Store, row: u64, x: Row) -> Result<Ways, Refusal>
     requires { ReadyStore store.old row }
-    ensures { SameStore store.old store.new × JumpArm store.old.limit (cells_in store.old) (cells_in store.new) (at row store.old.map) x op_gosub result }
+    ensures { LeavesStore store.old store.new result × JumpArm store.old.limit (cells_in store.old) (cells_in store.new) (at row store.old.map) x op_gosub result }
 {
     store.store_int(x.p1, row)?;
     Ok(go_on(store, x.p2))
@@ -130,7 +130,7 @@ pub fn init_coroutine_to(row: u64, p2: u64) -> u64
 // InitCoroutine
 pub fn init_coroutine(store: &mut Store, row: u64, x: Row) -> Result<Ways, Refusal>
     requires { ReadyStore store.old row }
-    ensures { SameStore store.old store.new × JumpArm store.old.limit (cells_in store.old) (cells_in store.new) (at row store.old.map) x op_init_coroutine result }
+    ensures { LeavesStore store.old store.new result × JumpArm store.old.limit (cells_in store.old) (cells_in store.new) (at row store.old.map) x op_init_coroutine result }
 {
     let to = init_coroutine_to(row, x.p2);
     store.store_int(x.p1, x.p3)?;
@@ -179,7 +179,7 @@ pub fn remove_register(store: &mut Store, i: u64) -> Result<(), Refusal>
 // Return
 pub fn return_(store: &mut Store, row: u64, x: Row) -> Result<Ways, Refusal>
     requires { ReadyStore store.old row }
-    ensures { SameStore store.old store.new × JumpArm store.old.limit (cells_in store.old) (cells_in store.new) (at row store.old.map) x op_return result }
+    ensures { LeavesStore store.old store.new result × JumpArm store.old.limit (cells_in store.old) (cells_in store.new) (at row store.old.map) x op_return result }
 {
     let Some(w) = known_int(store, x.p1)? else {
         if x.p3 == ONE {
@@ -220,9 +220,10 @@ pub fn both_ways<
 {
     let map = store.map;
     store.map = map.copy_to(store.area, map.base + store.limit);
-    first(store)?;
+    let changed = first(store);
     let branch = store.at(p2);
     store.map = map;
+    changed?;
     second(store)?;
     Ok(branch_and_go(branch, store, row + 1))
 }
@@ -241,7 +242,7 @@ fn store_if(store: &mut Store, x: Row, value: u64) -> Result<(), Refusal>
 // If, where the number w is known: 0 goes on, another branches.
 fn if_known(store: &mut Store, row: u64, x: Row, w: u64) -> Result<Ways, Refusal>
     requires { ReadyStore store.old row }
-    ensures { SameStore store.old store.new × IfArm store.old.limit (cells_in store.old) (cells_in store.new) (at row store.old.map) x (Some (int_of w)) result }
+    ensures { LeavesStore store.old store.new result × IfArm store.old.limit (cells_in store.old) (cells_in store.new) (at row store.old.map) x (Some (int_of w)) result }
 {
     if w == intmap::ZERO {
         store_if(store, x, intmap::ZERO)?;
@@ -254,7 +255,7 @@ fn if_known(store: &mut Store, row: u64, x: Row, w: u64) -> Result<Ways, Refusal
 // If, where no number is known: both ways.
 fn if_both(store: &mut Store, row: u64, x: Row) -> Result<Ways, Refusal>
     requires { ReadyStore store.old row }
-    ensures { SameStore store.old store.new × IfArm store.old.limit (cells_in store.old) (cells_in store.new) (at row store.old.map) x None result }
+    ensures { LeavesStore store.old store.new result × IfArm store.old.limit (cells_in store.old) (cells_in store.new) (at row store.old.map) x None result }
 {
     let branch = |s: &mut Store| store_if(s, x, ONE);
     let stays = |s: &mut Store| store_if(s, x, intmap::ZERO);
@@ -264,7 +265,7 @@ fn if_both(store: &mut Store, row: u64, x: Row) -> Result<Ways, Refusal>
 // If
 pub fn if_(store: &mut Store, row: u64, x: Row) -> Result<Ways, Refusal>
     requires { ReadyStore store.old row }
-    ensures { SameStore store.old store.new × JumpArm store.old.limit (cells_in store.old) (cells_in store.new) (at row store.old.map) x op_if result }
+    ensures { LeavesStore store.old store.new result × JumpArm store.old.limit (cells_in store.old) (cells_in store.new) (at row store.old.map) x op_if result }
 {
     match known_int(store, x.p1)? {
         None => if_both(store, row, x),
@@ -356,7 +357,7 @@ fn put_changed(store: &mut Store, i: u64, null: bool) -> Result<(), Refusal>
 // IsNull and NotNull where both ways are taken. `null` says whether the register is null at the branch.
 fn change_both(store: &mut Store, row: u64, x: Row, null: bool) -> Result<Ways, Refusal>
     requires { ReadyStore store.old row }
-    ensures { SameStore store.old store.new × BothArm store.old.limit (cells_in store.old) (cells_in store.new) (at row store.old.map) x (update_register (int_of x.p1) (changed null)) (update_register (int_of x.p1) (changed (not null))) result }
+    ensures { LeavesStore store.old store.new result × BothArm store.old.limit (cells_in store.old) (cells_in store.new) (at row store.old.map) x (update_register (int_of x.p1) (changed null)) (update_register (int_of x.p1) (changed (not null))) result }
 {
     let branch = |s: &mut Store| put_changed(s, x.p1, null);
     let stays = |s: &mut Store| put_changed(s, x.p1, !null);
@@ -366,7 +367,7 @@ fn change_both(store: &mut Store, row: u64, x: Row, null: bool) -> Result<Ways, 
 // IsNull
 pub fn is_null(store: &mut Store, row: u64, x: Row) -> Result<Ways, Refusal>
     requires { ReadyStore store.old row }
-    ensures { SameStore store.old store.new × JumpArm store.old.limit (cells_in store.old) (cells_in store.new) (at row store.old.map) x op_is_null result }
+    ensures { LeavesStore store.old store.new result × JumpArm store.old.limit (cells_in store.old) (cells_in store.new) (at row store.old.map) x op_is_null result }
 {
     let ends = Ways::default();
     let asked = ask(store, x.p1)?;
@@ -379,7 +380,7 @@ pub fn is_null(store: &mut Store, row: u64, x: Row) -> Result<Ways, Refusal>
 // NotNull
 pub fn not_null(store: &mut Store, row: u64, x: Row) -> Result<Ways, Refusal>
     requires { ReadyStore store.old row }
-    ensures { SameStore store.old store.new × JumpArm store.old.limit (cells_in store.old) (cells_in store.new) (at row store.old.map) x op_not_null result }
+    ensures { LeavesStore store.old store.new result × JumpArm store.old.limit (cells_in store.old) (cells_in store.new) (at row store.old.map) x op_not_null result }
 {
     let asked = ask(store, x.p1)?;
     if asked.null {

@@ -483,9 +483,14 @@ fn function_in(text: &[u8]) -> Option<FunctionValue>
     }
 }
 
-// What the text gives as an aggregate.
+// What the text gives as an aggregate. Nearly no text begins with the first byte of one.
 fn aggregate_of(text: &[u8]) -> Aggregate
     ensures { IsAggregate (aggregate_of text.now) result }
 {
-    find(&AGGREGATES, text).unwrap_or(Aggregate::Operand)
+    match text {
+        [b'c' | b'd' | b'l' | b'n' | b'p' | b'r' | b's', ..] => {
+            find(&AGGREGATES, text).unwrap_or(Aggregate::Operand)
+        }
+        _ => Aggregate::Operand,
+    }
 }

@@ -41,8 +41,13 @@ pub fn open_table(store: &mut Store, row: u64, i: u64, from: usize, n: usize) ->
     requires { IsCurrent store.old × (row ≤ 65535) × RunAbove (cells_in store.old) store.old.limit store.old.map from n × IsTable store.old.limit (cells_in store.old) from n }
     ensures { Changes (λ limit cs ds a r. OpensTable limit cs ds a row i from n r) store.old store.new result }
 {
+    let map = store.map;
     insert_table(store, row, from, n)?;
-    cursor_arms::store_normal(store, i, row)
+    if let Err(refusal) = cursor_arms::store_normal(store, i, row) {
+        store.map = map;
+        return Err(refusal);
+    }
+    Ok(())
 }
 
 // Puts the run of an empty table of n columns that may be null at p.

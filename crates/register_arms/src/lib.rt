@@ -256,9 +256,13 @@ fn null_many(store: &mut Store, from: u64, n: u64) -> Result<(), Refusal>
     requires { IsCurrent store.old × (from + n < 18446744073709551616) }
     ensures { Changes (λ limit cs ds a r. Leads limit cs ds a r (null_many limit n (int_of from))) store.old store.new result }
 {
+    let map = store.map;
     let first = null_first(store, from, n);
     for i in from + first..from + n {
-        store.store_single(i, DataType::Null, Some(true))?;
+        if let Err(refusal) = store.store_single(i, DataType::Null, Some(true)) {
+            store.map = map;
+            return Err(refusal);
+        }
     }
     Ok(())
 }

@@ -32,6 +32,7 @@ use Rattle.state.specs.declared.MemoryState.{MemoryState}
 use Rattle.state.specs.declared.store.Store.{Store}
 use Rattle.state.proofs.LeadsLaws.{unchanged}
 use Rattle.state.proofs.StoreLeads.{wider}
+use Rattle.state.proofs.Stores.{no_refusal}
 use Rattle.jump_arms.specs.Arms.{at, Puts, BothArm}
 use Rattle.jump_arms.proofs.StepLaws.{zero_word, other_word, held_at, held_next, ends_here, goes_on_lem, branches_only, lies_here}
 use Rattle.jump_arms.proofs.StoreSteps.{SameRow, same_store}
@@ -111,6 +112,7 @@ module _ {a b : Store} {q : Result (Unit {0}) Refusal} (room : HasRoom (cells_in
       let frame : Frame (cells_in a) (cells_in b) a.map.base a.limit = record { long = w.is.frame.long; below = w.is.frame.below; above = λ j le. w.is.frame.above j (omega (arith, room.most)) } in
       record {
         same = w.same;
+        kept = λ e was. no_refusal e (sym done-well ∙ was);
         is =
             subst (λ r. Puts a.limit (cells_in a) (cells_in b) a.map r (λ m. done (emptied row m))) (sym (ap (stored_in b) done-well ∙ ap Ok w.map))
             (record {
@@ -128,6 +130,7 @@ module _ {a b : Store} {q : Result (Unit {0}) Refusal} (room : HasRoom (cells_in
   makes_nothing e =
       rw (e, done-well) (record {
         same = same_store;
+        kept = λ e is. refl;
         is =
             record {
               leads = record { says = λ bound m le h. record { state = m; answer = refl; holds = h }; leaves = record { base = refl; room = room }; frame = unchanged (cells_in a) _ _ };

@@ -4,7 +4,7 @@
 
 ghost use Rattle.std.specs.Prelude.{◌≤◌};
 ghost use Rattle.model.specs.Operation.{op_rewind};
-ghost use Rattle.state.specs.Stores.{cells_in, SameStore};
+ghost use Rattle.state.specs.Stores.{cells_in, LeavesStore};
 ghost use Rattle.state.specs.Steps.{JumpArm};
 ghost use Rattle.jump_arms.specs.Arms.{at, ReadyStore};
 ghost use Rattle.rewind_arm.specs.Rewinds.{RewindsTable};
@@ -18,7 +18,7 @@ use state::{Store, Ways};
 // branch, in which it is empty, is built in the room behind the map.
 fn rewind_table(store: &mut Store, row: u64, x: Row, opened: u64) -> Result<Ways, Refusal>
     requires { ReadyStore store.old row × (opened ≤ 65535) }
-    ensures { SameStore store.old store.new × RewindsTable store.old.limit (cells_in store.old) (cells_in store.new) (at row store.old.map) x opened result }
+    ensures { LeavesStore store.old store.new result × RewindsTable store.old.limit (cells_in store.old) (cells_in store.new) (at row store.old.map) x opened result }
 {
     let p = CursorDataType::Normal(opened);
     match p.is_empty(store) {
@@ -40,7 +40,7 @@ fn rewind_table(store: &mut Store, row: u64, x: Row, opened: u64) -> Result<Ways
 // Rewind, Last, Sort, SorterSort. A pseudo cursor is never empty.
 pub fn rewind(store: &mut Store, row: u64, x: Row) -> Result<Ways, Refusal>
     requires { ReadyStore store.old row }
-    ensures { SameStore store.old store.new × JumpArm store.old.limit (cells_in store.old) (cells_in store.new) (at row store.old.map) x op_rewind result }
+    ensures { LeavesStore store.old store.new result × JumpArm store.old.limit (cells_in store.old) (cells_in store.new) (at row store.old.map) x op_rewind result }
 {
     if x.p2 == intmap::ZERO {
         return Ok(jump_arms::go_on(store, row + 1));

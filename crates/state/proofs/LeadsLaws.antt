@@ -15,7 +15,7 @@ use Rattle.model.specs.State.{MemoryState}
 use Rattle.model.specs.Access.{◌>>=◌}
 use Rattle.area.specs.declared.Cell.{Cell}
 use Rattle.area.specs.Cells.{blank}
-use Rattle.intmap.specs.Map.{Frame, runs_at, levels}
+use Rattle.intmap.specs.Map.{IsMap, Frame, runs_at, levels}
 use Rattle.intmap.specs.declared.IntMap.{IntMap}
 use Rattle.intmap.specs.Runs.{size}
 use Rattle.intmap.proofs.StoreLaws.{room_map, frame_same}
@@ -160,6 +160,10 @@ module _ {limit : ℕ} {cs ds : List Cell} {a b : IntMap} {whole rest : MemorySt
         frame = r.frame;
       }
 
+-- the map that an access leaves
+pub led_map : {limit : ℕ} {cs ds : List Cell} {a : IntMap} {f : MemoryState → Tried MemoryState} (s : Stored) → Leads limit cs ds a s f → (b : IntMap) → s ≡ Ok b → IsMap ds b
+led_map {limit} {ds = ds} {a} s led b e = room_map (subst (Leaves limit ds a) e led.leaves).room
+
 -- ---- two accesses, one after the other
 
 module _ (limit : ℕ) (cs ds : List Cell) (a : IntMap) (f g : MemoryState → Tried MemoryState) (current : Current limit cs a) where
@@ -168,3 +172,6 @@ module _ (limit : ℕ) (cs ds : List Cell) (a : IntMap) (f g : MemoryState → T
 
   pub leads_then : (es : List Cell) (b : IntMap) (r : Stored) → Leads limit cs ds a (Ok b) f → Leads limit ds es b r g → Leads limit cs es a r (λ m. f m >>= g)
   leads_then es b r first second = reached_last (reached_next here ds f g (λ m. refl) (Ok b) first b refl) es r second
+
+  pub leads_stop : (n : Refusal) → Leads limit cs ds a (Err n) f → Leads limit cs ds a (Err n) (λ m. f m >>= g)
+  leads_stop n first = reached_stop here ds f g (λ m. refl) (Err n) first n refl

@@ -4,3 +4,4 @@ pub mod LeadsLaws
 pub mod ArmLaws
 pub mod OwnLaws
 pub mod OverLaws
+pub mod Stores

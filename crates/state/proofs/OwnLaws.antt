@@ -89,6 +89,9 @@ guessed_if cs end key p base b low is =
 pub has_key : (cs : List Cell) (a : IntMap) (key p : ℕ) → a.base ≤ p → is_at cs (a.base + a.used) key p ≡ true → HasKey cs a key p
 has_key cs a key p low e = record { low = low; inside = (told_key cs (a.base + a.used) key p e).0; is = (told_key cs (a.base + a.used) key p e).1 }
 
+pub held-among : {cs : List Cell} {a : IntMap} → Held cs a → HeldAmong cs a.base (a.base + a.used)
+held-among {a = a} held = record { map = a; held = held; first = refl; ordered = omega arith; last = omega arith }
+
 -- ---- entries in the order of their keys
 
 -- an entry has at least as many cells

@@ -478,7 +478,7 @@ fn put_plain(area: &mut [u8], p: usize, key: u64, c: Cell) -> bool
 }
 
 // Writes c over the cell of index i in a class, if there is one and it is no record's. Says whether it was.
-fn overwrite_own(map: IntMap, area: &mut [u8], class: Class, i: u64, c: Cell) -> bool
+pub fn overwrite_own(map: IntMap, area: &mut [u8], class: Class, i: u64, c: Cell) -> bool
     requires { Held (cells area.old) map × (tag_of c ≡ 2 → ⊥) }
     ensures { OverwritesOwn (cells area.old) (cells area.new) map (class_number class) i c result }
 {
@@ -494,7 +494,7 @@ fn overwrite_own(map: IntMap, area: &mut [u8], class: Class, i: u64, c: Cell) ->
 
 // Puts the record at `at` of the map, with c for its head, over the one of place k in a class, if both have as many columns, of one cell each. Says
 // whether it did: then the map is as it was.
-fn over_entry(map: IntMap, area: &mut [u8], at: usize, c: Cell, class: Class, k: u64) -> bool
+pub fn over_entry(map: IntMap, area: &mut [u8], at: usize, c: Cell, class: Class, k: u64) -> bool
     requires { Held (cells area.old) map × IsHead (cells area.old) at c × (k ≤ 65535) }
     ensures { OverEntry (cells area.old) (cells area.new) map at c (class_number class) k result }
 {
@@ -505,7 +505,7 @@ fn over_entry(map: IntMap, area: &mut [u8], at: usize, c: Cell, class: Class, k:
 }
 
 // The same over the record in register i.
-fn over_register(map: IntMap, area: &mut [u8], at: usize, c: Cell, i: u64) -> bool
+pub fn over_register(map: IntMap, area: &mut [u8], at: usize, c: Cell, i: u64) -> bool
     requires { Held (cells area.old) map × IsHead (cells area.old) at c }
     ensures { OverRegister (cells area.old) (cells area.new) map at c i result }
 {
@@ -519,7 +519,7 @@ fn over_register(map: IntMap, area: &mut [u8], at: usize, c: Cell, i: u64) -> bo
 }
 
 // Stores a cell that is no record's under index i of a class: over its own cell, or where that belongs, or in the place of a record.
-fn store_cell(
+pub fn store_cell(
     map: IntMap,
     area: &mut [u8],
     class: Class,
@@ -657,7 +657,7 @@ fn store_register(
 }
 
 // Stores a plain column in register i.
-fn store_single(
+pub fn store_single(
     map: IntMap,
     area: &mut [u8],
     i: u64,
@@ -672,7 +672,7 @@ fn store_single(
 }
 
 // Stores a known number, as an operand's word, in register i.
-fn store_int(
+pub fn store_int(
     map: IntMap,
     area: &mut [u8],
     i: u64,

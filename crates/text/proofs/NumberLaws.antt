@@ -82,6 +82,12 @@ one-digit [] most e = absurd (omega (arith, e))
 one-digit (b ∷ []) most e = as_up_to most (b ∷ []) (first-digit b [] true (cases (eqb b 48) (λ h. rw h) (λ h. rw h)))
 one-digit (b ∷ d ∷ t) most e = absurd (omega (arith, e))
 
+pub one_byte : (t : List ℕ) (most : ℕ) → length t ≡ 1 → digits_up_to most 0 (get_or t 0 0 ∷ []) ≡ read_up_to most t
+unfolding digits_up_to
+one_byte [] most e = absurd (omega (arith, e))
+one_byte (b ∷ []) most e = as_up_to most (b ∷ []) (first-digit b [] true (cases (eqb b 48) (λ h. rw h) (λ h. rw h)))
+one_byte (b ∷ d ∷ t) most e = absurd (omega (arith, e))
+
 pub leading_zero : (t : List ℕ) (most : ℕ) → (length t ≡ 0 → ⊥) → (length t ≡ 1 → ⊥) → get_or t 0 0 ≡ 48 → None ≡ read_up_to most t
 leading_zero [] most n o e = absurd (n refl)
 leading_zero (b ∷ []) most n o e = absurd (o refl)

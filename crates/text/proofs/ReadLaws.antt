@@ -34,6 +34,10 @@ module _ {A : Type 0} {r : Reader A} {t rest : List ℕ} {o : Option A} (h : Rea
   pub read_shorter : {a : A} → o ≡ Some a → length rest < length t
   read_shorter e = subst (λ x. OnSome x (length rest < length t)) e h.shorter
 
+  -- where nothing was read, what is left is of no account
+  pub read_nothing : {last : List ℕ} → o ≡ None → Reads r t last None
+  read_nothing e = record { is = ap (with_rest rest) (sym e) ∙ h.is; shorter = tt }
+
   module _ {B : Type 0} (f : A → Reader B) where
     then_as : {p : Option A} → o ≡ p → (with_rest rest p then λ y. f y.0 y.1) ≡ (r >>= f) t
     unfolding ◌>>=◌

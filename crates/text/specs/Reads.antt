@@ -1,6 +1,6 @@
 -- Reading a text from its front: what is read and what is left are what model's reader gives, or nothing is read, where that gives nothing.
 -- Assumes nothing.
-use Rattle.std.specs.Prelude.{◌≡◌, List, ℕ, ◌<◌, length, Option, Some, OnSome}
+use Rattle.std.specs.Prelude.{◌≡◌, List, ℕ, ◌<◌, length, Option, None, Some, OnSome}
 use Rattle.model.specs.Reader.{Reader, ◌then◌}
 
 -- what was read, beside what is left
@@ -11,3 +11,8 @@ with_rest rest o = o then λ a. Some (a, rest)
 pub record Reads {A : Type 0} (r : Reader A) (t rest : List ℕ) (o : Option A) : Type 0 where
   pub is : with_rest rest o ≡ r t
   pub shorter : OnSome o (length rest < length t)
+
+-- and where nothing was read, the text is as it was
+pub record ReadsOrKeeps {A : Type 0} (r : Reader A) (t rest : List ℕ) (o : Option A) : Type 0 where
+  pub reads : Reads r t rest o
+  pub kept : o ≡ None → rest ≡ t

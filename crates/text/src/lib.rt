@@ -4,10 +4,10 @@
 ghost use Rattle.std.specs.Prelude.{◌≡◌, ◌==◌, option_copied, position};
 ghost use Rattle.model.specs.Fields.{take_value, take_field};
 ghost use Rattle.model.specs.Numbers.{read_up_to};
-ghost use Rattle.text.specs.Reads.{Reads};
+ghost use Rattle.text.specs.Reads.{ReadsOrKeeps};
 ghost use Rattle.text.specs.Digits.{digit_of, digits_up_to};
 
-// A text that is read from its front: what is left of it. One that gave nothing is not read on.
+// A text that is read from its front: what is left of it. One that gave nothing is as it was.
 #[derive(Clone, Copy)]
 pub struct Reader<'a> {
     pub rest: &'a [u8],
@@ -16,7 +16,7 @@ pub struct Reader<'a> {
 impl<'a> Reader<'a> {
     // The value behind the key.
     pub fn value(&mut self, key: &[u8]) -> Option<&'a [u8]>
-        ensures { Reads (take_value key.now) self.old.rest.now self.new.rest.now (option_copied result) }
+        ensures { ReadsOrKeeps (take_value key.now) self.old.rest.now self.new.rest.now (option_copied result) }
     {
         let line = self.rest.strip_prefix(key)?;
         let end = line_end(line)?;
@@ -26,9 +26,12 @@ impl<'a> Reader<'a> {
 
     // The number behind the key, if it is at most `most`.
     pub fn number(&mut self, key: &[u8], most: u64) -> Option<u64>
-        ensures { Reads (take_field key.now (read_up_to most)) self.old.rest.now self.new.rest.now result }
+        ensures { ReadsOrKeeps (take_field key.now (read_up_to most)) self.old.rest.now self.new.rest.now result }
     {
-        natural(self.value(key)?, most)
+        let mut ahead = *self;
+        let n = natural(ahead.value(key)?, most)?;
+        *self = ahead;
+        Some(n)
     }
 }
 

@@ -3,13 +3,19 @@ use mathlib.Core.Path.{◌≡◌, refl, sym, ap, ◌∙◌}
 use mathlib.Core.Bool.{Bool, true, false}
 use Rattle.std.specs.Prelude.{Option, None, Some}
 use mathlib.Core.List.{List, [], ◌∷◌}
-use Prim.Native.Nat.{ℕ, suc, ◌+◌, ◌<◌, ◌≤◌}
+use Prim.Native.Nat.{ℕ, zero, suc, ◌+◌, ◌-◌, ◌<◌, ◌≤◌}
 use native.Mathlib.Numerals.{add-one}
 use native.Mathlib.Omega.{arith}
 use lib.Dec.{eqb}
-use lib.ListN.{length, get_or, drop, drop_of_length-le}
-use lib.Seq.{drop-cons}
+use lib.ListN.{length, get_or, take, drop, drop_of_length-le, length-drop}
+use lib.Seq.{drop-cons, take_all}
+use Rattle.std.specs.Prelude.{not, position}
+use Rattle.std.specs.Option.{unwrap_or}
+use Rattle.std.specs.List.{position_or_len}
+use Rattle.std.specs.Char.{is_ascii}
 use Rattle.std.specs.Str.{IsAscii}
+use Rattle.std.proofs.lemmas.Grind.{common_steps}
+use Rattle.std.proofs.lemmas.List.Sums.{fails_before_first}
 use Rattle.type_info.specs.Utf8.{Range, ◌‥◌, utf8_char, begun, after_byte, is_empty, reads, is_utf8, Checked}
 use Rattle.type_info.specs.ByteClass.{ClassOf, expectations, expectation, or_none, expected, StateAfter}
 use Rattle.type_info.proofs.Grammar.{in_range_lem, sound, complete, reads_on, reads_stops}
@@ -67,7 +73,25 @@ ascii_char : (b : ℕ) (s : List ℕ) → b ≤ 127 → is_utf8 (b ∷ s) ≡ is
 unfolding is_utf8 after_byte begun utf8_char
 ascii_char b s low = reads_on [] b s [] (rw (in_range_lem (0x00 ‥ 0x7F) b (omega arith) low))
 
--- so a text of such bytes is UTF-8
+-- so what stands behind such bytes decides
+pub front_passed : (n : ℕ) (s : List ℕ) → n ≤ length s → ((k : ℕ) → k < n → get_or s k 0 ≤ 127) → is_utf8 (drop n s) ≡ is_utf8 s
+front_passed zero s inside low = refl
+front_passed (suc n) [] inside low = absurd (omega (arith, inside))
+front_passed (suc n) (b ∷ s) inside low = front_passed n s (omega (arith, inside)) (λ k h. low (suc k) (omega (arith, h))) ∙ sym (ascii_char b s (low 0 (omega arith)))
+
+-- what stands before the first byte that is none of them, or before the end
+ascii_byte : (b : ℕ) → not (is_ascii b) ≡ false → b ≤ 127
+ascii_byte b e = grind (arith, common_steps)
+
+pub start_passed : (s : List ℕ) (o : Option ℕ) → o ≡ position (λ b. not (is_ascii b)) s → (n : ℕ) → n ≡ unwrap_or o (length s) → is_utf8 (take (length s - n) (drop n s)) ≡ is_utf8 s
+start_passed s o found n start =
+    let test : ℕ → Bool = λ b. not (is_ascii b) in
+    let at : n ≤ position_or_len test s = grind (arith, common_steps) in
+    let inside : n ≤ length s = grind (arith, common_steps) in
+    ap is_utf8 (take_all (length s - n) (drop n s) (omega (arith, length-drop n s)))
+    ∙ front_passed n s inside (λ k h. ascii_byte (get_or s k 0) (fails_before_first test s k 0 (omega arith)))
+
+-- and a text of them is UTF-8
 pub ascii_utf8 : (s : List ℕ) → IsAscii s → is_utf8 s ≡ true
 unfolding is_utf8 reads
 ascii_utf8 [] ascii = refl

@@ -1,5 +1,6 @@
 // UTF-8 by RFC 3629: the check that P4 is a text.
-ghost use Rattle.std.specs.Prelude.{◌≡◌, ◌<◌};
+ghost use Rattle.std.specs.Prelude.{◌≡◌, ◌<◌, not, position};
+ghost use Rattle.std.specs.Char.{is_ascii};
 ghost use Rattle.type_info.specs.ByteClass.{ClassOf, StateAfter};
 ghost use Rattle.type_info.specs.Utf8.{is_utf8, Checked};
 
@@ -28,7 +29,21 @@ static STATES: [u8; 96] = [
 pub fn is_utf8(s: &[u8]) -> bool
     ensures { Checked s.now result }
 {
-    s.is_ascii() || reads(s)
+    s.is_ascii() || reads(behind_ascii(s))
+}
+
+// Where the first byte stands that is not ASCII.
+fn first_other(s: &[u8]) -> Option<usize>
+    ensures { result ≡ position (λ b. not (is_ascii b)) s.now }
+{
+    s.iter().position(|b| !b.is_ascii())
+}
+
+// The text from that byte on. Each byte before it is a character, so that this decides.
+fn behind_ascii(s: &[u8]) -> &[u8]
+    ensures { is_utf8 result.now ≡ is_utf8 s.now }
+{
+    &s[first_other(s).unwrap_or(s.len())..]
 }
 
 // Whether s is UTF-8, by the tables.

@@ -33,7 +33,9 @@ use Rattle.rows.specs.Parts.{Parts}
 use Rattle.rows.specs.Rows.{parts, row_in}
 use Rattle.rows.specs.Judged.{JudgedParts, SomeRows}
 use Rattle.rows.specs.declared.row.Row.{Row}
-use Rattle.state.specs.Steps.{HoldsState, TellsWay, Lies, LiesAt, StaysAt, Way}
+use Rattle.opcode.specs.declared.Operation.{Operation}
+use Rattle.state.specs.declared.Ways.{Ways}
+use Rattle.state.specs.Steps.{HoldsState, TellsWay, Lies, LiesAt, StaysAt, Way, Step}
 use Rattle.state.specs.declared.MemoryState.{MemoryState}
 use Rattle.jump_arms.specs.Arms.{Ready}
 use Rattle.branches.specs.Entries.{Counted}
@@ -44,9 +46,11 @@ use Rattle.merge.specs.declared.columns.Columns.{Columns}
 use Rattle.walk.specs.Walks.{rows_from, counts_from, first_from, Given, bound_of, HoldsList, Counts, HoldsWalk, HoldsRow, TellsTurn, the_following, the_turn}
 use Rattle.in_place.specs.InPlace.{ReadyAt, HandlesNear}
 use Rattle.explain.specs.Handles.{row_on, meaning_of, TellsHandling, LeavesHandling, Handles, Handled}
+use Rattle.explain.specs.Numbers.{as_handling}
+use Rattle.explain.specs.Narrow.{alone, Falls, repeats, Branches}
 use Rattle.counters.specs.Counted.{one_loopstop}
 use Rattle.counters.specs.declared.Counters.{Counters}
-use Rattle.walk.specs.Loop.{Walking, Turning, MayOffer, MayFollow, StaysHere, Follows, TakesUp, charge_one, Standing, Turns}
+use Rattle.walk.specs.Loop.{Walking, GoesOn, FollowsWays, Turning, MayOffer, MayFollow, StaysHere, Follows, TakesUp, charge_one, Standing, Turns}
 use Rattle.explain.specs.declared.Handling.{Handling}
 use Rattle.explain.specs.declared.Handling.TheVariants as handling
 use Rattle.walk.specs.declared.Program.{Program}
@@ -420,3 +424,67 @@ module _ {p : Program} {blocks xs : List ℕ} {cols : Columns 2000} {w : Walk} {
 -- where it was not, nothing has changed, and the row that was read then is this one
 pub handles_then : {limit from n : ℕ} {cs es ds : List Cell} {blocks : List ℕ} {s : MemoryState} {again : Bool} {h : Handled} → es ≡ cs → Handles limit from n es ds blocks s (row_on es from s.row) again h → Handles limit from n cs ds blocks s (row_on cs from s.row) again h
 handles_then {limit} {from} {n} {ds = ds} {blocks} {s} {again} {h} same handles = subst (λ l. Handles limit from n l ds blocks s (row_on l from s.row) again h) same handles
+
+-- ---- a row that falls through
+
+module _ {p : Program} {blocks xs : List ℕ} {cols : Columns 2000} {w : Walk} {s : MemoryState} (st : Standing p blocks xs cols w s) (v : Walk) (e : v ≡ charge_one w) (ys zs : List ℕ) (small : Bytes xs) (less : Bytes ys) (low : Bytes zs) (raised : Raised xs ys (counts_from p) (s.row - offset)) (long : length zs ≡ length ys) (x : Parts) (read : x ≡ row_in (get_or (cells ys) (rows_from p + (s.row - offset)) blank)) (handled : ℕ) (is : handled ≡ count_at xs (counts_from p) (s.row - offset)) {q : Result MemoryState Refusal} (falls : Falls p.limit (rows_from p) p.size (cells ys) (cells zs) blocks s x q) where
+  turning : Turning p zs v
+  turning = handled_turning st v e ys zs small less low raised long x read (alone q) handled is (falls.handles (ltb 0 handled))
+
+  pub falling_walking : Walking p zs v
+  falling_walking = turning.walking
+
+  pub turns_falling : {next : MemoryState} → q ≡ Ok next → (ts : List ℕ) (u : Walk) (r : Option MemoryState) → handled < 3 → GoesOn p zs ts v u (Some next) r → Turns p blocks xs ts cols cols w u s (Ok r)
+  turns_falling {next} f ts u r few on =
+      let h : Handling = handling.Ways (record { branch = None; stays = Some next }) false in
+      turns_handled st v e ys zs small less low raised long x read (alone q) handled is (falls.handles (ltb 0 handled)) h (ap alone f) ts cols u (Ok r) few
+      (all_ways p zs cols v u (record { branch = None; stays = Some next }) false ts (Ok r) (ways_goes low low turning.less (way_none p zs v) refl on))
+
+  pub falling_refused : {k : Refusal} → q ≡ Err k → handled < 3 → Turns p blocks xs zs cols cols w v s (Err k)
+  falling_refused {k} f few = turns_refused st v e ys zs small less low raised long x read (alone q) handled is (falls.handles (ltb 0 handled)) k few (ap alone f)
+
+-- ---- a row that names the next one
+
+module _ {p : Program} {blocks xs : List ℕ} {cols : Columns 2000} {w : Walk} {s : MemoryState} (st : Standing p blocks xs cols w s) (v : Walk) (e : v ≡ charge_one w) (ys zs : List ℕ) (small : Bytes xs) (less : Bytes ys) (low : Bytes zs) (raised : Raised xs ys (counts_from p) (s.row - offset)) (long : length zs ≡ length ys) (x : Parts) (read : x ≡ row_in (get_or (cells ys) (rows_from p + (s.row - offset)) blank)) (handled : ℕ) (is : handled ≡ count_at xs (counts_from p) (s.row - offset)) {q : Step} (branches : Branches p.limit (rows_from p) p.size (cells ys) (cells zs) s x (ltb 0 handled) q) where
+  abbrev given : Handled
+  given = as_handling (repeats x.op (ltb 0 handled)) q
+
+  pub branching_turning : Turning p zs v
+  branching_turning = handled_turning st v e ys zs small less low raised long x read given handled is (branches.handles blocks)
+
+  as-given : {ways : Ways} → q ≡ Ok ways → given ≡ Ok (handling.Ways ways (repeats x.op (ltb 0 handled)))
+  as-given = ap (as_handling (repeats x.op (ltb 0 handled)))
+
+  pub branching_may : {ways : Ways} → q ≡ Ok ways → MayOffer p zs v ways.branch
+  branching_may f = handled_may st v e ys zs small less low raised long x read given handled is (branches.handles blocks) _ (as-given f)
+
+  pub turns_branching : {ways : Ways} {repeat : Bool} → q ≡ Ok ways → repeat ≡ repeats x.op (ltb 0 handled) → (ts : List ℕ) (u : Walk) (r : Result (Option MemoryState) Refusal) → handled < 3 → FollowsWays p zs ts v u ways.branch ways.stays repeat r → Turns p blocks xs ts cols cols w u s r
+  turns_branching {ways} f same ts u r few follows =
+      turns_handled st v e ys zs small less low raised long x read given handled is (branches.handles blocks) _ (as-given f) ts cols u r few
+      (all_ways p zs cols v u ways (repeats x.op (ltb 0 handled)) ts r (subst (λ b. FollowsWays p zs ts v u ways.branch ways.stays b r) same follows))
+
+  pub branching_refused : {k : Refusal} → q ≡ Err k → handled < 3 → Turns p blocks xs zs cols cols w v s (Err k)
+  branching_refused {k} f few = turns_refused st v e ys zs small less low raised long x read given handled is (branches.handles blocks) k few (ap (as_handling (repeats x.op (ltb 0 handled))) f)
+
+pub branches_then : {limit from n : ℕ} {cs es ds : List Cell} {s : MemoryState} {again : Bool} {r : Step} → es ≡ cs → Branches limit from n es ds s (row_on es from s.row) again r → Branches limit from n cs ds s (row_on cs from s.row) again r
+branches_then {limit} {from} {n} {ds = ds} {s} {again} {r} same branches = subst (λ l. Branches limit from n l ds s (row_on l from s.row) again r) same branches
+
+pub falls_then : {limit from n : ℕ} {cs es ds : List Cell} {blocks : List ℕ} {s : MemoryState} {r : Result MemoryState Refusal} → es ≡ cs → Falls limit from n es ds blocks s (row_on es from s.row) r → Falls limit from n cs ds blocks s (row_on cs from s.row) r
+falls_then {limit} {from} {n} {ds = ds} {blocks} {s} {r} same falls = subst (λ l. Falls limit from n l ds blocks s (row_on l from s.row) r) same falls
+
+-- the row that was read is the one that is handled
+pub operation-there : {cs es : List Cell} (from at : ℕ) {x : Parts} → es ≡ cs → x ≡ row_on cs from at → x.op ≡ (row_on es from at).op
+operation-there from at same read = ap (λ y. y.op) read ∙ sym (ap (λ l. (row_on l from at).op) same)
+
+pub operation-here : {cs es : List Cell} (from at : ℕ) {o : Operation} → o ≡ (row_on es from at).op → es ≡ cs → o ≡ (row_on cs from at).op
+operation-here from at is same = is ∙ ap (λ l. (row_on l from at).op) same
+
+pub test-there : {o r : Operation} (test : Operation → Bool) {b : Bool} → o ≡ r → b ≡ test o → b ≡ true → test r ≡ true
+test-there test is said holds = sym (ap test is) ∙ sym said ∙ holds
+
+-- bytes, as a specification says it
+pub below-256 : (xs : List ℕ) → Bytes xs → (i : ℕ) → get_or xs i 0 < 256
+below-256 xs small i = (small i).fits
+
+pub is-byte : (xs : List ℕ) → ((i : ℕ) → get_or xs i 0 < 256) → Bytes xs
+is-byte xs small i = record { fits = small i }

@@ -1,6 +1,6 @@
 -- What the functions of the walk's loop say. Each speaks of every walk of the definition that the area and the struct hold; what is asked is
 -- that they hold one. A walk w before a call is v after it, and the bytes xs of the area are ys. Assumes nothing.
-use Rattle.std.specs.Prelude.{◌≡◌, Bool, List, [], ◌∷◌, ◌++◌, ℕ, ◌-◌, ◌<◌, ◌≤◌, pos, length, Option, None, Some, Result, Ok, Err}
+use Rattle.std.specs.Prelude.{◌≡◌, Bool, List, [], ◌∷◌, ◌++◌, ℕ, ◌-◌, ◌<◌, ◌≤◌, pos, length, get_or, Option, None, Some, Result, Ok, Err}
 use Rattle.model.specs.Walk.{done, Lineage, Notes, ◌∈◌, Front as Fronted, none_left, on_row, notes_at, full, onward, gas_stop, note_repeat, take_up, go_on, close_all}
 use Rattle.model.specs.State.{ColumnType, MemoryState as Defined}
 use Rattle.model.specs.Access.{read_columns}
@@ -10,6 +10,7 @@ use Rattle.model.specs.Explain.{row_of}
 use Rattle.refusal.specs.declared.Refusal.{Refusal}
 use Rattle.refusal.specs.declared.Refusal.TheVariants.{NoSpace}
 use Rattle.area.specs.Cells.{cells}
+use Rattle.area.specs.Counts.{count, Raised}
 use Rattle.intmap.specs.Signed.{offset}
 use Rattle.state.specs.Steps.{HoldsState, TellsWay, StaysAt, branch_of, Way}
 use Rattle.state.specs.declared.MemoryState.{MemoryState}
@@ -260,6 +261,29 @@ pub record Turns (p : Program) (blocks xs ys : List ℕ) (cols dols : Columns 20
   pub says : (g : Given) (f : Fronted Defined ResultRow) → HoldsRow p g blocks xs cols w s f → TellsTurn p g blocks ys dols v r (the_turn p g f)
   pub bytes : length ys ≡ length xs
 
+-- within a turn: the row is charged and its count, which was `handled`, is raised, from the walk w and the area xs to v and ys; and nothing has changed
+-- in the area's cells since
+pub record Counting (p : Program) (blocks xs ys zs : List ℕ) (cols : Columns 2000) (w v : Walk) (s : MemoryState) (handled : ℕ) : Type 0 where
+  pub standing : Standing p blocks xs cols w s
+  pub charged : v ≡ charge_one w
+  pub small : (i : ℕ) → get_or xs i 0 < 256
+  pub less : (i : ℕ) → get_or ys i 0 < 256
+  pub raised : Raised xs ys (counts_from p) (s.row - offset)
+  pub same : cells zs ≡ cells ys
+  pub long : length zs ≡ length ys
+  pub was : handled ≡ count xs (counts_from p) (s.row - offset)
+  pub few : handled < 3
+
+pub record MayTurn (p : Program) (blocks zs : List ℕ) (cols : Columns 2000) (v : Walk) (s : MemoryState) (handled : ℕ) : Type 0 where
+  pub entry : List ℕ
+  pub raised : List ℕ
+  pub walk : Walk
+  pub counting : Counting p blocks entry raised zs cols walk v s handled
+
+-- what is left of the turn makes it the definition's
+pub record TurnsOn (p : Program) (blocks zs ts : List ℕ) (cols dols : Columns 2000) (v u : Walk) (s : MemoryState) (handled : ℕ) (r : Result (Option MemoryState) Refusal) : Type 0 where
+  pub says : (xs ys : List ℕ) (w : Walk) → Counting p blocks xs ys zs cols w v s handled → Turns p blocks xs ts cols dols w u s r
+
 -- with no unit left, the lineages that wait on a row are closed
 pub record Closes (p : Program) (xs : List ℕ) (w v : Walk) : Type 0 where
   pub says : (g : Given) (blocks : List ℕ) (cols : Columns 2000) (ls : List (Lineage Defined)) (n : Notes Defined ResultRow) → HoldsWalk p g blocks xs cols w ls n → HoldsEnd p g blocks xs cols v (close_all (row_of g.rows) ls n)
@@ -279,3 +303,6 @@ pub record Running (p : Program) (blocks xs : List ℕ) (cols : Columns 2000) (w
 pub record Runs (p : Program) (blocks xs ys : List ℕ) (cols dols : Columns 2000) (w v : Walk) (s : MemoryState) (budget : ℕ) (r : Result (Option MemoryState) Refusal) : Type 0 where
   pub says : (g : Given) (f : Fronted Defined ResultRow) → HoldsRow p g blocks xs cols w s f → (notes_at f).gasstops ≡ 0 → TellsRun p g blocks ys dols v r (the_run p g budget w.gas f)
   pub bytes : length ys ≡ length xs
+
+abbrev pub KeptIfRefused : Walk → Walk → Result (Option MemoryState) Refusal → Type 0
+KeptIfRefused w v r = (e : Refusal) → r ≡ Err e → v ≡ w

@@ -1,18 +1,20 @@
 // The walk over a listing: `explain` of sqlx-sqlite 0.9.0, src/connection/explain.rs.
 #![tactic(auto)]
 
-ghost use Rattle.std.specs.Prelude.{◌≡◌, ◌+◌, ◌<◌, ◌^◌};
+ghost use Rattle.std.specs.Prelude.{◌≡◌, ◌+◌, ◌<◌, ◌^◌, Some};
 ghost use Rattle.area.specs.Cells.{cells};
 ghost use Rattle.jump_arms.specs.Arms.{Ready};
 ghost use Rattle.in_place.specs.InPlace.{HandlesNear};
 ghost use Rattle.branches.specs.Header.{link_of};
-ghost use Rattle.walk.specs.Walks.{in_listing, first_from, layout_of};
-ghost use Rattle.walk.specs.Loop.{Walking, Takes, TakesUp, GoesOn, Holding, Turning, Offering, AddsBranch, MayOffer, AddsWay, note_repeated, FollowsWays, AddsThree, FollowsThree, Resulting, FollowsResult, MayFollow, Follows, charge_one, Standing, Turns, Closes, ClosesCurrent, Running, Runs};
+ghost use Rattle.explain.specs.Handles.{row_on};
+ghost use Rattle.walk.specs.Walks.{in_listing, rows_from, first_from, layout_of};
+ghost use Rattle.walk.specs.Loop.{MayTurn, TurnsOn, Walking, Takes, TakesUp, GoesOn, Holding, Turning, Offering, AddsBranch, MayOffer, AddsWay, note_repeated, FollowsWays, AddsThree, FollowsThree, Resulting, FollowsResult, MayFollow, Follows, charge_one, Standing, Turns, Closes, ClosesCurrent, Running, Runs, KeptIfRefused};
 
 use branches::{BranchList, Layout};
 use counters::Counters;
 use explain::Handling;
 use merge::Columns;
+use opcode::Operation;
 use refusal::Refusal;
 use root_block::Blocks;
 use rows::{Row, Rows};
@@ -79,14 +81,14 @@ impl Walk {
         &mut self,
         area: &mut [u8],
         p: Program,
-        branch: Option<MemoryState>,
+        branch: &Option<MemoryState>,
     ) -> Result<(), Refusal>
-        requires { Holding p area.old self.old × MayOffer p area.old self.old branch }
-        ensures { AddsWay p area.old area.new self.old self.new branch result }
+        requires { Holding p area.old self.old × MayOffer p area.old self.old branch.now }
+        ensures { AddsWay p area.old area.new self.old self.new branch.now result }
     {
         match branch {
             None => Ok(()),
-            Some(s) => self.add_branch(area, p, s),
+            Some(s) => self.add_branch(area, p, *s),
         }
     }
 
@@ -130,19 +132,30 @@ impl Walk {
         Some(branches::load(area, at, 0, p.layout()))
     }
 
-    // The state that goes on is current, if it stands on a row.
-    fn go_on(
+    // The state is current, if it stands on a row, or else what waits is taken up.
+    fn go_on(&mut self, area: &mut [u8], p: Program, s: &MemoryState) -> Option<MemoryState>
+        requires { Walking p area.old self.old }
+        ensures { GoesOn p area.old area.new self.old self.new (Some s.now) result }
+    {
+        if in_listing(s.row, p) {
+            return Some(*s);
+        }
+        self.take_up(area, p)
+    }
+
+    // The state that goes on, if one does.
+    fn go_on_way(
         &mut self,
         area: &mut [u8],
         p: Program,
-        stays: Option<MemoryState>,
+        stays: &Option<MemoryState>,
     ) -> Option<MemoryState>
         requires { Walking p area.old self.old }
-        ensures { GoesOn p area.old area.new self.old self.new stays result }
+        ensures { GoesOn p area.old area.new self.old self.new stays.now result }
     {
         match stays {
-            Some(s) if in_listing(s.row, p) => Some(s),
-            _ => self.take_up(area, p),
+            None => self.take_up(area, p),
+            Some(s) => self.go_on(area, p, s),
         }
     }
 
@@ -157,19 +170,20 @@ impl Walk {
     }
 
     // At most one branch is offered, and then the state that goes on is current.
+    #[inline(always)]
     fn follow_ways(
         &mut self,
         area: &mut [u8],
         p: Program,
-        ways: Ways,
+        ways: &Ways,
         repeat: bool,
     ) -> Result<Option<MemoryState>, Refusal>
-        requires { Turning p area.old self.old × MayOffer p area.old self.old ways.branch }
-        ensures { FollowsWays p area.old area.new self.old self.new ways.branch ways.stays repeat result }
+        requires { Turning p area.old self.old × MayOffer p area.old self.old ways.now.branch }
+        ensures { FollowsWays p area.old area.new self.old self.new ways.now.branch ways.now.stays repeat result }
     {
-        self.add_way(area, p, ways.branch)?;
+        self.add_way(area, p, &ways.branch)?;
         self.note_repeat(repeat);
-        Ok(self.go_on(area, p, ways.stays))
+        Ok(self.go_on_way(area, p, &ways.stays))
     }
 
     // Three branches are offered, and then the state that goes on is current.
@@ -186,7 +200,7 @@ impl Walk {
         ensures { FollowsThree p area.old area.new self.old self.new a b c stays result }
     {
         self.add_three(area, p, a, b, c)?;
-        Ok(self.go_on(area, p, Some(stays)))
+        Ok(self.go_on(area, p, &stays))
     }
 
     // A result row is merged into the columns, its branch is offered, and the next that waits is current.
@@ -212,15 +226,15 @@ impl Walk {
         area: &mut [u8],
         columns: &mut Columns<2000>,
         p: Program,
-        h: Handling,
+        h: &Handling,
     ) -> Result<Option<MemoryState>, Refusal>
-        requires { Turning p area.old self.old × MayFollow p area.old columns.old self.old h }
-        ensures { Follows p area.old area.new columns.old columns.new self.old self.new h result }
+        requires { Turning p area.old self.old × MayFollow p area.old columns.old self.old h.now }
+        ensures { Follows p area.old area.new columns.old columns.new self.old self.new h.now result }
     {
         match h {
-            Handling::Ways(ways, repeat) => self.follow_ways(area, p, ways, repeat),
-            Handling::Three(a, b, c, s) => self.follow_three(area, p, a, b, c, s),
-            Handling::Result(b, row) => self.follow_result(area, columns, p, b, row),
+            Handling::Ways(ways, repeat) => self.follow_ways(area, p, ways, *repeat),
+            Handling::Three(a, b, c, s) => self.follow_three(area, p, *a, *b, *c, *s),
+            Handling::Result(b, row) => self.follow_result(area, columns, p, *b, *row),
         }
     }
 
@@ -262,23 +276,57 @@ impl Walk {
         }
         area::raise_count(area, counts, k);
         let x = rows.row_at(area, k);
-        let m = s.map;
         if let Some(row) = next_in_place(s, area, x, p) {
-            return Ok(Some(MemoryState { map: m, row }));
+            return Ok(Some(MemoryState { map: s.map, row }));
         }
-        let h = explain::handle(
-            s.row,
-            m.base,
-            m.len,
-            m.used,
-            area,
-            blocks,
-            0 < handled,
-            rows.from,
-            rows.count,
-            p.limit,
-        )?;
-        self.follow(area, columns, p, h)
+        self.handle_row(s, area, columns, blocks, p, x.op, handled)
+    }
+
+    // The rest of a turn where the row is not handled in place: it is handled as far as its operation can give, and followed. What is given is read
+    // where it lies: copied, it would be read in pairs of words that were just written one by one.
+    #[inline(always)]
+    fn handle_row(
+        &mut self,
+        s: MemoryState,
+        area: &mut [u8],
+        columns: &mut Columns<2000>,
+        blocks: Blocks<'_>,
+        p: Program,
+        operation: Operation,
+        handled: u8,
+    ) -> Result<Option<MemoryState>, Refusal>
+        requires { MayTurn p blocks.bytes.now area.old columns.old self.old s handled × (operation ≡ (row_on (cells area.old) (rows_from p) s.row).op) }
+        ensures { TurnsOn p blocks.entry.bytes.now area.old area.new columns.old columns.new self.old self.new s handled result }
+    {
+        let m = s.map;
+        let from = p.limit + p.limit;
+        let n = p.size;
+        if explain::is_falling(operation) {
+            let fallen = explain::handle_falling(
+                s.row, m.base, m.len, m.used, area, blocks, from, n, p.limit,
+            );
+            return match &fallen {
+                Ok(next) => Ok(self.go_on(area, p, next)),
+                Err(refusal) => Err(*refusal),
+            };
+        }
+        let again = 0 < handled;
+        if explain::is_branching(operation) {
+            let step = explain::handle_branching(
+                s.row, m.base, m.len, m.used, area, again, from, n, p.limit,
+            );
+            return match &step {
+                Ok(ways) => self.follow_ways(area, p, ways, explain::repeats(operation, again)),
+                Err(refusal) => Err(*refusal),
+            };
+        }
+        let given = explain::handle(
+            s.row, m.base, m.len, m.used, area, blocks, again, from, n, p.limit,
+        );
+        match &given {
+            Ok(h) => self.follow(area, columns, p, h),
+            Err(refusal) => Err(*refusal),
+        }
     }
 
     // With no unit left, each branch that waits on a row is closed.
@@ -302,7 +350,7 @@ impl Walk {
     }
 
     // The walk goes on until it ends, or until so many rows are charged: then it gives the state that is current.
-    pub fn run(
+    fn run_turns(
         &mut self,
         s: MemoryState,
         area: &mut [u8],
@@ -326,5 +374,26 @@ impl Walk {
             return Ok(None);
         }
         Ok(Some(current))
+    }
+
+    // The same. A walk that is refused is as it was.
+    pub fn run(
+        &mut self,
+        s: MemoryState,
+        area: &mut [u8],
+        columns: &mut Columns<2000>,
+        blocks: Blocks<'_>,
+        p: Program,
+        budget: u64,
+    ) -> Result<Option<MemoryState>, Refusal>
+        requires { Running p blocks.bytes.now area.old columns.old self.old s }
+        ensures { Runs p blocks.entry.bytes.now area.old area.new columns.old columns.new self.old self.new s budget result × KeptIfRefused self.old self.new result }
+    {
+        let entered = *self;
+        let ended = self.run_turns(s, area, columns, blocks, p, budget);
+        if ended.is_err() {
+            *self = entered;
+        }
+        ended
     }
 }

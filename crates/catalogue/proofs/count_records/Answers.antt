@@ -27,9 +27,9 @@ loop-record-preserved c = let reads = given_as c.loop-record.record-iterator c.n
 pub returns-then-k-gt-MOST : goal.returns-then-k-gt-MOST
 unfolding records_of read_catalogue
 returns-then-k-gt-MOST c = let read = c.loop-record.invariant.read in
-    count_over 2 4096 (items_end (λ _. take_record) read c.in-None.ensures.steps) read.count c.if-k-gt-MOST.true
+    count_over 2 4096 (items_end (λ _. take_record) read c.in-None.ensures.steps.0) read.count c.if-k-gt-MOST.true
 
 pub returns : goal.returns
 unfolding records_of read_catalogue
 returns c = let read = c.loop-record.invariant.read in
-    count_is 2 4096 (items_end (λ _. take_record) read c.in-None.ensures.steps) read.count c.if-k-gt-MOST.false
+    count_is 2 4096 (items_end (λ _. take_record) read c.in-None.ensures.steps.0) read.count c.if-k-gt-MOST.false

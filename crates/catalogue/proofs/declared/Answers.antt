@@ -7,4 +7,4 @@ use Rattle.catalogue.proofs.declared.Goals as goal
 
 pub returns : goal.returns
 unfolding ascii read_declared
-returns c = value_kept _ is_declared (λ x b q. search rules) _ _ c.value.ensures c.filter.ensures
+returns c = value_kept _ is_declared (λ x b q. search rules) _ _ c.value.ensures.reads c.filter.ensures

@@ -11,7 +11,7 @@ pub run-requires : goal.run-requires
 run-requires c = may_run c.requires _ c.new.ensures _ c.default.ensures (omega (arith, c.if-n-eq0.false)) _ c.new-map.ensures
 
 pub returns-in_err-run : goal.returns-in_err-run
-returns-in_err-run c = rw (passed _ _ c.from_residual.ensures.1) (walks_refused c.requires _ c.new.ensures _ c.default.ensures (omega (arith, c.if-n-eq0.false)) _ c.new-map.ensures _ _ _ _ c.in_err-run.ensures)
+returns-in_err-run c = rw (passed _ _ c.from_residual.ensures.1) (walks_refused c.requires _ c.new.ensures _ c.default.ensures (omega (arith, c.if-n-eq0.false)) _ c.new-map.ensures _ _ _ _ c.in_err-run.ensures.0)
 
 pub returns : goal.returns
-returns c = walks_ended c.requires _ c.new.ensures _ c.default.ensures (omega (arith, c.if-n-eq0.false)) _ c.new-map.ensures _ _ _ _ c.in_ok-run.ensures
+returns c = walks_ended c.requires _ c.new.ensures _ c.default.ensures (omega (arith, c.if-n-eq0.false)) _ c.new-map.ensures _ _ _ _ c.in_ok-run.ensures.0

@@ -1,9 +1,9 @@
 -- `copy_arms::carry_run` looks for both registers, and carries from there. Assumes nothing.
 use mathlib.Core.Path.{refl, subst}
 use Rattle.intmap.specs.Get.{Within}
+use Rattle.state.proofs.Stores.{untouched}
 use Rattle.copy_arms.proofs.PlaceLaws.{leading_entry}
 use Rattle.copy_arms.proofs.TurnLaws.{run_none, run_of}
-use Rattle.copy_arms.proofs.StoreLaws.{untouched}
 use Rattle.copy_arms.proofs.carry_run.Goals as goal
 
 pub returns-in_default : goal.returns-in_default
@@ -22,4 +22,4 @@ pub carry_cells-requires : goal.carry_cells-requires
 carry_cells-requires c = (c.requires.map, leading_entry c.requires.map c.entry_at-2.ensures c.in-Some-entry_at.is, leading_entry c.requires.map c.entry_at.ensures c.in-Some.is, subst Within c.in-Ok.is c.judge_index.ensures.small, subst Within c.in-Ok-judge_index.is c.judge_index-2.ensures.small)
 
 pub returns : goal.returns
-returns c = record { same = record { buffer = refl; limit = refl }; map = refl; is = run_of _ _ _ c.judge_index.ensures c.in-Ok.is _ _ _ c.judge_index-2.ensures c.in-Ok-judge_index.is c.carry_cells.ensures }
+returns c = record { same = record { buffer = refl; length = c.carry_cells.auto.area; limit = refl }; map = refl; is = run_of _ _ _ c.judge_index.ensures c.in-Ok.is _ _ _ c.judge_index-2.ensures c.in-Ok-judge_index.is c.carry_cells.ensures }

@@ -7,20 +7,20 @@ use Rattle.jump_arms.proofs.both_ways.Goals as goal
 
 pub second-requires : goal.second-requires
 second-requires g c =
-    let behind = behind_of c.args.store.now c.copy_to-store.result c.copy_to-store.new.area c.copy_to-store.ensures in
-    c.requires.second _ (second_ready c.requires.ready behind (c.requires.within _ _ _ (first_ready c.requires.ready behind) (record { shown = _; shows = refl; left = _; met = c.first.ensures; leaves = refl }))) _ refl
+    let behind = behind_of c.args.store.now c.copy_to-store.result c.copy_to-store.new.area c.copy_to-store.auto.area c.copy_to-store.ensures in
+    c.requires.second _ (second_ready c.requires.ready behind (c.requires.within _ _ _ (first_ready c.requires.ready behind) (record { shown = _; shows = refl; left = _; met = c.first-changed.ensures; leaves = refl }))) _ refl
 
-pub returns-in_err-first : goal.returns-in_err-first
-returns-in_err-first g c =
-    ways _ _ (behind_of c.args.store.now c.copy_to-store.result c.copy_to-store.new.area c.copy_to-store.ensures) (record { shown = _; shows = refl; left = _; met = c.first.ensures; leaves = refl })
-    (rw c.in_err-first.was (refl, passed _ _ c.from_residual.ensures.1))
+pub returns-in_err-changed : goal.returns-in_err-changed
+returns-in_err-changed g c =
+    ways _ _ (behind_of c.args.store.now c.copy_to-store.result c.copy_to-store.new.area c.copy_to-store.auto.area c.copy_to-store.ensures) (record { shown = _; shows = refl; left = _; met = c.first-changed.ensures; leaves = refl })
+    (rw c.in_err-changed.was (refl, passed _ _ c.from_residual.ensures.1))
 
 pub returns-in_err-second : goal.returns-in_err-second
 returns-in_err-second g c =
-    ways _ _ (behind_of c.args.store.now c.copy_to-store.result c.copy_to-store.new.area c.copy_to-store.ensures) (record { shown = _; shows = refl; left = _; met = c.first.ensures; leaves = refl })
-    (rw c.in_ok-first.was (_, record { shown = _; shows = refl; left = _; met = c.second.ensures; leaves = refl }, sym (both_err c.second.new.arg2 c.in_err-second.was (passed _ _ c.from_residual-in_err-second.ensures.1) _ _)))
+    ways _ _ (behind_of c.args.store.now c.copy_to-store.result c.copy_to-store.new.area c.copy_to-store.auto.area c.copy_to-store.ensures) (record { shown = _; shows = refl; left = _; met = c.first-changed.ensures; leaves = refl })
+    (rw c.in_ok-changed.was (_, record { shown = _; shows = refl; left = _; met = c.second.ensures; leaves = refl }, sym (both_err c.second.new.arg2 c.in_err-second.was (passed _ _ c.from_residual-in_err-second.ensures.1) _ _)))
 
 pub returns : goal.returns
 returns g c =
-    ways _ _ (behind_of c.args.store.now c.copy_to-store.result c.copy_to-store.new.area c.copy_to-store.ensures) (record { shown = _; shows = refl; left = _; met = c.first.ensures; leaves = refl })
-    (rw c.in_ok-first.was (_, record { shown = _; shows = refl; left = _; met = c.second.ensures; leaves = refl }, sym (both_ok c.second.new.arg2 c.in_ok-second.was _ _ _ _ c.branch_and_go.ensures c.at-branch.ensures)))
+    ways _ _ (behind_of c.args.store.now c.copy_to-store.result c.copy_to-store.new.area c.copy_to-store.auto.area c.copy_to-store.ensures) (record { shown = _; shows = refl; left = _; met = c.first-changed.ensures; leaves = refl })
+    (rw c.in_ok-changed.was (_, record { shown = _; shows = refl; left = _; met = c.second.ensures; leaves = refl }, sym (both_ok c.second.new.arg2 c.in_ok-second.was _ _ _ _ c.branch_and_go.ensures c.at-branch.ensures)))

@@ -7,4 +7,4 @@ use Rattle.listing.proofs.operation.Goals as goal
 
 pub returns : goal.returns
 unfolding ascii read_operation
-returns c = value_kept _ is_operation (λ x b q. search rules) _ _ c.value.ensures c.filter.ensures
+returns c = value_kept _ is_operation (λ x b q. search rules) _ _ c.value.ensures.reads c.filter.ensures

@@ -9,12 +9,12 @@ use Rattle.listing.proofs.p4.Goals as goal
 
 pub returns-in_err-t : goal.returns-in_err-t
 unfolding ascii
-returns-in_err-t c = rw c.from_residual.ensures (no_value _ c.value.ensures _ (ap option_copied c.in_err-t.was))
+returns-in_err-t c = rw c.from_residual.ensures (no_value _ c.value.ensures.reads _ (ap option_copied c.in_err-t.was))
 
 pub returns-then-t : goal.returns-then-t
 unfolding ascii
-returns-then-t c = value_read _ c.value.ensures _ _ (ap option_copied c.in_ok-t.was) (p4_long _ (omega arith))
+returns-then-t c = value_read _ c.value.ensures.reads _ _ (ap option_copied c.in_ok-t.was) (p4_long _ (omega arith))
 
 pub returns : goal.returns
 unfolding ascii
-returns c = value_read _ c.value.ensures _ _ (ap option_copied c.in_ok-t.was) (p4_short _ (omega arith) c.decode.ensures)
+returns c = value_read _ c.value.ensures.reads _ _ (ap option_copied c.in_ok-t.was) (p4_short _ (omega arith) c.decode.ensures)

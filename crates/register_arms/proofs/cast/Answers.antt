@@ -9,4 +9,4 @@ use Rattle.register_arms.proofs.cast.Goals as goal
 pub returns : goal.returns
 returns c =
     let led = c.copy_to.ensures (cast_to (affinity_to_type (c.args.x.p2 % 256))) (λ bound cs a q v told d made. search rules) in
-    record { same = led.same; is = register_arm_where led.is (λ meaning l s j bound m h. cast_is _ meaning l c.args.x j m h.good) }
+    record { same = led.same; kept = led.kept; is = register_arm_where led.is (λ meaning l s j bound m h. cast_is _ meaning l c.args.x j m h.good) }

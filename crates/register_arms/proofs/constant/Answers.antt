@@ -4,4 +4,4 @@ use Rattle.register_arms.proofs.RegisterLaws.{constant_arm}
 use Rattle.register_arms.proofs.constant.Goals as goal
 
 pub returns : goal.returns
-returns c = record { same = c.store_single.ensures.same; is = register_arm_as c.store_single.ensures.is (λ meaning l s j m. constant_arm _ meaning l c.args.x s j m _) }
+returns c = record { same = c.store_single.ensures.same; kept = c.store_single.ensures.kept; is = register_arm_as c.store_single.ensures.is (λ meaning l s j m. constant_arm _ meaning l c.args.x s j m _) }

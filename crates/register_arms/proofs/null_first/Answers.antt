@@ -1,7 +1,7 @@
 -- `register_arms::null_first` looks for the first register. Assumes nothing.
 use Rattle.std.specs.Prelude.{Ok}
 use mathlib.Core.Path.{refl, ap, ◌∙◌}
-use Rattle.copy_arms.proofs.StoreLaws.{untouched}
+use Rattle.state.proofs.Stores.{untouched}
 use Rattle.register_arms.proofs.RunLaws.{run_none, got_inside}
 use Rattle.register_arms.proofs.null_first.Goals as goal
 

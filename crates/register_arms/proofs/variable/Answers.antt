@@ -4,4 +4,4 @@ use Rattle.register_arms.proofs.RegisterLaws.{variable_arm}
 use Rattle.register_arms.proofs.variable.Goals as goal
 
 pub returns : goal.returns
-returns c = record { same = c.store_single.ensures.same; is = register_arm_as c.store_single.ensures.is (λ meaning l s j. variable_arm _ meaning l c.args.x s j) }
+returns c = record { same = c.store_single.ensures.same; kept = c.store_single.ensures.kept; is = register_arm_as c.store_single.ensures.is (λ meaning l s j. variable_arm _ meaning l c.args.x s j) }

@@ -4,15 +4,16 @@ use Rattle.std.proofs.Common.{rules}
 use mathlib.Core.Path.{refl, ap, ◌∙◌}
 use Rattle.model.specs.Walk.{done}
 use Rattle.model.proofs.Tried.{value}
+use Rattle.state.proofs.Stores.{stays}
 use Rattle.jump_arms.proofs.BothLaws.{both_arm}
 use Rattle.rewind_arm.proofs.RewindLaws.{emptied, emptied-row, makes_empty, makes_nothing, table_full, table_empty, table_unknown}
 use Rattle.rewind_arm.proofs.rewind_table.Goals as goal
 
 pub returns-in-Some-false : goal.returns-in-Some-false
-returns-in-Some-false c = (record { buffer = refl; limit = refl }, rw c.go_on.ensures (table_full _ _ _ _ _ c.requires.0.current c.requires.1 _ c.is_empty.ensures (c.in-Some-false.is ∙ ap Some c.in-Some-false.field-0-test)))
+returns-in-Some-false c = (stays, rw c.go_on.ensures (table_full _ _ _ _ _ c.requires.0.current c.requires.1 _ c.is_empty.ensures (c.in-Some-false.is ∙ ap Some c.in-Some-false.field-0-test)))
 
 pub returns-in-Some-true : goal.returns-in-Some-true
-returns-in-Some-true c = (record { buffer = refl; limit = refl }, rw c.branch_at.ensures (table_empty _ _ _ _ _ c.requires.0.current c.requires.1 _ c.is_empty.ensures (c.in-Some-true.is ∙ ap Some c.in-Some-true.field-0-test)))
+returns-in-Some-true c = (stays, rw c.branch_at.ensures (table_empty _ _ _ _ _ c.requires.0.current c.requires.1 _ c.is_empty.ensures (c.in-Some-true.is ∙ ap Some c.in-Some-true.field-0-test)))
 
 pub returns-in-None : goal.returns-in-None
 returns-in-None c =

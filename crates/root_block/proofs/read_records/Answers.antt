@@ -28,4 +28,4 @@ loop-record-preserved c = let reads = given_as c.loop-record.record-iterator c.n
     filling_next c.loop-record.invariant c.in-Ok.r reads c.requires _ _ c.block_of.ensures c.put_cell.ensures
 
 pub returns : goal.returns
-returns c = filling_end c.loop-record.invariant c.in-None.ensures.steps
+returns c = filling_end c.loop-record.invariant c.in-None.ensures.steps.0

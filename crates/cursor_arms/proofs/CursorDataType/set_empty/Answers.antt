@@ -1,5 +1,6 @@
 -- `cursor_arms::CursorDataType::set_empty` changes the head of its table. Assumes nothing.
 use mathlib.Core.Path.{refl}
+use Rattle.state.proofs.Stores.{untouched}
 use Rattle.cursor_arms.proofs.TableLaws.{table_none, table-within, table_there}
 use native.Mathlib.Omega.{arith}
 use Rattle.cursor_arms.proofs.CursorDataType.set_empty.Goals as goal
@@ -11,7 +12,7 @@ pub put_cell-requires : goal.put_cell-requires
 put_cell-requires c = record { within = omega (arith, table-within _ _ _ _ c.table.ensures (λ x. x) _ c.in-Some.is c.requires.0.map, c.requires.0.map.inside); small = c.requires.0.map.small }
 
 pub returns-in_default : goal.returns-in_default
-returns-in_default c = record { same = record { buffer = refl; limit = refl }; map = refl; is = table_none _ _ _ _ c.table.ensures (λ _. c.args.empty) c.in_default.is }
+returns-in_default c = record { same = untouched; map = refl; is = table_none _ _ _ _ c.table.ensures (λ _. c.args.empty) c.in_default.is }
 
 pub returns : goal.returns
 returns c = record { same = c.put_cell.ensures.same; map = c.put_cell.ensures.map; is = table_there _ _ _ _ c.table.ensures (λ _. c.args.empty) _ c.in-Some.is c.requires.0.map _ _ _ c.cell_at.ensures c.with_nullable-c.ensures c.put_cell.ensures.is }

@@ -8,4 +8,4 @@ pub returns-then-is_ascii : goal.returns-then-is_ascii
 returns-then-is_ascii c = let ascii : IsAscii c.args.s.now = search rules in checked c.args.s.now c.is_ascii.result (c.if-is_ascii.true ∙ sym (ascii_utf8 c.args.s.now ascii))
 
 pub returns-else-is_ascii : goal.returns-else-is_ascii
-returns-else-is_ascii c = checked c.args.s.now c.reads.result c.reads.ensures
+returns-else-is_ascii c = checked c.args.s.now c.reads.result (c.reads.ensures ∙ c.behind_ascii.ensures)

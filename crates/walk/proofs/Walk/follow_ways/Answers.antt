@@ -10,8 +10,8 @@ returns-in_err-add_way c = rw (passed _ _ c.from_residual.ensures.1) (ways_refus
 pub note_repeat-requires : goal.note_repeat-requires
 note_repeat-requires c = few_after c.in_ok-add_way.ensures c.requires.1 c.requires.0
 
-pub go_on-requires : goal.go_on-requires
-go_on-requires c = walking_after c.in_ok-add_way.ensures c.requires.1 c.requires.0 _ c.args.repeat c.note_repeat.ensures
+pub go_on_way-requires : goal.go_on_way-requires
+go_on_way-requires c = walking_after c.in_ok-add_way.ensures c.requires.1 c.requires.0 _ c.args.repeat c.note_repeat.ensures
 
 pub returns : goal.returns
-returns c = ways_goes (search rules) (search rules) c.requires.0.less c.in_ok-add_way.ensures c.note_repeat.ensures c.go_on.ensures
+returns c = ways_goes (search rules) (search rules) c.requires.0.less c.in_ok-add_way.ensures c.note_repeat.ensures c.go_on_way.ensures

@@ -1,8 +1,8 @@
--- What is left of `Walk::run`, by the invariant of Invariants.antt. Assumes nothing.
+-- What is left of `Walk::run_turns`, by the invariant of Invariants.antt. Assumes nothing.
 use native.Mathlib.Omega.{arith}
 use Rattle.refusal.proofs.Passed.{passed}
 use Rattle.walk.proofs.RunLaws.{runs_standing, may_close, runs_pause, runs_close, runs_refused, runs_ended, runs_next}
-use Rattle.walk.proofs.Walk.run.Goals as goal
+use Rattle.walk.proofs.Walk.run_turns.Goals as goal
 
 pub take_turn-requires : goal.take_turn-requires
 take_turn-requires c = runs_standing c.loop-turn.invariant c.requires (omega (arith, c.loop-turn-test.true, c.min-turn-end.ensures))
