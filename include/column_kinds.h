@@ -94,7 +94,7 @@ enum {
 //       4 MiB     98.6 %; 11:  1.4 %          99.2 %; 11: 0.7 %; 8: one
 //      16 MiB    100   %                      99.8 %; 11: four; 8: one
 
-// The stack that a call needs. The deepest call of host/test took 70,416 bytes, the deepest of the measured listings 69,800; most of them are for the
+// The stack that a call needs. The deepest call of host/test took 70,032 bytes, the deepest of the measured listings 69,680; most of them are for the
 // catalogue's columns. Where the dynamic loader looks memset and memcpy up at their first use, that once takes more.
 #define COLUMN_KINDS_STACK 81920
 
