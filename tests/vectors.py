@@ -27,7 +27,7 @@ import sys
 
 DATA = "crates/vectors/data/"
 AREA, ROOM = 65536, 4096  # what a case is lent if it says nothing else
-MOST_AREA, MOST_ROOM = 6291456, 131072  # the program's buffers
+MOST_AREA, MOST_ROOM = 6291456, 131072  # the program's buffers, which are on its stack
 LARGEST_FILE = 524287
 MOST_LISTING, MOST_TABLES = 131071, 262143
 

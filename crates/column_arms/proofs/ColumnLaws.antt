@@ -224,5 +224,8 @@ pub direct_at : (cs : List Cell) (a : IntMap) (p n key : ℕ) → key < n → is
 direct_at cs a p n key lt flat c ce t te plain r re e =
     record { below = lt; flat = flat; plain = λ q. plain (te ∙ ap (λ y. tag_of y) ce ∙ q); is = eqb-true (key_of (get_or cs (p + 1 + key) blank)) key (ap (λ y. eqb (key_of y) key) (sym ce) ∙ sym re ∙ e) }
 
+pub head_below : (cs : List Cell) (a : IntMap) (p : ℕ) → p + size cs levels p ≤ a.base + a.used → p < a.base + a.used
+head_below cs a p h = omega (arith, h, size-pos cs levels p)
+
 pub first_in : (cs : List Cell) (a : IntMap) (p : ℕ) → (a.base ≤ p) × (p + size cs levels p ≤ a.base + a.used) → InMap a p
-first_in cs a p run = (run.0, omega (arith, run.1, size-pos cs levels p))
+first_in cs a p run = (run.0, head_below cs a p run.1)

@@ -2,12 +2,14 @@
 -- where that stands. Assumes nothing.
 use Rattle.std.specs.Prelude.{Ok}
 use mathlib.Core.Path.{◌≡◌, refl, sym, ap, ap₂, subst, ◌∙◌}
-use mathlib.Core.Bool.{Bool, true}
+use mathlib.Core.Bool.{Bool, true, false}
 use mathlib.Core.List.{List, [], ◌∷◌, flatten}
 use Prim.Native.Nat.{ℕ, zero, suc, ◌+◌, ◌-◌, ◌<◌, ◌≤◌}
 use native.Mathlib.Omega.{arith}
+use lib.Dec.{eqb}
 use lib.ListN.{length, get_or, set, length-set}
 use lib.Seq.{get_or-set_same, get_or-set_other}
+use borrow.Author.Tests.{eqb-true, eqb-false}
 use Rattle.model.specs.State.{Single, Record, Columns, end, entry, RegDataType, Column, Int, MemoryState, map_to_columntype, datatype_code}
 use Rattle.model.specs.Cells.{column_depth, columns_depth, register_depth}
 use Rattle.model.specs.Access.{store_register}
@@ -128,12 +130,21 @@ module _ (limit : ℕ) (cs es : List Cell) (a : IntMap) (at n : ℕ) (current : 
     pub run_room : HasRoom fs limit a
     run_room = put.room
 
-    pub run_above : tag_of c ≡ 2 → RunAbove fs limit a (a.base + limit) (size fs levels (a.base + limit))
-    run_above many =
+    above_record : tag_of c ≡ 2 → RunAbove fs limit a (a.base + limit) (size fs levels (a.base + limit))
+    above_record many =
         let whole : 1 + sizes (size cs 8) c.payload (at + 1) ≡ size cs levels at = ap (λ k. 1 + sizes (size cs 8) k (at + 1)) load ∙ size_record cs 9 at (get_or cs at blank) refl (omega arith) (sym tag ∙ many) in
         let few : sizes (size cs 8) c.payload (at + 1) ≡ n - 1 = omega (arith, whole, counted) in
         let same = sizes_same (size cs 8) (size fs 8) cs fs (size_same cs fs 8) c.payload (at + 1) (a.base + limit + 1) (rw few columns) in
         above_room limit fs a (omega (arith, size_record fs 9 (a.base + limit) c (sym put.here) (omega arith) many, same, few, put.frame.long, current.scratch, current.room.most))
+
+    pub run_above : RunAbove fs limit a (a.base + limit) (size fs levels (a.base + limit))
+    run_above = go (eqb (tag_of c) 2) refl
+      where
+        go : (b : Bool) → eqb (tag_of c) 2 ≡ b → RunAbove fs limit a (a.base + limit) (size fs levels (a.base + limit))
+        go true t = above_record (eqb-true (tag_of c) 2 t)
+        go false t =
+            above_room limit fs a
+            (omega (arith, size-single fs levels (a.base + limit) c (sym put.here) (eqb-false (tag_of c) 2 t), some_run, put.frame.long, current.scratch, current.room.most))
 
     pub stores_run : (ds : List Cell) (j : ℕ) (r : Stored) → Stores fs ds limit a 0 j (nesting fs levels (a.base + limit)) (span fs (a.base + limit) (size fs levels (a.base + limit))) r → StoresFrom limit cs ds a at c j r
     stores_run ds j r st =

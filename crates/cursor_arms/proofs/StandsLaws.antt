@@ -283,7 +283,7 @@ module _ (cs : List Cell) (a : IntMap) (is : IsMap cs a) (p : ℕ) where
           let tag : tag_of (get_or cs p blank) ≡ 2 = subst (λ y. tag_of (get_or cs y blank) ≡ 2) same (eqb-true (tag_of (get_or cs q blank)) 2 t) in
           record { tag = tag; above = inside.0; below = omega (arith, inside.1, size_record cs 9 p (get_or cs p blank) refl (omega arith) tag) }
 
-  columns_led : (c : CursorDataType) (r : Slot) → FindsColumns cs a c r → r ≡ Ok (Some p) → HeadLed
+  pub columns_led : (c : CursorDataType) (r : Slot) → FindsColumns cs a c r → r ≡ Ok (Some p) → HeadLed
   unfolding index_slot
   columns_led c r finds e = go c (sym finds.place ∙ ap place_of e)
     where

@@ -40,12 +40,12 @@ use Rattle.rows.specs.Judged.{Judged}
 use Rattle.rows.specs.declared.row.Row.{Row}
 use Rattle.state.specs.Leads.{Current, HoldsMap, Tells}
 use Rattle.state.specs.Steps.{HoldsState, TellsStep, Step, offered}
-use Rattle.state.specs.Stores.{cells_in, LeavesStore, Changes}
+use Rattle.state.specs.Stores.{cells_in, IsCurrent, LeavesStore, Changes}
 use Rattle.state.specs.declared.MemoryState.{MemoryState}
 use Rattle.state.specs.declared.store.Store.{Store}
 use Rattle.state.proofs.StoreLeads.{wider}
 use Rattle.state.proofs.LeadsLaws.{unchanged}
-use Rattle.jump_arms.specs.Arms.{at, branch_after, Knows, Puts, ReadyStore}
+use Rattle.jump_arms.specs.Arms.{at, branch_after, Knows, Puts}
 use Rattle.jump_arms.specs.Both.{at_map, Change, BothWays}
 use Rattle.jump_arms.proofs.StepLaws.{held_at, held_next, goes_on_lem, branches_and_goes, lies_here}
 use Rattle.jump_arms.proofs.StoreSteps.{SameRow, store-row, branches_told, branch_leaves, within}
@@ -279,12 +279,12 @@ module _ (limit : ℕ) (cs : List Cell) (s : MemoryState) (x : Row) where
           ∙ again_is limit (int_of x.p1) l m h.map.good (int_of w) (k.says limit bound m h.map).answer (is_positive (int_of w))
 
 -- both ways
-pub again_arm : {s t : Store} {row : ℕ} {x : Row} → ReadyStore s row → (w v : ℕ) → KnowsInt (cells_in s) s.map x.p1 w → WordBefore w v → {F G : Change}
+pub again_arm : {s t : Store} {row : ℕ} {x : Row} → IsCurrent s → (w v : ℕ) → KnowsInt (cells_in s) s.map x.p1 w → WordBefore w v → {F G : Change}
     → ((a : Store) (q : Result (Unit {0}) Refusal) (b : Store) → F a q b → Changes (λ limit cs ds m r. PutsInt limit cs ds m x.p1 v r) a b q) → Makes G (λ limit. forget_if (is_positive (int_of w)) limit (int_of x.p1))
     → {r : Step} → BothWays F G s t row x.p2 r → LeavesStore s t r × IfPosArm s.limit (cells_in s) (cells_in t) (at row s.map) x true r
-again_arm {s} {t} {row} {x} ready w v k before {G = G} f-is g-is {r} u =
+again_arm {s} {t} {row} {x} current w v k before {G = G} f-is g-is {r} u =
     let c = f-is u.there u.first u.left u.changed in
-    let tell = told ready u.behind {G = G} {x = x} (λ p has e. puts_any (g-is (at_map s.map u.left) p t has e)) u.first (record { same = c.same; kept = c.kept; is = (c.is.leaves, c.is.frame) }) u.second in (
+    let tell = told current u.behind {G = G} {row = row} {x = x} (λ p has e. puts_any (g-is (at_map s.map u.left) p t has e)) u.first (record { same = c.same; kept = c.kept; is = (c.is.leaves, c.is.frame) }) u.second in (
       tell.same,
       record {
         says = λ l j bound m le top h.

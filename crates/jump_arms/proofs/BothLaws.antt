@@ -26,11 +26,11 @@ use Rattle.rows.specs.Judged.{Judged}
 use Rattle.rows.specs.declared.row.Row.{Row}
 use Rattle.state.specs.Leads.{Held, HoldsMap, Tells, Stays, Leaves}
 use Rattle.state.specs.Steps.{HoldsState, Offered, TellsStep, LeavesStep, Step}
-use Rattle.state.specs.Stores.{cells_in, LeavesStore, stored_in, Changes}
+use Rattle.state.specs.Stores.{cells_in, IsCurrent, LeavesStore, stored_in, Changes}
 use Rattle.state.specs.declared.MemoryState.{MemoryState}
 use Rattle.state.specs.declared.store.Store.{Store}
 use Rattle.state.proofs.Stores.{same_then, no_refusal, same_at}
-use Rattle.jump_arms.specs.Arms.{at, both_after, Puts, BothArm, ReadyStore}
+use Rattle.jump_arms.specs.Arms.{at, both_after, Puts, BothArm}
 use Rattle.jump_arms.specs.Both.{Behind, at_map, Change, HeldWithRoom, StaysWithin, Second, BothWays}
 use Rattle.jump_arms.proofs.StepLaws.{next_row, held_next, branches_and_goes}
 use Rattle.jump_arms.proofs.StoreSteps.{SameRow, within}
@@ -68,7 +68,7 @@ pub record Told (G : Change) (s t a u : Store) (row : ℕ) (x : Row) (q : Result
   pub leaves : LeavesStep s.limit (cells_in t) (at row s.map) r
   pub frame : Frame (cells_in s) (cells_in t) s.map.base (s.limit + s.limit)
 
-module _ {s a : Store} {row : ℕ} (ready : ReadyStore s row) (b : Behind s a) where
+module _ {s a : Store} (current : IsCurrent s) (b : Behind s a) where
   base_is : a.map.base ≡ s.map.base + s.limit
   base_is = ap (λ m. m.base) b.copied.map
 
@@ -76,8 +76,8 @@ module _ {s a : Store} {row : ℕ} (ready : ReadyStore s row) (b : Behind s a) w
   behind_room =
       record {
         used = b.copied.is.used;
-        most = omega (arith, ap (λ m. m.used) b.copied.map, ready.current.room.most);
-        room = omega (arith, base_is, b.copied.frame.long, ready.current.scratch);
+        most = omega (arith, ap (λ m. m.used) b.copied.map, current.room.most);
+        room = omega (arith, base_is, b.copied.frame.long, current.scratch);
         small = b.copied.is.small;
       }
 
@@ -86,23 +86,22 @@ module _ {s a : Store} {row : ℕ} (ready : ReadyStore s row) (b : Behind s a) w
 
   held_by : (u : Store) {c : IntMap} → HasRoom (cells_in u) s.limit c → ((bound : ℕ) (m : Defined) → HoldsMap s.limit bound (cells_in s) s.map m → HoldsMap s.limit bound (cells_in u) c m) → Held (cells_in u) c
   held_by u room holds =
-      let now = ready.current in
-      record { map = room_map room; limit = s.limit; bound = now.bound; large = now.large; fits = now.fits; state = now.state; holds = holds now.bound now.state now.holds }
+      record { map = room_map room; limit = s.limit; bound = current.bound; large = current.large; fits = current.fits; state = current.state; holds = holds current.bound current.state current.holds }
 
   pub first_ready : HeldWithRoom a
   first_ready = (rw b.same.limit behind_room, held_by a behind_room copy_holds)
 
   first_same : Agree (cells_in s) s.map.base (cells_in a) s.map.base s.map.used
-  first_same = frame_below (cells_in s) (cells_in a) _ _ b.copied.frame s.map (omega (arith, ready.current.room.most))
+  first_same = frame_below (cells_in s) (cells_in a) _ _ b.copied.frame s.map (omega (arith, current.room.most))
 
   -- after a change that wrote behind the map
   module _ (u : Store) (first : Frame (cells_in a) (cells_in u) a.map.base s.limit) where
     second_same : Agree (cells_in a) s.map.base (cells_in u) s.map.base s.map.used
-    second_same = frame_below (cells_in a) (cells_in u) _ _ first s.map (omega (arith, base_is, ready.current.room.most))
+    second_same = frame_below (cells_in a) (cells_in u) _ _ first s.map (omega (arith, base_is, current.room.most))
 
     state_room : HasRoom (cells_in u) s.limit s.map
     state_room =
-        kept_room s.limit (cells_in a) (cells_in u) s.map (kept_room s.limit (cells_in s) (cells_in a) s.map ready.current.room b.copied.frame.long first_same)
+        kept_room s.limit (cells_in a) (cells_in u) s.map (kept_room s.limit (cells_in s) (cells_in a) s.map current.room b.copied.frame.long first_same)
         first.long second_same
 
     map_holds : (bound : ℕ) (m : Defined) → HoldsMap s.limit bound (cells_in s) s.map m → HoldsMap s.limit bound (cells_in u) s.map m
@@ -113,7 +112,7 @@ module _ {s a : Store} {row : ℕ} (ready : ReadyStore s row) (b : Behind s a) w
         record {
           long = first.long ∙ b.copied.frame.long;
           below = λ i lt. first.below i (omega (arith, base_is)) ∙ b.copied.frame.below i (omega arith);
-          above = λ i le. first.above i (omega (arith, base_is)) ∙ b.copied.frame.above i (omega (arith, ready.current.room.most));
+          above = λ i le. first.above i (omega (arith, base_is)) ∙ b.copied.frame.above i (omega (arith, current.room.most));
         }
 
     -- and left the branch's map there; the second wrote in the state's room
@@ -129,9 +128,9 @@ module _ {s a : Store} {row : ℕ} (ready : ReadyStore s row) (b : Behind s a) w
             above = λ i le. second.above i (omega arith) ∙ first_frame.above i le;
           }
 
-      both_leaves : (p : ℕ) (r : Stored) → Leaves s.limit (cells_in t) s.map r → LeavesStep s.limit (cells_in t) (at row s.map) (both_after (at p u.map) (row + 1) r)
-      both_leaves p (Err k) leaves = tt
-      both_leaves p (Ok c) leaves = (
+      both_leaves : (row p : ℕ) (r : Stored) → Leaves s.limit (cells_in t) s.map r → LeavesStep s.limit (cells_in t) (at row s.map) (both_after (at p u.map) (row + 1) r)
+      both_leaves row p (Err k) leaves = tt
+      both_leaves row p (Ok c) leaves = (
         record {
           above = omega (arith, base_is, branch.base);
           below = omega (arith, base_is, branch.base);
@@ -141,10 +140,10 @@ module _ {s a : Store} {row : ℕ} (ready : ReadyStore s row) (b : Behind s a) w
       )
 
       -- y and z are what the two changes tell
-      both_tells : (x : Row) (l : Listed) → Judged l x → (bound : ℕ) (m : Defined) → int_of row ≡ m.program_i → (y z : Tried Defined) → Tells s.limit bound (cells_in u) (Ok u.map) y → Kept (SameRow (go_to l.p2 m)) y → (r : Stored) → Tells s.limit bound (cells_in t) r z → Kept (SameRow (next m)) z → TellsStep s.limit bound (cells_in t) (both_after (at x.p2 u.map) (row + 1) r) (y >>= λ branch. z >>= λ stays. offers (branch ∷ []) (Some stays))
-      both_tells x l j bound m e y z told y-row (Err k) is z-row =
+      both_tells : (row : ℕ) (x : Row) (l : Listed) → Judged l x → (bound : ℕ) (m : Defined) → int_of row ≡ m.program_i → (y z : Tried Defined) → Tells s.limit bound (cells_in u) (Ok u.map) y → Kept (SameRow (go_to l.p2 m)) y → (r : Stored) → Tells s.limit bound (cells_in t) r z → Kept (SameRow (next m)) z → TellsStep s.limit bound (cells_in t) (both_after (at x.p2 u.map) (row + 1) r) (y >>= λ branch. z >>= λ stays. offers (branch ∷ []) (Some stays))
+      both_tells row x l j bound m e y z told y-row (Err k) is z-row =
           ap (λ y. y >>= λ branch. z >>= λ stays. offers (branch ∷ []) (Some stays)) told.answer ∙ ap (λ z. z >>= λ stays. offers (told.state ∷ []) (Some stays)) is
-      both_tells x l j bound m e y z told y-row (Ok c) is z-row =
+      both_tells row x l j bound m e y z told y-row (Ok c) is z-row =
           subst (Offered s.limit bound (cells_in t) (Some (at x.p2 u.map)) (Some (at (row + 1) c)))
           (sym (ap₂ (λ y z. y >>= λ branch. z >>= λ stays. offers (branch ∷ []) (Some stays)) told.answer is.answer))
           (branches_and_goes
@@ -156,8 +155,8 @@ module _ {s a : Store} {row : ℕ} (ready : ReadyStore s row) (b : Behind s a) w
       let first = subst (Frame (cells_in a) (cells_in u) a.map.base) b.same.limit frame in
       (rw (same.limit ∙ b.same.limit) (state_room u first), held_by u (state_room u first) (map_holds u first))
 
-  pub told : {G : Change} {t u : Store} {x : Row} → ((p : Result (Unit {0}) Refusal) → HeldWithRoom (at_map s.map u) → G (at_map s.map u) p t → Changes PutsAny (at_map s.map u) t p) → (q : Result (Unit {0}) Refusal) {r : Step} → Changes PutsAny a u q → Second G s.map row x.p2 u t q r → Told G s t a u row x q r
-  told {t = t} {u = u} {x = x} g-in (Err k) c then =
+  pub told : {G : Change} {t u : Store} {row : ℕ} {x : Row} → ((p : Result (Unit {0}) Refusal) → HeldWithRoom (at_map s.map u) → G (at_map s.map u) p t → Changes PutsAny (at_map s.map u) t p) → (q : Result (Unit {0}) Refusal) {r : Step} → Changes PutsAny a u q → Second G s.map row x.p2 u t q r → Told G s t a u row x q r
+  told {t = t} {u = u} {row = row} {x = x} g-in (Err k) c then =
       rw (then.0, then.1) (record {
         same = record { same = same_at s.map (same_then b.same c.same); kept = λ e is. refl };
         says = λ l j bound m h y z y-told y-row z-told z-row.
@@ -165,7 +164,7 @@ module _ {s a : Store} {row : ℕ} (ready : ReadyStore s row) (b : Behind s a) w
         leaves = tt;
         frame = first_frame u (within b.same.limit c).1;
       })
-  told {t = t} {u = u} {x = x} g-in (Ok v) c then =
+  told {t = t} {u = u} {row = row} {x = x} g-in (Ok v) c then =
       let same = same_then b.same c.same in
       let has = second_ready (c.same, c.is.1) in
       let d = g-in then.0 has then.1 in
@@ -178,10 +177,10 @@ module _ {s a : Store} {row : ℕ} (ready : ReadyStore s row) (b : Behind s a) w
               kept = both_kept _ _ t then.0 d.kept;
             };
         says = λ l j bound m h y z y-told y-row z-told z-row.
-            both_tells u one.1 one.0 t two.1 x l j bound m h.row y z
+            both_tells u one.1 one.0 t two.1 row x l j bound m h.row y z
             (y-told (held_go_to s.limit bound (cells_in a) _ _ _ m (copy_holds bound m h.map) l.p2)) y-row (stored_in t then.0)
             (z-told then.0 has then.1 (held_next row h.row (map_holds u one.1 bound m h.map)).map) z-row;
-        leaves = both_leaves u one.1 one.0 t two.1 x.p2 (stored_in t then.0) two.0;
+        leaves = both_leaves u one.1 one.0 t two.1 row x.p2 (stored_in t then.0) two.0;
         frame = both_frame u one.1 one.0 t two.1;
       })
 
@@ -192,10 +191,10 @@ Makes F f = (a : Store) (q : Result (Unit {0}) Refusal) (b : Store) → HeldWith
 pub puts_any : {f : ℕ → Defined → Tried Defined} {a b : Store} {q : Result (Unit {0}) Refusal} → Changes (λ limit cs ds m r. Puts limit cs ds m r (f limit)) a b q → Changes PutsAny a b q
 puts_any c = record { same = c.same; kept = c.kept; is = (c.is.leads.leaves, c.is.frame) }
 
-pub both_arm : {s t : Store} {row : ℕ} {x : Row} → ReadyStore s row → {F G : Change} (f g : ℕ → Defined → Tried Defined) → Makes F f → Makes G g → ((n : ℕ) (m : Defined) → Kept (SameRow m) (f n m)) → ((n : ℕ) (m : Defined) → Kept (SameRow m) (g n m)) → {r : Step} → BothWays F G s t row x.p2 r → LeavesStore s t r × BothArm s.limit (cells_in s) (cells_in t) (at row s.map) x (f s.limit) (g s.limit) r
-both_arm {s} {t} {x = x} ready {G = G} f g f-is g-is f-row g-row w =
-    let c = f-is w.there w.first w.left (first_ready ready w.behind) w.changed in
-    let tell = told ready w.behind {G = G} {x = x} (λ p has e. puts_any (g-is (at_map s.map w.left) p t has e)) w.first (puts_any c) w.second in (
+pub both_arm : {s t : Store} {row : ℕ} {x : Row} → IsCurrent s → {F G : Change} (f g : ℕ → Defined → Tried Defined) → Makes F f → Makes G g → ((n : ℕ) (m : Defined) → Kept (SameRow m) (f n m)) → ((n : ℕ) (m : Defined) → Kept (SameRow m) (g n m)) → {r : Step} → BothWays F G s t row x.p2 r → LeavesStore s t r × BothArm s.limit (cells_in s) (cells_in t) (at row s.map) x (f s.limit) (g s.limit) r
+both_arm {s} {t} {row} {x} current {G = G} f g f-is g-is f-row g-row w =
+    let c = f-is w.there w.first w.left (first_ready current w.behind) w.changed in
+    let tell = told current w.behind {G = G} {row = row} {x = x} (λ p has e. puts_any (g-is (at_map s.map w.left) p t has e)) w.first (puts_any c) w.second in (
       tell.same,
       record {
         says = λ l j bound m le h.

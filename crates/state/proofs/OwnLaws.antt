@@ -164,6 +164,13 @@ pub record NoneFrom (cs : List Cell) (p at : ℕ) : Type 0 where
 pub below_at : {cs : List Cell} {low at p r : ℕ} → low ≤ r → r ≤ at → p ≤ r → (low < r → p ≡ r) → (65536 ≤ key_of (get_or cs p blank)) × ((q : ℕ) → p < q → q ≤ at → key_of (get_or cs q blank) < 65536) → EntryBelow cs low at r
 below_at {cs = cs} low high up same it = record { low = low; high = high; begins = λ lt. subst (λ q. 65536 ≤ key_of (get_or cs q blank)) (same lt) it.0; last = λ q gt to. it.1 q (omega (arith, gt, up)) to }
 
+-- `low` is that place where nothing begins behind it
+pub below_none : {cs : List Cell} {low at : ℕ} (p : ℕ) → low ≤ at → p ≤ low → ((q : ℕ) → p < q → q ≤ at → key_of (get_or cs q blank) < 65536) → EntryBelow cs low at low
+below_none {low = low} p ordered le last = record { low = omega arith; high = ordered; begins = λ lt. absurd (omega (arith, lt)); last = λ q lt to. last q (omega (arith, le, lt)) to }
+
+pub below_last : {cs : List Cell} {low at p : ℕ} → low ≤ at → p ≤ low → NoneFrom cs p at → EntryBelow cs low at low
+below_last {p = p} ordered le n = below_none p ordered le (λ q lt to. n.none q (omega (arith, lt)) to)
+
 -- a head reaches to `at`
 pub reached_to : {cs : List Cell} {base at p : ℕ} → HeldAmong cs base (at + 1) → base ≤ p → p ≤ at → (c : Cell) → c ≡ get_or cs p blank → Reaches c (at - p) → (65536 ≤ key_of (get_or cs p blank)) × ((q : ℕ) → p < q → q ≤ at → key_of (get_or cs q blank) < 65536)
 reached_to {cs} {base} {at} {p} h from le c ce it =
@@ -268,6 +275,10 @@ module _ (cs : List Cell) (a : IntMap) (at n : ℕ) where
       go false q t = (leb-false (a.base + a.used) (at + n) q, by (eqb (at + 1 + n) (a.base + a.used)) refl t)
 
 -- ---- an entry that a search finds
+
+pub entry_there : (cs : List Cell) (a : IntMap) (class k key : ℕ) → key ≡ class_key class k → {w : Place} → Ok w ≡ seek cs levels key a.len a.base → Some w.at ≡ entry_slot cs a class k
+unfolding entry_slot
+entry_there cs a class k key ke e = ap found_slot e ∙ ap (λ n. found_slot (seek cs levels n a.len a.base)) ke
 
 -- one that was found at once
 pub entry_hinted : (cs : List Cell) (a : IntMap) (class k key : ℕ) → key ≡ class_key class k → Held cs a → (p : ℕ) → HasKey cs a key p → Some p ≡ entry_slot cs a class k

@@ -128,11 +128,14 @@ module _ (now after : List Cell) (left p r : ℕ) (c x : Cell) (lt : 0 < left) (
       one zero lt = absurd (omega arith)
       one (suc n) lt = let z : suc n - 1 ≡ n = omega arith in rw z
 
+  pub null_room : (most : ℕ) → p + sizes (size now 8) left p ≤ most → p + r + sizes (size after 8) (left - 1) (p + r) ≤ most
+  null_room most le = rw (after_is, re) (omega (arith, le, changed_sizes (single_nullable 2) 8 now p (left - 1), sizes_step (size now 8) left p lt))
+
   pub null_rest : AreColumns now 8 left p → AreColumns after 8 (left - 1) (p + r)
   null_rest are =
       let long : length after ≡ length now = ap length w ∙ length-set now p x in
       record {
-        fits = rw long (rw (after_is, re) (omega (arith, are.fits, changed_sizes (single_nullable 2) 8 now p (left - 1), sizes_step (size now 8) left p lt)));
+        fits = rw long (null_room (length now) are.fits);
         small = omega (arith, long, are.small);
       }
 
@@ -267,11 +270,11 @@ module _ (limit bound : ℕ) (cs ds : List Cell) (a : IntMap) (is : IsMap cs a) 
 
 -- ---- the arm
 
-module _ (cs : List Cell) (a : IntMap) (is : IsMap cs a) (i : ℕ) (r : Slot) (found : FindsCursor cs a i r) (p : ℕ) (e : r ≡ Ok (Some p)) where
+module _ (cs : List Cell) (a : IntMap) (is : IsMap cs a) (p : ℕ) (led : HeadLed cs a is p) where
   pub columns_within : (b : Cell) → b ≡ get_or cs p blank → AreColumns cs 8 b.payload (p + 1)
   columns_within b be =
       subst (λ (y : Cell). AreColumns cs 8 y.payload (p + 1)) (sym be)
-      (record { fits = omega (arith, (cursor_led cs a is p i r found e).below, is.inside); small = is.small })
+      (record { fits = omega (arith, led.below, is.inside); small = is.small })
 
 module _ (limit : ℕ) (cs : List Cell) (a : IntMap) (current : Current limit cs a) (x : Row) (r : Slot) (found : FindsCursor cs a x.p1 r) where
   is : IsMap cs a

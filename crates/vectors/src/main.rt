@@ -21,11 +21,10 @@
 ghost use Rattle.std.specs.Prelude.{◌≡◌, ◌<◌, ◌/◌, ◌%◌, length, take, drop, All, IsTrue, OnOk, IfSome};
 
 use itoa::Buffer;
-use std::alloc::{AllocError, Global};
-use std::fmt;
+use reading::read_full;
 use std::fs::File;
-use std::io::{self, Read};
 use std::rt::Files;
+use std::{fmt, io};
 
 // What the entry's number is multiplied by, and the length is added to.
 const NUMBER: u64 = 4294967296;
@@ -232,68 +231,68 @@ fn next_byte(text: &[u8]) -> Option<(u8, &[u8])>
     }
 }
 
-// A text of at most so many bytes; those beyond are left out.
+// A text that is written into a buffer; what does not fit is left out.
 #[derive(Drop)]
-struct Text {
-    bytes: Vec<u8>,
-    most: usize,
+struct Text<'a> {
+    out: &'a mut [u8],
+    len: usize,
 }
 
-impl Text {
-    fn new(alloc: Global, most: usize) -> Result<Self, AllocError> {
-        Ok(Text {
-            bytes: Vec::with_capacity(alloc, most)?,
-            most,
-        })
+impl<'a> Text<'a> {
+    fn new(out: &'a mut [u8]) -> Self {
+        Text { out, len: 0 }
+    }
+
+    // What was written. `len` is never above the buffer's length; to ask spares a ghost field that says so.
+    fn bytes(&self) -> &[u8] {
+        self.out.get(..self.len).unwrap_or_default()
     }
 
     fn is_full(&self) -> bool {
-        self.most <= self.bytes.len()
+        self.out.len() <= self.len
     }
 
-    fn push(&mut self, byte: u8) -> Result<(), AllocError> {
-        if !self.is_full() {
-            self.bytes.push(byte)?;
+    fn push(&mut self, byte: u8) {
+        if let Some(place) = self.out.get_mut(self.len) {
+            *place = byte;
+            self.len += 1;
         }
-        Ok(())
     }
 
-    fn put(&mut self, text: &str) -> Result<(), AllocError> {
+    fn put(&mut self, text: &str) {
         for &byte in text.as_bytes() {
-            self.push(byte)?;
+            self.push(byte);
         }
-        Ok(())
     }
 
-    fn put_number(&mut self, number: u64) -> Result<(), AllocError> {
+    fn put_number(&mut self, number: u64) {
         let mut digits = Buffer::new();
-        self.put(digits.format(number))
+        self.put(digits.format(number));
     }
 
     // Writes a text in which `|` is LF, and `\` and two hexadecimal digits are a byte.
-    fn put_raw(&mut self, text: &[u8]) -> Result<(), AllocError> {
+    fn put_raw(&mut self, text: &[u8]) {
         let mut rest = text;
         while let Some((byte, behind)) = next_byte(rest) {
-            self.push(byte)?;
+            self.push(byte);
             rest = behind;
         }
-        Ok(())
     }
 
     // Writes fields, with a label for each space between them, and says which label would be next.
-    fn put_fields(&mut self, first: u8, fields: &[u8]) -> Result<u8, AllocError> {
+    fn put_fields(&mut self, first: u8, fields: &[u8]) -> u8 {
         let mut label = first;
         for &byte in fields {
             if byte == b' ' {
                 if let Some(text) = LABELS.get(label as usize) {
-                    self.put(text)?;
+                    self.put(text);
                 }
                 label = label.wrapping_add(1);
             } else {
-                self.push(byte)?;
+                self.push(byte);
             }
         }
-        Ok(label)
+        label
     }
 }
 
@@ -313,48 +312,47 @@ impl Span {
 
 // A listing so far, and how many of its rows and bytes each case begins with.
 #[derive(Drop)]
-struct Listing {
-    text: Text,
+struct Listing<'a> {
+    text: Text<'a>,
     rows: u64,
     kept_len: usize,
     kept_rows: u64,
 }
 
-impl Listing {
-    fn new(alloc: Global) -> Result<Self, AllocError> {
-        Ok(Listing {
-            text: Text::new(alloc, LISTING_MOST)?,
+impl<'a> Listing<'a> {
+    fn new(out: &'a mut [u8]) -> Self {
+        Listing {
+            text: Text::new(out),
             rows: 0,
             kept_len: 0,
             kept_rows: 0,
-        })
+        }
     }
 
     // A row without a P4 has an empty one.
-    fn add_row(&mut self, fields: &[u8]) -> Result<(), AllocError> {
-        self.text.put("addr=")?;
-        self.text.put_number(self.rows)?;
-        self.text.put("\nop=")?;
-        let label = self.text.put_fields(ROW, fields)?;
+    fn add_row(&mut self, fields: &[u8]) {
+        self.text.put("addr=");
+        self.text.put_number(self.rows);
+        self.text.put("\nop=");
+        let label = self.text.put_fields(ROW, fields);
         let end = if label < ANSWER { "\np4=\n" } else { "\n" };
-        self.text.put(end)?;
+        self.text.put(end);
         self.rows = self.rows.wrapping_add(1);
-        Ok(())
     }
 
     fn keep(&mut self) {
-        self.kept_len = self.text.bytes.len();
+        self.kept_len = self.text.len;
         self.kept_rows = self.rows;
     }
 
     // Leaves what was kept.
     fn restart(&mut self) {
-        self.text.bytes.truncate(self.kept_len);
+        self.text.len = self.kept_len;
         self.rows = self.kept_rows;
     }
 
     fn clear(&mut self) {
-        self.text.bytes.clear();
+        self.text.len = 0;
         self.rows = 0;
         self.keep();
     }
@@ -363,90 +361,70 @@ impl Listing {
 // What the lines so far have built, what the next call is lent, and what the calls gave. A case's name and the last line are looked for in the file
 // that is replayed: in the next one they are what stands at these places.
 #[derive(Drop)]
-struct Replay {
+struct Replay<'a> {
     case: Span,
     last: Span,
-    listing: Listing,
-    catalogue: Text,
-    expected: Text,
+    listing: Listing<'a>,
+    catalogue: Text<'a>,
+    expected: Text<'a>,
     columns: u64,
-    area: Vec<u8>,
+    area: &'a mut [u8],
     lent: usize,
-    answer: Vec<u8>,
+    answer: &'a mut [u8],
     room: usize,
     calls: u64,
     disagree: u64,
     numbers: [u64; 13],
 }
 
-impl Replay {
-    fn new(alloc: Global) -> Result<Self, AllocError> {
-        Ok(Replay {
-            case: Span::default(),
-            last: Span::default(),
-            listing: Listing::new(alloc)?,
-            catalogue: Text::new(alloc, CATALOGUE_MOST)?,
-            expected: Text::new(alloc, EXPECTED_MOST)?,
-            columns: 0,
-            area: vec![in alloc; 0; AREA_MOST]?,
-            lent: AREA,
-            answer: vec![in alloc; 0; ROOM_MOST]?,
-            room: ROOM,
-            calls: 0,
-            disagree: 0,
-            numbers: [0; 13],
-        })
-    }
-
+impl Replay<'_> {
     // The case's name is the last line.
     fn begin_case(&mut self) {
         self.case = self.last;
         self.listing.restart();
-        self.expected.bytes.clear();
+        self.expected.len = 0;
         self.lent = AREA;
         self.room = ROOM;
     }
 
-    fn expect(&mut self, fields: &[u8]) -> Result<(), AllocError> {
+    fn expect(&mut self, fields: &[u8]) {
         self.columns = 0;
-        self.expected.bytes.clear();
-        self.expected.put("columns=")?;
-        self.expected.put_fields(ANSWER, fields)?;
-        self.expected.push(b'\n')
+        self.expected.len = 0;
+        self.expected.put("columns=");
+        self.expected.put_fields(ANSWER, fields);
+        self.expected.push(b'\n');
     }
 
-    fn expect_column(&mut self, fields: &[u8]) -> Result<(), AllocError> {
-        self.expected.put("col=")?;
-        self.expected.put_number(self.columns)?;
+    fn expect_column(&mut self, fields: &[u8]) {
+        self.expected.put("col=");
+        self.expected.put_number(self.columns);
         self.columns = self.columns.wrapping_add(1);
-        self.expected.put("\ntype=")?;
-        self.expected.put_fields(COLUMN, fields)?;
-        self.expected.push(b'\n')
+        self.expected.put("\ntype=");
+        self.expected.put_fields(COLUMN, fields);
+        self.expected.push(b'\n');
     }
 
-    fn build(&mut self, line: Line<'_>) -> Result<(), AllocError> {
+    fn build(&mut self, line: Line<'_>) {
         match line {
             Line::Case => self.begin_case(),
-            Line::Row(fields) => self.listing.add_row(fields)?,
-            Line::Text(text) => self.listing.text.put_raw(text)?,
-            Line::Tables(text) => self.catalogue.put_raw(text)?,
-            Line::NoTables => self.catalogue.bytes.clear(),
+            Line::Row(fields) => self.listing.add_row(fields),
+            Line::Text(text) => self.listing.text.put_raw(text),
+            Line::Tables(text) => self.catalogue.put_raw(text),
+            Line::NoTables => self.catalogue.len = 0,
             Line::Keep => self.listing.keep(),
             Line::Drop => self.listing.clear(),
             Line::Area(bytes) => self.lent = bytes,
             Line::Room(bytes) => self.room = bytes,
-            Line::Answer(fields) => self.expect(fields)?,
-            Line::Column(fields) => self.expect_column(fields)?,
+            Line::Answer(fields) => self.expect(fields),
+            Line::Column(fields) => self.expect_column(fields),
             Line::Again(_) | Line::Gives(_) | Line::Other => {}
         }
-        Ok(())
     }
 
-    fn again(&mut self, times: u64, line: Line<'_>) -> Result<(), AllocError> {
+    fn again(&mut self, times: u64, line: Line<'_>) {
         for _ in 0..times {
-            self.build(line)?;
+            self.build(line);
         }
-        Ok(())
     }
 
     fn count(&mut self, number: u64) {
@@ -472,9 +450,9 @@ impl Replay {
         let answer = &mut self.answer[..self.room];
         area.fill(AREA_FILL);
         answer.fill(ANSWER_FILL);
-        let listing = &self.listing.text.bytes;
-        let given = column_kinds::column_kinds(listing, &self.catalogue.bytes, area, answer);
-        let expected = &self.expected.bytes;
+        let listing = self.listing.text.bytes();
+        let given = column_kinds::column_kinds(listing, self.catalogue.bytes(), area, answer);
+        let expected = self.expected.bytes();
         let length = if number == 0 { expected.len() } else { 0 };
         let compared = compare(number, &expected[..length], given, area, answer);
         self.count(given / NUMBER);
@@ -498,12 +476,14 @@ impl Replay {
         match Line::parse(at.of(text)) {
             Line::Again(times) => {
                 let last = self.last.of(text);
-                Ok(self.again(times, Line::parse(last))?)
+                self.again(times, Line::parse(last));
+                Ok(())
             }
             Line::Gives(number) => self.gives(rt, text, number),
             line => {
                 self.last = at;
-                Ok(self.build(line)?)
+                self.build(line);
+                Ok(())
             }
         }
     }
@@ -521,12 +501,12 @@ impl Replay {
     }
 
     // Replays a file, from an empty listing and an empty catalogue on, and prints how many cases it had.
-    fn file(&mut self, rt: &(impl Files + Print), alloc: Global, name: &[u8]) -> io::Result<()> {
+    fn file(&mut self, rt: &(impl Files + Print), buf: &mut [u8], name: &[u8]) -> io::Result<()> {
         let before = self.calls;
-        let text = read_file(rt, alloc, name)?;
+        let text = read_file(rt, name, buf)?;
         self.listing.clear();
-        self.catalogue.bytes.clear();
-        self.lines(rt, &text)?;
+        self.catalogue.len = 0;
+        self.lines(rt, text)?;
         rt.write_all(name)?;
         println!(rt; ": {} cases", self.calls.wrapping_sub(before))
     }
@@ -545,30 +525,61 @@ fn open<R: Files>(rt: &R, name: &[u8]) -> Option<R::File> {
     File::open(rt, name).ok()
 }
 
-// What the file holds: nothing where it is missing or too long.
-fn read_file(rt: &(impl Files + Print), alloc: Global, name: &[u8]) -> io::Result<Vec<u8>> {
-    let mut text = Vec::new(alloc);
-    let Some(file) = open(rt, name) else {
+// What the file holds: nothing where it is missing or fills the buffer.
+fn read_file<'a>(
+    rt: &(impl Files + Print),
+    name: &[u8],
+    buf: &'a mut [u8],
+) -> io::Result<&'a [u8]> {
+    let Some(mut file) = open(rt, name) else {
         rt.write_all(name)?;
         println!(rt; ": missing")?;
-        return Ok(text);
+        return Ok(&buf[..0]);
     };
-    file.take(FILE_MOST as u64).read_to_end(&mut text)?;
-    if text.len() == FILE_MOST {
-        text.clear();
+    let len = read_full(&mut file, buf)?;
+    if len == buf.len() {
         rt.write_all(name)?;
         println!(rt; ": too long")?;
+        return Ok(&buf[..0]);
     }
-    Ok(text)
+    Ok(&buf[..len])
 }
 
+// So many bytes. That their length is said spares the checker to write them out.
+fn zeros<const N: usize>() -> [u8; N]
+    ensures { N ≡ length result }
+{
+    [0; N]
+}
+
+// The buffers are on the stack, of which a process commonly has 8 MiB.
 fn main(rt: HostRuntime) -> io::Result<()> {
-    let alloc = rt.alloc();
-    let mut replay = Replay::new(alloc)?;
-    let mut names = Vec::new(alloc);
-    rt.stdin().take(NAMES_MOST as u64).read_to_end(&mut names)?;
+    let mut input = [0u8; NAMES_MOST];
+    let len = read_full(&mut rt.stdin(), &mut input)?;
+    let names = &input[..len];
+    let mut file = zeros::<FILE_MOST>();
+    let mut listing = zeros::<LISTING_MOST>();
+    let mut catalogue = zeros::<CATALOGUE_MOST>();
+    let mut expected = zeros::<EXPECTED_MOST>();
+    let mut area = zeros::<AREA_MOST>();
+    let mut answer = zeros::<ROOM_MOST>();
+    let mut replay = Replay {
+        case: Span::default(),
+        last: Span::default(),
+        listing: Listing::new(&mut listing),
+        catalogue: Text::new(&mut catalogue),
+        expected: Text::new(&mut expected),
+        columns: 0,
+        area: &mut area,
+        lent: AREA,
+        answer: &mut answer,
+        room: ROOM,
+        calls: 0,
+        disagree: 0,
+        numbers: [0; 13],
+    };
     for name in names.split_inclusive(|b| *b == b'\n') {
-        replay.file(&rt, alloc, name.strip_suffix(b"\n").unwrap_or(name))?;
+        replay.file(&rt, &mut file, name.strip_suffix(b"\n").unwrap_or(name))?;
     }
     replay.print_totals(&rt)
 }

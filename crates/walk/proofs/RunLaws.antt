@@ -107,8 +107,11 @@ module _ {p : Program} {blocks xs ys : List ℕ} {cols dols : Columns 2000} {w v
     now : Rests p a.given blocks ys dols v m turns budget w.gas a.front
     now = r.says a.given a.front a.holds a.unclosed
 
-    pub runs_standing : turns < min budget w.gas → Standing p blocks ys dols v m
-    runs_standing lt = record { given = a.given; front = now.front; holds = now.holds; gas = omega (arith, now.spent) }
+    pub runs_gas : turns < min budget w.gas → 0 < v.gas
+    runs_gas lt = omega (arith, now.spent)
+
+    pub runs_standing : 0 < v.gas → Standing p blocks ys dols v m
+    runs_standing gas = record { given = a.given; front = now.front; holds = now.holds; gas = gas }
 
     none_stopped : v.counts.gasstops ≡ 0
     none_stopped = now.holds.walk.counts.gasstops ∙ ap (λ f. (notes_at f).gasstops) (sym now.holds.is) ∙ now.stops

@@ -20,7 +20,7 @@ store_run-requires c =
     let put = c.put_cell.ensures in
     rw (put.same.limit ∙ moved.same.limit, put.map ∙ moved.map) (
       run_room _ _ _ _ _ _ pre.0 pre.1.0 pre.1.1 c.count-n.ensures moved.is _ _ pre.2 pre.3 put.is,
-      run_above _ _ _ _ _ _ pre.0 pre.1.0 pre.1.1 c.count-n.ensures moved.is _ _ pre.2 pre.3 put.is (sym c.tag_of.ensures ∙ c.if-tag_of-ne-RECORD.false),
+      run_above _ _ _ _ _ _ pre.0 pre.1.0 pre.1.1 c.count-n.ensures moved.is _ _ pre.2 pre.3 put.is,
     )
 
 pub returns : goal.returns

@@ -8,7 +8,7 @@ use Rattle.jump_arms.proofs.both_ways.Goals as goal
 pub second-requires : goal.second-requires
 second-requires g c =
     let behind = behind_of c.args.store.now c.copy_to-store.result c.copy_to-store.new.area c.copy_to-store.auto.area c.copy_to-store.ensures in
-    c.requires.second _ (second_ready c.requires.ready behind (c.requires.within _ _ _ (first_ready c.requires.ready behind) (record { shown = _; shows = refl; left = _; met = c.first-changed.ensures; leaves = refl }))) _ refl
+    c.requires.second _ (second_ready c.requires.ready.current behind (c.requires.within _ _ _ (first_ready c.requires.ready.current behind) (record { shown = _; shows = refl; left = _; met = c.first-changed.ensures; leaves = refl }))) _ refl
 
 pub returns-in_err-changed : goal.returns-in_err-changed
 returns-in_err-changed g c =

@@ -11,4 +11,4 @@ use Rattle.jump_arms.proofs.change_both.Goals as goal
 pub returns : goal.returns
 returns c =
     let i = int_of c.args.x.p1 in
-    both_arm c.requires (λ n. update_register i (changed c.args.null)) (λ n. update_register i (changed (not c.args.null))) (λ a q b has e. search rules) (λ a q b has e. search rules) (λ n. update-row _ _) (λ n. update-row _ _) c.both_ways.ensures
+    both_arm c.requires.current (λ n. update_register i (changed c.args.null)) (λ n. update_register i (changed (not c.args.null))) (λ a q b has e. search rules) (λ a q b has e. search rules) (λ n. update-row _ _) (λ n. update-row _ _) c.both_ways.ensures

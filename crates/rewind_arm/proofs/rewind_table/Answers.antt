@@ -17,5 +17,5 @@ returns-in-Some-true c = (stays, rw c.branch_at.ensures (table_empty _ _ _ _ _ c
 
 pub returns-in-None : goal.returns-in-None
 returns-in-None c =
-    let w = both_arm c.requires.0 (λ n m. done (emptied c.args.opened m)) (λ n m. done m) (λ a q b has e. makes_empty has.0 (search rules) c.args.opened c.requires.1 (search rules)) (λ a q b has e. makes_nothing has.0 (search rules) (search rules)) (λ n. emptied-row _) (λ n m. value refl) c.both_ways.ensures in
+    let w = both_arm c.requires.0.current (λ n m. done (emptied c.args.opened m)) (λ n m. done m) (λ a q b has e. makes_empty has.0 (search rules) c.args.opened c.requires.1 (search rules)) (λ a q b has e. makes_nothing has.0 (search rules) (search rules)) (λ n. emptied-row _) (λ n m. value refl) c.both_ways.ensures in
     (w.0, table_unknown _ _ _ _ _ c.requires.0.current c.requires.1 _ c.is_empty.ensures c.in-None.is _ _ w.1)

@@ -1,11 +1,11 @@
 -- What is left of `Walk::run_turns`, by the invariant of Invariants.antt. Assumes nothing.
 use native.Mathlib.Omega.{arith}
 use Rattle.refusal.proofs.Passed.{passed}
-use Rattle.walk.proofs.RunLaws.{runs_standing, may_close, runs_pause, runs_close, runs_refused, runs_ended, runs_next}
+use Rattle.walk.proofs.RunLaws.{runs_gas, runs_standing, may_close, runs_pause, runs_close, runs_refused, runs_ended, runs_next}
 use Rattle.walk.proofs.Walk.run_turns.Goals as goal
 
 pub take_turn-requires : goal.take_turn-requires
-take_turn-requires c = runs_standing c.loop-turn.invariant c.requires (omega (arith, c.loop-turn-test.true, c.min-turn-end.ensures))
+take_turn-requires c = runs_standing c.loop-turn.invariant c.requires (runs_gas c.loop-turn.invariant c.requires (omega (arith, c.loop-turn-test.true, c.min-turn-end.ensures)))
 
 pub returns-in_err-take_turn : goal.returns-in_err-take_turn
 returns-in_err-take_turn c = rw (passed _ _ c.from_residual.ensures.1) (runs_refused c.loop-turn.invariant (omega (arith, c.loop-turn-test.true, c.min-turn-end.ensures)) _ _ _ _ c.in_err-take_turn.ensures)
